@@ -1,0 +1,40 @@
+-- Operands and exact addresses.
+use Prim.Native.Nat.{ℕ, _^_}
+use mathlib.Core.Bool.{Bool, true, false, not, cond}
+use mathlib.Core.List.{List}
+use mathlib.Core.Option.{Option, none, some}
+use lib.Dec.{eqb, ltb}
+use lib.IntN.{ℤ, pos, negsuc, _+ℤ_, _*ℤ_}
+use Rattle.machine.specs.Registers.{reg-at, Rsp}
+use Rattle.machine.specs.declared.Maddr.{Maddr}
+use Rattle.machine.specs.declared.Maddr.the-variants.{MConst, MReg, MIndex}
+use Rattle.machine.specs.declared.Operand.{Operand}
+use Rattle.machine.specs.declared.Operand.the-variants.{OConst, OReg, OMem}
+use Rattle.machine.specs.declared.Address.{Address}
+use Rattle.machine.specs.declared.Address.the-variants.{Inside, Outside}
+
+-- base + scale * index + offset over the whole numbers
+abbrev pub exact : ℕ → ℤ → ℕ → ℤ → ℤ
+exact base scale index offset = pos base +ℤ scale *ℤ pos index +ℤ offset
+
+-- the exact address of a memory operand
+unfoldable pub eval-maddr : Maddr → List ℕ → ℤ
+eval-maddr (MConst n) regs = pos n
+eval-maddr (MReg r offset) regs = pos (reg-at regs r) +ℤ offset
+eval-maddr (MIndex base scale index offset) regs = exact (reg-at regs base) scale (reg-at regs index) offset
+
+-- the word of an exact address, where it is neither below 0 nor above 2^64 - 1
+unfoldable pub in-range : ℤ → Option ℕ
+in-range (pos n) = cond (ltb n (2 ^ 64)) (some n) none
+in-range (negsuc n) = none
+
+-- what an Address says
+abbrev pub word-of : Address → Option ℕ
+word-of (Inside w) = some w
+word-of Outside = none
+
+-- a constant and Rsp are no destination
+unfoldable pub valid-dst : Operand → Bool
+valid-dst (OConst n) = false
+valid-dst (OReg r) = not (eqb (r .number) (Rsp .number))
+valid-dst (OMem m) = true

@@ -1,0 +1,43 @@
+// X64.Machine_s: registers, the state, operands, exact addresses, and the cells that a caller lends.
+
+mod reg;
+
+pub use reg::Reg;
+
+// The state by value. Word j of xmm i stands at 4 * i + j.
+pub struct State {
+    pub regs: [u64; 16],
+    pub xmms: [u32; 64],
+    pub flags: u64,
+}
+
+// A memory operand, with the bounded fields that a code record holds.
+pub enum Maddr {
+    MConst(u64),
+    MReg(Reg, i64),
+    MIndex(Reg, i16, Reg, i64),
+}
+
+pub enum Operand {
+    OConst(u64),
+    OReg(Reg),
+    OMem(Maddr),
+}
+
+// Whether an exact address lies in the 64-bit range.
+pub enum Address {
+    Inside(u64),
+    Outside,
+}
+
+// What a check answers: the number of a refusal, and its place or index.
+pub enum Checked {
+    Accepted,
+    Refused(u8, usize),
+}
+
+// What a search for a cell finds.
+pub enum Found {
+    At(usize),
+    Nothing,
+}
