@@ -1,0 +1,4 @@
+pub mod Tree
+pub mod Records
+pub mod Reader
+pub mod Spells
