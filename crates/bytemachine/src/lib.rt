@@ -1,0 +1,1 @@
+// The byte machine as a definition, and the third demand. There are only definitions and theorems here.

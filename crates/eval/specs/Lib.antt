@@ -1,0 +1,4 @@
+pub mod Config
+pub mod Flags
+pub mod Steps
+pub mod Running
