@@ -1,0 +1,106 @@
+-- What the job program prints, as bytes.
+use Prim.Native.Nat.{ℕ, zero, suc, _+_, _*_, _-_, _/_, _%_, _≤_}
+use mathlib.Core.Bool.{Bool, true, false, _&&_, cond}
+use mathlib.Core.List.{List, [], _∷_, _++_}
+use lib.Dec.{eqb, ltb}
+use lib.ListN.{getD}
+use Rattle.eval.specs.Config.{Config, Outcome, done, fault, spent, refused, End}
+
+-- at most k decimal digits of n
+unfoldable pub digits : ℕ → ℕ → List ℕ
+digits zero n = []
+digits (suc k) n = cond (ltb n 10) ((48 + n) ∷ []) (digits k (n / 10) ++ ((48 + n % 10) ∷ []))
+
+-- a number below 2^64 in decimal
+abbrev pub decimal : ℕ → List ℕ
+decimal n = digits 20 n
+
+-- a space and a number: a further field of a line
+abbrev pub field : ℕ → List ℕ
+field n = 32 ∷ decimal n
+
+-- the end of a line
+abbrev pub newline : List ℕ
+newline = 10 ∷ []
+
+-- "done", "fault", "spent", "refused", " at", "flags", "xmm", "cell"
+abbrev pub word-done : List ℕ
+word-done = 100 ∷ 111 ∷ 110 ∷ 101 ∷ []
+
+abbrev pub word-fault : List ℕ
+word-fault = 102 ∷ 97 ∷ 117 ∷ 108 ∷ 116 ∷ []
+
+abbrev pub word-spent : List ℕ
+word-spent = 115 ∷ 112 ∷ 101 ∷ 110 ∷ 116 ∷ []
+
+abbrev pub word-refused : List ℕ
+word-refused = 114 ∷ 101 ∷ 102 ∷ 117 ∷ 115 ∷ 101 ∷ 100 ∷ []
+
+abbrev pub word-at : List ℕ
+word-at = 32 ∷ 97 ∷ 116 ∷ []
+
+abbrev pub word-flags : List ℕ
+word-flags = 102 ∷ 108 ∷ 97 ∷ 103 ∷ 115 ∷ []
+
+abbrev pub word-xmm : List ℕ
+word-xmm = 120 ∷ 109 ∷ 109 ∷ []
+
+abbrev pub word-cell : List ℕ
+word-cell = 99 ∷ 101 ∷ 108 ∷ 108 ∷ []
+
+-- the registers' names in state order: Rax, Rbx, Rcx, Rdx, Rsi, Rdi, Rbp, Rsp, then R8 to R15
+unfoldable pub name-of : ℕ → List ℕ
+name-of i =
+    cond (ltb i 8)
+    (82 ∷ getD (97 ∷ 98 ∷ 99 ∷ 100 ∷ 115 ∷ 100 ∷ 98 ∷ 115 ∷ []) i 0 ∷ getD (120 ∷ 120 ∷ 120 ∷ 120 ∷ 105 ∷ 105 ∷ 112 ∷ 112 ∷ []) i 0 ∷ [])
+    (82 ∷ decimal i)
+
+-- the first line
+unfoldable pub first-line : Outcome → List ℕ
+first-line done = word-done ++ newline
+first-line (fault n p) = word-fault ++ field n ++ word-at ++ field p ++ newline
+first-line (spent p) = word-spent ++ word-at ++ field p ++ newline
+first-line (refused n p) = word-refused ++ field n ++ word-at ++ field p ++ newline
+
+-- the registers from number i on, each that is not 0: name and number
+unfoldable pub reg-lines : ℕ → List ℕ → List ℕ
+reg-lines i [] = []
+reg-lines i (r ∷ rs) = cond (eqb r 0) [] (name-of i ++ field r ++ newline) ++ reg-lines (suc i) rs
+
+-- xmm i, where one of its words is not 0: its number and its four words, lo0 first
+abbrev pub xmm-line : ℕ → ℕ → ℕ → ℕ → ℕ → List ℕ
+xmm-line i a b c d =
+    cond (eqb a 0 && eqb b 0 && eqb c 0 && eqb d 0) []
+    (word-xmm ++ field i ++ field a ++ field b ++ field c ++ field d ++ newline)
+
+-- n xmm from number i on
+unfoldable pub xmm-lines : ℕ → ℕ → List ℕ → List ℕ
+xmm-lines zero i ws = []
+xmm-lines (suc n) i ws =
+    xmm-line i (getD ws (4 * i) 0) (getD ws (4 * i + 1) 0) (getD ws (4 * i + 2) 0) (getD ws (4 * i + 3) 0)
+    ++ xmm-lines n (suc i) ws
+
+-- each cell as address, tag, value
+unfoldable pub cell-lines : List ℕ → List ℕ → List ℕ → List ℕ
+cell-lines [] ts vs = []
+cell-lines (a ∷ xs) [] vs = []
+cell-lines (a ∷ xs) (t ∷ ts) [] = []
+cell-lines (a ∷ xs) (t ∷ ts) (v ∷ vs) = word-cell ++ field a ++ field t ++ field v ++ newline ++ cell-lines xs ts vs
+
+-- the lines behind the first
+abbrev pub end-lines : List ℕ → List ℕ → Config → List ℕ
+end-lines addresses tags s =
+    word-flags ++ field (s .flags) ++ newline
+    ++ reg-lines 0 (s .regs) ++ xmm-lines 16 0 (s .xmms) ++ cell-lines addresses tags (s .values)
+
+-- whether an outcome prints its first line alone
+abbrev pub is-refused : Outcome → Bool
+is-refused done = false
+is-refused (fault n p) = false
+is-refused (spent p) = false
+is-refused (refused n p) = true
+
+-- what is printed of an end
+unfoldable pub render : List ℕ → List ℕ → End → List ℕ
+render addresses tags e =
+    first-line (e .how) ++ cond (is-refused (e .how)) [] (end-lines addresses tags (e .config))
