@@ -1,0 +1,197 @@
+//! Jobs from a seed. A job depends on the seed and its index alone; the index
+//! also chooses the family, so that every answer and number comes up early.
+
+use crate::damage;
+use crate::generate_code::block;
+use crate::job::Job;
+use crate::large;
+use crate::nest;
+use crate::rng::Rng;
+use crate::run::{accept, follow};
+use crate::scene::Scene;
+use crate::source::Settings;
+use crate::sweep;
+use crate::tree::Instruction::*;
+use crate::tree::*;
+use crate::writer::write;
+
+/// Instructions and comparisons that a generated job may take.
+pub const BUDGET: u64 = 20_000;
+const AMPLE: u64 = 1 << 40;
+const FAMILIES: u64 = 40;
+
+/// The bytes of job number `index`.
+pub fn job_bytes(seed: u64, index: u64) -> Vec<u8> {
+    let mut rng = Rng::of_job(seed, index);
+    let turn = (index / FAMILIES) as usize;
+    match index % FAMILIES {
+        23..=25 => legal(&mut rng, &[10, 30, 60, 100]).to_bytes(),
+        26 | 27 => damaged(&mut rng, true, false).to_bytes(),
+        28 => lengths_off(&mut rng).to_bytes(),
+        22 | 29 | 33 => settled(nest::fragment(&mut rng)).to_bytes(),
+        30 | 31 => settled(sweep::job(&mut rng, index)).to_bytes(),
+        32 => cells_at_edges(&mut rng, turn).to_bytes(),
+        34 => damage::bytes(&mut rng, turn, base),
+        35 => settled(nest::job(&mut rng, turn)).to_bytes(),
+        36 => endless(&mut rng).to_bytes(),
+        37 => faulting(&mut rng, turn).to_bytes(),
+        38 => damaged(&mut rng, turn & 1 == 0, true).to_bytes(),
+        39 if turn % 10 == 3 => large::bytes(&mut rng, turn / 10),
+        _ => base(&mut rng).to_bytes(),
+    }
+}
+
+fn fork(rng: &mut Rng) -> Rng {
+    Rng::new(rng.word())
+}
+
+/// A legal job that mostly runs to its end.
+pub fn base(rng: &mut Rng) -> Job {
+    legal(rng, &[0, 0, 0, 0, 0, 2, 10, 40])
+}
+
+/// A legal job; the fuel stands at, below or above what it needs. `wild` is
+/// what the share of wild choices is drawn from.
+fn legal(rng: &mut Rng, wild: &[usize]) -> Job {
+    let wild = rng.pick(wild);
+    let mut scene = Scene::new(fork(rng), wild);
+    let size = rng.pick(&[1, 2, 4, 8, 16, 24, 40, 60, 90]);
+    let depth = rng.pick(&[0, 1, 2, 3, 4, 6, 9]);
+    let code = if rng.percent(15) {
+        scene.code(size, depth)
+    } else {
+        block(scene.codes(size, depth))
+    };
+    with_fuel(rng, scene, &code)
+}
+
+pub fn job_of(scene: Scene, code: &Code, fuel: u32) -> Job {
+    Job {
+        fuel,
+        fill: scene.fill,
+        start: scene.start,
+        cells: scene.cells,
+        code: write(code),
+    }
+}
+
+fn with_fuel(rng: &mut Rng, scene: Scene, code: &Code) -> Job {
+    let mut job = job_of(scene, code, 0);
+    job.fuel = match needed_fuel(&job) {
+        Some(need) => fuel_near(rng, need),
+        None => rng.below(12) as u32,
+    };
+    settled(job)
+}
+
+/// The least fuel at which no loop starves, unless the job goes on too long.
+fn needed_fuel(job: &Job) -> Option<u32> {
+    let code = accept(job).ok()?;
+    let settings = Settings {
+        budget: BUDGET,
+        ..Settings::new(job.fill)
+    };
+    let followed = follow(job, &code, AMPLE, settings).ok()?;
+    match followed.least_fuel {
+        u64::MAX => Some(0),
+        least => Some((AMPLE - least + 1) as u32),
+    }
+}
+
+fn fuel_near(rng: &mut Rng, need: u32) -> u32 {
+    match rng.below(10) {
+        0 => rng.pick(&[0, 1, 2]),
+        1 => need.saturating_sub(1),
+        2 => rng.below(need as usize + 1) as u32,
+        3 | 4 => need + 1 + rng.below(9) as u32,
+        5 => rng.pick(&[1_000, 1 << 16, 1 << 31, u32::MAX - 1, u32::MAX]),
+        _ => need,
+    }
+}
+
+/// Takes fuel away from a job that would not end within the budget.
+pub fn settled(mut job: Job) -> Job {
+    let Ok(code) = accept(&job) else {
+        return job;
+    };
+    let settings = Settings {
+        budget: BUDGET,
+        ..Settings::new(job.fill)
+    };
+    for fuel in [job.fuel, 9, 3, 1, 0] {
+        job.fuel = fuel;
+        if follow(&job, &code, u64::from(fuel), settings).is_ok() {
+            break;
+        }
+    }
+    job
+}
+
+fn damaged(rng: &mut Rng, code: bool, cells: bool) -> Job {
+    let mut job = base(rng);
+    if code {
+        damage::code(rng, &mut job.code);
+    }
+    if cells {
+        let kind = rng.below(8);
+        damage::cells(rng, &mut job.cells, kind);
+    }
+    settled(job)
+}
+
+fn lengths_off(rng: &mut Rng) -> Job {
+    let mut job = base(rng);
+    damage::lengths(rng, &mut job.code);
+    settled(job)
+}
+
+fn cells_at_edges(rng: &mut Rng, turn: usize) -> Job {
+    let mut job = base(rng);
+    damage::cells(rng, &mut job.cells, turn);
+    settled(job)
+}
+
+fn endless(rng: &mut Rng) -> Job {
+    let wild = rng.pick(&[0, 0, 20]);
+    let mut scene = Scene::new(fork(rng), wild);
+    let mut codes = scene.codes(3, 2);
+    let inner = rng.below(3);
+    for _ in 0..=inner {
+        let size = 1 + rng.below(4);
+        codes.push(scene.endless_loop(size, 3));
+    }
+    codes.extend(scene.codes(2, 1));
+    let fuel = rng.below(16) as u32;
+    settled(job_of(scene, &block(codes), fuel))
+}
+
+/// Code that runs for a while and then meets one chosen fault.
+fn faulting(rng: &mut Rng, turn: usize) -> Job {
+    let mut scene = Scene::new(fork(rng), 0);
+    let size = rng.below(10);
+    let mut codes = scene.codes(size, 3);
+    let bad = fault(&mut scene, turn);
+    codes.push(Code::unplaced(Node::Ins(bad)));
+    codes.extend(scene.codes(3, 1));
+    with_fuel(rng, scene, &block(codes))
+}
+
+fn fault(scene: &mut Scene, turn: usize) -> Instruction {
+    let (dst, src) = (scene.destination(), scene.source());
+    let high = scene.rng.pick(&[64, 65, 1 << 32, u64::MAX]);
+    let nowhere = Operand::Mem(scene.address_of(-1 - i128::from(high % 3)));
+    match (turn % 5, turn / 5 % 3) {
+        (0, 0) => Shl64(dst, nowhere),
+        (0, 1) => AddLea64(dst, src, nowhere),
+        (0, _) => Add64(Operand::Const(1), nowhere),
+        (1, 0) => Mulx64(nowhere, dst, src),
+        (1, 1) => Sub64(Operand::Reg(RSP), src),
+        (1, _) => Pextrq(Operand::Const(high), 1, 1),
+        (2, 0) => Shl64(Operand::Const(0), Operand::Const(high)),
+        (2, _) => Shr64(dst, Operand::Const(high)),
+        (3, 0) => Pslld(2, 32),
+        (3, _) => Psrld(2, 32),
+        (_, 0) => Vpslldq(1, 2, 5),
+        (_, _) => Vpslldq(1, 1, 3),
+    }
+}

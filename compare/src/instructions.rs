@@ -1,0 +1,313 @@
+//! The source's `eval_ins`. Words are worked out over whole numbers and then
+//! brought back with a remainder, as the source does.
+
+use crate::source::{Event, Follow};
+use crate::state::*;
+use crate::tree::Instruction::*;
+use crate::tree::*;
+
+const POW2_32: u64 = 1 << 32;
+const POW2_64: u128 = 1 << 64;
+
+/// One instruction under way.
+struct Step<'a> {
+    f: &'a mut Follow,
+    place: usize,
+    /// The source's `s`: the state that the instruction met.
+    s: State,
+    /// The state that one step hands to the next.
+    now: State,
+}
+
+pub fn eval_ins(ins: &Instruction, place: usize, s: State, f: &mut Follow) -> State {
+    f.met[number(ins) - 1] += 1;
+    let now = s.clone();
+    let mut step = Step { f, place, s, now };
+    match *ins {
+        Mov64(dst, src) => step.mov64(&dst, &src),
+        Add64(dst, src) => step.add_with(&dst, &src, |_| false, update_cf),
+        AddLea64(dst, src1, src2) => step.add_lea64(&dst, &src1, &src2),
+        AddCarry64(dst, src) => step.add_carry64(&dst, &src),
+        Adcx64(dst, src) => step.add_with(&dst, &src, cf, update_cf),
+        Adox64(dst, src) => step.add_with(&dst, &src, overflow, update_of),
+        Sub64(dst, src) => step.two_words(&dst, &src, |a, b| a + POW2_64 - b),
+        Mul64(src) => step.mul64(&src),
+        Mulx64(dst_hi, dst_lo, src) => step.mulx64(&dst_hi, &dst_lo, &src),
+        IMul64(dst, src) => step.two_words(&dst, &src, |a, b| a * b),
+        Xor64(dst, src) => step.xor64(&dst, &src),
+        And64(dst, src) => step.two_words(&dst, &src, |a, b| a & b),
+        Shr64(dst, amt) => step.shift64(&dst, &amt, ishr64),
+        Shl64(dst, amt) => step.shift64(&dst, &amt, ishl64),
+        Paddd(dst, src) => step.paddd(dst, src),
+        Pxor(dst, src) => step.two_quads(dst, src, |a, b| a ^ b),
+        Pslld(dst, amt) => step.shift32(dst, amt, ishl32),
+        Psrld(dst, amt) => step.shift32(dst, amt, ishr32),
+        Pshufd(dst, src, permutation) => step.pshufd(dst, src, permutation),
+        Pcmpeqd(dst, src) => step.two_quads(dst, src, eq_result),
+        Pextrq(dst, src, index) => step.pextrq(&dst, src, index),
+        Pinsrd(dst, src, index) => step.pinsrd(dst, &src, index),
+        Pinsrq(dst, src, index) => step.pinsrq(dst, &src, index),
+        Vpslldq(dst, src, count) => step.vpslldq(dst, src, count),
+    }
+    step.now
+}
+
+/// An instruction's number in the order of `ins`, from 1.
+pub fn number(ins: &Instruction) -> usize {
+    match ins {
+        Mov64(..) => 1,
+        Add64(..) => 2,
+        AddLea64(..) => 3,
+        AddCarry64(..) => 4,
+        Adcx64(..) => 5,
+        Adox64(..) => 6,
+        Sub64(..) => 7,
+        Mul64(..) => 8,
+        Mulx64(..) => 9,
+        IMul64(..) => 10,
+        Xor64(..) => 11,
+        And64(..) => 12,
+        Shr64(..) => 13,
+        Shl64(..) => 14,
+        Paddd(..) => 15,
+        Pxor(..) => 16,
+        Pslld(..) => 17,
+        Psrld(..) => 18,
+        Pshufd(..) => 19,
+        Pcmpeqd(..) => 20,
+        Pextrq(..) => 21,
+        Pinsrd(..) => 22,
+        Pinsrq(..) => 23,
+        Vpslldq(..) => 24,
+    }
+}
+
+// Checks and updates.
+impl Step<'_> {
+    /// A check that fails is logged with the state the instruction met.
+    fn check(&mut self, valid: bool, number: u8) {
+        if valid {
+            self.f.log.passed += 1;
+        } else {
+            self.f.log.note(Event::Failed(number, self.place), &self.s);
+            self.now.ok = false;
+        }
+    }
+
+    fn check_source(&mut self, src: &Operand) {
+        let valid = valid_operand(src, &self.now);
+        self.check(valid, 31);
+    }
+
+    /// One check in the source; its number tells which half of it failed.
+    fn check_shift(&mut self, amt: &Operand) {
+        let readable = valid_operand(amt, &self.now);
+        let valid = readable && self.f.operand(amt, &self.now) < 64;
+        self.check(valid, if readable { 33 } else { 31 });
+    }
+
+    fn update_preserving_flags(&mut self, dst: &Operand, value: u64) {
+        let valid = valid_dst_operand(dst, &self.now);
+        self.check(valid, 32);
+        update_operand(dst, value, &mut self.now);
+    }
+
+    fn update(&mut self, dst: &Operand, value: u64) {
+        self.update_preserving_flags(dst, value);
+        self.now.flags = self.f.settings.fill;
+    }
+
+    fn update_xmm(&mut self, dst: Xmm, value: Quad) {
+        self.now.xmms[usize::from(dst)] = value;
+    }
+
+    fn wide(&self, o: &Operand) -> u128 {
+        u128::from(self.f.operand(o, &self.s))
+    }
+
+    fn reg(&self, r: Reg) -> u128 {
+        u128::from(self.s.regs[usize::from(r)])
+    }
+
+    fn quad(&self, x: Xmm) -> Quad {
+        self.s.xmms[usize::from(x)]
+    }
+}
+
+// General instructions.
+impl Step<'_> {
+    fn mov64(&mut self, dst: &Operand, src: &Operand) {
+        self.check_source(src);
+        self.update_preserving_flags(dst, low(self.wide(src)));
+    }
+
+    /// Add64, Adcx64 and Adox64: `carry` is the flag added and `set` the
+    /// flag written, both over the old flags.
+    fn add_with(
+        &mut self,
+        dst: &Operand,
+        src: &Operand,
+        carry: fn(u64) -> bool,
+        set: fn(u64, bool) -> u64,
+    ) {
+        self.check_source(src);
+        let old_carry = u128::from(carry(self.s.flags));
+        let sum = self.wide(dst) + self.wide(src) + old_carry;
+        self.update(dst, low(sum));
+        self.now.flags = set(self.s.flags, sum >= POW2_64);
+    }
+
+    fn add_lea64(&mut self, dst: &Operand, src1: &Operand, src2: &Operand) {
+        self.check_source(src1);
+        self.check_source(src2);
+        self.update_preserving_flags(dst, low(self.wide(src1) + self.wide(src2)));
+    }
+
+    fn add_carry64(&mut self, dst: &Operand, src: &Operand) {
+        self.check_source(src);
+        let old_carry = if cf(self.s.flags) { 1 } else { 0 };
+        let sum = self.wide(dst) + self.wide(src) + old_carry;
+        self.update(dst, low(sum));
+        self.now.flags = self.f.settings.fill;
+        self.now.flags = update_cf(self.s.flags, sum >= POW2_64);
+    }
+
+    fn two_words(&mut self, dst: &Operand, src: &Operand, work: fn(u128, u128) -> u128) {
+        self.check_source(src);
+        self.update(dst, low(work(self.wide(dst), self.wide(src))));
+    }
+
+    fn xor64(&mut self, dst: &Operand, src: &Operand) {
+        self.two_words(dst, src, |a, b| a ^ b);
+        self.now.flags = update_cf(update_of(self.now.flags, false), false);
+    }
+
+    fn mul64(&mut self, src: &Operand) {
+        self.check_source(src);
+        let product = self.reg(RAX) * self.wide(src);
+        self.now.regs[usize::from(RAX)] = low(product);
+        self.now.regs[usize::from(RDX)] = low(product / POW2_64);
+        self.now.flags = self.f.settings.fill;
+    }
+
+    fn mulx64(&mut self, dst_hi: &Operand, dst_lo: &Operand, src: &Operand) {
+        self.check_source(src);
+        let product = self.reg(RDX) * self.wide(src);
+        self.update_preserving_flags(dst_lo, low(product));
+        self.update_preserving_flags(dst_hi, low(product / POW2_64));
+    }
+
+    fn shift64(&mut self, dst: &Operand, amt: &Operand, shift: fn(u64, u64) -> u64) {
+        self.check_shift(amt);
+        let (value, amount) = (self.wide(dst), self.wide(amt));
+        self.update(dst, shift(low(value), low(amount)));
+    }
+}
+
+// Instructions of the xmm registers.
+impl Step<'_> {
+    fn paddd(&mut self, dst: Xmm, src: Xmm) {
+        self.two_quads(dst, src, |a, b| {
+            ((u64::from(a) + u64::from(b)) % POW2_32) as u32
+        });
+        self.now.flags = self.f.settings.fill;
+    }
+
+    fn two_quads(&mut self, dst: Xmm, src: Xmm, work: fn(u32, u32) -> u32) {
+        let (d, s) = (self.quad(dst), self.quad(src));
+        let worked = [
+            work(d[0], s[0]),
+            work(d[1], s[1]),
+            work(d[2], s[2]),
+            work(d[3], s[3]),
+        ];
+        self.update_xmm(dst, worked);
+    }
+
+    fn shift32(&mut self, dst: Xmm, amt: u8, shift: fn(u32, u8) -> u32) {
+        self.check(amt < 32, 34);
+        self.update_xmm(dst, self.quad(dst).map(|word| shift(word, amt)));
+    }
+
+    fn pshufd(&mut self, dst: Xmm, src: Xmm, permutation: u8) {
+        let q = self.quad(src);
+        let select = |n: u8| q[usize::from(n % 4)];
+        let permuted = [
+            select(permutation),
+            select(permutation / 4),
+            select(permutation / 16),
+            select(permutation / 64),
+        ];
+        self.update_xmm(dst, permuted);
+    }
+
+    fn pextrq(&mut self, dst: &Operand, src: Xmm, index: u8) {
+        let [lo0, lo1, hi2, hi3] = self.quad(src).map(u64::from);
+        let (lo, hi) = match index % 2 {
+            0 => (lo0, lo1),
+            _ => (hi2, hi3),
+        };
+        self.update_preserving_flags(dst, lo + hi * POW2_32);
+    }
+
+    fn pinsrd(&mut self, dst: Xmm, src: &Operand, index: u8) {
+        self.check_source(src);
+        let mut q = self.quad(dst);
+        q[usize::from(index % 4)] = (low(self.wide(src)) % POW2_32) as u32;
+        self.update_xmm(dst, q);
+    }
+
+    fn pinsrq(&mut self, dst: Xmm, src: &Operand, index: u8) {
+        self.check_source(src);
+        let value = low(self.wide(src));
+        let (lo, hi) = ((value % POW2_32) as u32, (value / POW2_32) as u32);
+        let [lo0, lo1, hi2, hi3] = self.quad(dst);
+        let inserted = match index % 2 {
+            0 => [lo, hi, hi2, hi3],
+            _ => [lo0, lo1, lo, hi],
+        };
+        self.update_xmm(dst, inserted);
+    }
+
+    fn vpslldq(&mut self, dst: Xmm, src: Xmm, count: u8) {
+        self.check(count == 4, 35);
+        let [lo0, lo1, hi2, _] = self.quad(src);
+        self.update_xmm(dst, [0, lo0, lo1, hi2]);
+    }
+}
+
+fn low(n: u128) -> u64 {
+    (n % POW2_64) as u64
+}
+
+fn eq_result(a: u32, b: u32) -> u32 {
+    if a == b {
+        0xffff_ffff
+    } else {
+        0
+    }
+}
+
+// Shifts after FStar.UInt: times or divided by a power of two; 0 from the
+// width on, where the exact power would only be larger.
+fn ishl64(value: u64, amount: u64) -> u64 {
+    if amount >= 64 {
+        return 0;
+    }
+    low(u128::from(value) * (1u128 << amount))
+}
+
+fn ishr64(value: u64, amount: u64) -> u64 {
+    if amount >= 64 {
+        return 0;
+    }
+    value / (1 << amount)
+}
+
+fn ishl32(value: u32, amount: u8) -> u32 {
+    (ishl64(u64::from(value), u64::from(amount)) % POW2_32) as u32
+}
+
+fn ishr32(value: u32, amount: u8) -> u32 {
+    ishr64(u64::from(value), u64::from(amount)) as u32
+}

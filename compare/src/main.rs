@@ -1,0 +1,122 @@
+//! An evaluator written apart from the port, from document 01 and the F* text
+//! alone, and the comparison of the two.
+
+#![cfg_attr(not(feature = "c_target"), forbid(unsafe_code))]
+#![cfg_attr(feature = "c_target", deny(unsafe_code))]
+
+mod batch;
+mod bytes;
+mod cells;
+mod checks;
+mod damage;
+mod generate;
+mod generate_code;
+mod instructions;
+mod job;
+mod large;
+mod nest;
+mod operands;
+mod reader;
+mod rng;
+mod run;
+mod scene;
+mod selfcheck;
+mod source;
+mod state;
+mod store;
+mod sweep;
+mod tally;
+mod target;
+#[cfg(feature = "c_target")]
+mod target_c;
+mod tree;
+mod writer;
+
+use std::fs;
+use std::io::Write;
+use std::process::ExitCode;
+
+const USAGE: &str = "\
+compare run JOBFILE              answer one job by this evaluator
+compare batch N SEED PROGRAM     compare N generated jobs; SEED may be `new`
+compare selfcheck                the examples of document 01
+compare store N SEED DIR         write a stored set of N jobs to DIR/jobs.txt
+compare check FILE PROGRAM       run a stored set through a program
+compare make SEED INDEX JOBFILE  write one generated job
+PROGRAM is a path with arguments, or `self` for this evaluator.";
+
+fn main() -> ExitCode {
+    let words: Vec<String> = std::env::args().skip(1).collect();
+    match command(&words) {
+        Ok(()) => ExitCode::SUCCESS,
+        Err(why) => {
+            eprintln!("{why}");
+            ExitCode::FAILURE
+        }
+    }
+}
+
+fn command(words: &[String]) -> Result<(), String> {
+    let names: Vec<&str> = words.iter().map(String::as_str).collect();
+    match names[..] {
+        ["run", file] => run_one(file),
+        ["batch", n, seed, _, ..] => run_batch(n, seed, &words[3..]),
+        ["selfcheck"] => selfcheck::all().map(|n| println!("{n} examples hold")),
+        ["store", n, seed, dir] => store_set(n, seed, dir),
+        ["check", file, _, ..] => check_set(file, &words[2..]),
+        ["make", seed, index, file] => {
+            let bytes = generate::job_bytes(number(seed)?, number(index)?);
+            fs::write(file, bytes).map_err(|e| format!("{file}: {e}"))
+        }
+        _ => Err(USAGE.to_string()),
+    }
+}
+
+fn number(word: &str) -> Result<u64, String> {
+    word.parse().map_err(|_| format!("not a number: {word}"))
+}
+
+fn seed_of(word: &str) -> Result<u64, String> {
+    if word != "new" {
+        return number(word);
+    }
+    let now = std::time::SystemTime::now().duration_since(std::time::UNIX_EPOCH);
+    let now = now.map_err(|e| e.to_string())?;
+    Ok(rng::Rng::new(now.as_nanos() as u64).word() >> 16)
+}
+
+fn run_one(file: &str) -> Result<(), String> {
+    let bytes = fs::read(file).map_err(|e| format!("{file}: {e}"))?;
+    let text = job::render(&run::answer_bytes(&bytes));
+    let written = std::io::stdout().write_all(text.as_bytes());
+    written.map_err(|e| e.to_string())
+}
+
+fn run_batch(n: &str, seed: &str, program: &[String]) -> Result<(), String> {
+    let (jobs, seed) = (number(n)?, seed_of(seed)?);
+    let mut target = target::by_name(program)?;
+    println!("{jobs} jobs, seed {seed}");
+    let tally = batch::run(jobs, seed, target.as_mut())?;
+    print!("{}", tally.report());
+    if jobs < batch::FULL {
+        let missing = tally.missing().join(", ");
+        println!("too few jobs to demand every answer; not met: {missing}");
+    }
+    println!("no difference, seed {seed}");
+    Ok(())
+}
+
+fn store_set(n: &str, seed: &str, dir: &str) -> Result<(), String> {
+    let stored = store::choose(number(n)? as usize, seed_of(seed)?)?;
+    let file = format!("{dir}/jobs.txt");
+    fs::create_dir_all(dir).map_err(|e| format!("{dir}: {e}"))?;
+    fs::write(&file, stored).map_err(|e| format!("{file}: {e}"))
+}
+
+fn check_set(file: &str, program: &[String]) -> Result<(), String> {
+    let stored = fs::read_to_string(file).map_err(|e| format!("{file}: {e}"))?;
+    let mut target = target::by_name(program)?;
+    let count = store::check(&stored, target.as_mut())?;
+    println!("{count} stored jobs answered alike");
+    Ok(())
+}

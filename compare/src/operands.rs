@@ -1,0 +1,151 @@
+//! Operands for generated code.
+
+use crate::scene::Scene;
+use crate::tree::*;
+
+const TOP: i128 = 1 << 64;
+
+impl Scene {
+    /// An address operand that means `target`, where a form can reach it.
+    pub fn address_of(&mut self, target: i128) -> Maddr {
+        for _ in 0..6 {
+            let form = self.rng.below(3);
+            let found = match form {
+                0 => u64::try_from(target).ok().map(Maddr::Const),
+                1 => self.register_form(target),
+                _ => self.index_form(target),
+            };
+            if let Some(m) = found {
+                return m;
+            }
+        }
+        match u64::try_from(target) {
+            Ok(n) => Maddr::Const(n),
+            Err(_) => Maddr::Reg(self.pointer(), self.rng.edge_word() as i64),
+        }
+    }
+
+    fn pointer(&mut self) -> Reg {
+        let all = self.pointers.len() + self.amounts.len();
+        let n = self.rng.below(all);
+        if n < self.pointers.len() {
+            self.pointers[n]
+        } else {
+            self.amounts[n - self.pointers.len()]
+        }
+    }
+
+    fn value(&self, reg: Reg) -> i128 {
+        i128::from(self.start.regs[usize::from(reg)])
+    }
+
+    fn register_form(&mut self, target: i128) -> Option<Maddr> {
+        let reg = self.pointer();
+        let offset = i64::try_from(target - self.value(reg)).ok()?;
+        Some(Maddr::Reg(reg, offset))
+    }
+
+    fn index_form(&mut self, target: i128) -> Option<Maddr> {
+        let base = self.pointer();
+        let index = self.pointer();
+        let scale = match self.rng.below(3) {
+            0 => self.rng.pick(&[1, 2, 4, 8]),
+            1 => self
+                .rng
+                .pick(&[0, 3, -1, -2, -8, 255, i16::MAX, i16::MIN, -32_767]),
+            _ => self.rng.word() as i16,
+        };
+        let reached = self.value(base) + i128::from(scale) * self.value(index);
+        let offset = i64::try_from(target - reached).ok()?;
+        Some(Maddr::Index(base, scale, index, offset))
+    }
+
+    /// Memory at, beside and beyond the cells; seldom a 64-bit cell.
+    pub fn wild_memory(&mut self) -> Operand {
+        let anchor = if self.cells.is_empty() {
+            i128::from(self.rng.edge_word())
+        } else {
+            i128::from(self.cells[self.rng.below(self.cells.len())].address)
+        };
+        let target = match self.rng.below(8) {
+            0 => anchor + TOP,
+            1 => anchor - TOP,
+            2 => self
+                .rng
+                .pick(&[-1, -8, 0, 1, TOP - 8, TOP - 1, TOP, TOP + 8]),
+            3 => i128::from(self.rng.edge_word()),
+            4 => anchor,
+            _ => anchor + self.rng.pick(&[1, -1, 4, -4, 7, -7, 8, -8, 16]),
+        };
+        if self.rng.percent(10) {
+            return self.stray_memory();
+        }
+        Operand::Mem(self.address_of(target))
+    }
+
+    /// Any fields at all, over any registers.
+    fn stray_memory(&mut self) -> Operand {
+        let (a, b) = (self.rng.below(16) as Reg, self.rng.below(16) as Reg);
+        let scale = self.rng.edge_word() as i16;
+        let offset = self.rng.edge_word() as i64;
+        Operand::Mem(match self.rng.below(3) {
+            0 => Maddr::Const(offset as u64),
+            1 => Maddr::Reg(a, offset),
+            _ => Maddr::Index(a, scale, b, offset),
+        })
+    }
+
+    fn cell_operand(&mut self, address: u64) -> Operand {
+        Operand::Mem(self.address_of(i128::from(address)))
+    }
+
+    pub fn source(&mut self) -> Operand {
+        if self.goes_wild() {
+            return self.wild_memory();
+        }
+        let wants_memory = self.rng.below(100) < self.memory;
+        if wants_memory && !self.data_cells.is_empty() {
+            let address = self.rng.pick(&self.data_cells);
+            return self.cell_operand(address);
+        }
+        if self.rng.percent(60) {
+            return Operand::Reg(self.rng.below(16) as Reg);
+        }
+        Operand::Const(self.rng.edge_word())
+    }
+
+    pub fn destination(&mut self) -> Operand {
+        if self.goes_wild() {
+            return match self.rng.below(4) {
+                0 => Operand::Const(self.rng.edge_word()),
+                1 => Operand::Reg(RSP),
+                _ => self.wild_memory(),
+            };
+        }
+        let wants_memory = self.rng.below(100) < self.memory;
+        if wants_memory && !self.data_cells.is_empty() {
+            let address = self.rng.pick(&self.data_cells);
+            return self.cell_operand(address);
+        }
+        Operand::Reg(self.rng.pick(&self.data))
+    }
+
+    pub fn shift_amount(&mut self) -> Operand {
+        if self.goes_wild() {
+            return match self.rng.below(3) {
+                0 => Operand::Const(self.rng.pick(&[64, 65, 127, 128, 1 << 32, u64::MAX])),
+                1 => self.source(),
+                _ => self.wild_memory(),
+            };
+        }
+        match self.rng.below(4) {
+            0 => Operand::Reg(self.rng.pick(&self.amounts)),
+            1 if !self.amount_cells.is_empty() => {
+                let address = self.rng.pick(&self.amount_cells);
+                self.cell_operand(address)
+            }
+            2 => Operand::Const(self.rng.pick(&[0, 1, 31, 32, 62, 63])),
+            _ => Operand::Const(self.rng.below(64) as u64),
+        }
+    }
+}

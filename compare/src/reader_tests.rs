@@ -1,0 +1,143 @@
+//! The order of the troubles and their places.
+
+use super::*;
+
+fn answer(bytes: &[u8]) -> Option<(u8, usize)> {
+    read(bytes).err().map(|t| (t.number, t.place))
+}
+
+/// A Block around some bytes.
+fn block(inner: &[u8]) -> Vec<u8> {
+    let mut out = vec![0x20];
+    out.extend((inner.len() as u32).to_le_bytes());
+    out.extend(inner);
+    out
+}
+
+fn nested(levels: usize, inner: &[u8]) -> Vec<u8> {
+    (0..levels).fold(inner.to_vec(), |code, _| block(&code))
+}
+
+/// An IfElse over Rax and Rbx, its two parts and their stated lengths.
+fn if_else(lengths: [u32; 2], parts: &[u8]) -> Vec<u8> {
+    let mut out = vec![0x21];
+    out.extend(lengths[0].to_le_bytes());
+    out.extend(lengths[1].to_le_bytes());
+    out.extend([0x30, 0x41, 0, 0x41, 1]);
+    out.extend(parts);
+    out
+}
+
+fn while_loop(length: u32, part: &[u8]) -> Vec<u8> {
+    let mut out = vec![0x22];
+    out.extend(length.to_le_bytes());
+    out.extend([0x30, 0x41, 0, 0x41, 1]);
+    out.extend(part);
+    out
+}
+
+const XOR: [u8; 3] = [0x10, 0, 1];
+
+#[test]
+fn lengths_of_the_input() {
+    assert_eq!(answer(&[]), Some((1, 0)));
+    assert_eq!(answer(&vec![0; LONGEST]), Some((2, 0)));
+    assert_eq!(answer(&vec![0; LONGEST + 1]), Some((1, 0)));
+    assert_eq!(answer(&[0x10, 0, 1, 0]), Some((6, 3)));
+}
+
+#[test]
+fn kinds_where_they_are_allowed() {
+    for kind in [0x00, 0x19, 0x1f, 0x23, 0x30, 0x35, 0x40, 0x44, 0xff] {
+        assert_eq!(answer(&[kind]), Some((2, 0)));
+    }
+    assert_eq!(answer(&[0x08]), Some((3, 1)));
+    assert_eq!(answer(&[0x08, 0x3f]), Some((2, 1)));
+    assert_eq!(answer(&[0x08, 0x45]), Some((2, 1)));
+    assert_eq!(answer(&[0x22, 0, 0, 0, 0]), Some((3, 5)));
+    assert_eq!(answer(&[0x22, 0, 0, 0, 0, 0x36]), Some((2, 5)));
+    assert_eq!(answer(&[0x22, 0, 0, 0, 0, 0x41]), Some((2, 5)));
+}
+
+#[test]
+fn bodies_cut_short_come_before_numbers() {
+    assert_eq!(answer(&[0x10, 16]), Some((3, 0)));
+    assert_eq!(answer(&[0x10, 16, 16]), Some((4, 1)));
+    assert_eq!(answer(&[0x10, 15, 16]), Some((4, 2)));
+    assert_eq!(answer(&[0x11, 15, 255]), None);
+    assert_eq!(answer(&[0x08, 0x41]), Some((3, 1)));
+    assert_eq!(answer(&[0x08, 0x41, 16]), Some((4, 2)));
+    assert_eq!(answer(&[0x15, 16, 0]), Some((4, 1)));
+    assert_eq!(answer(&[0x15, 0, 0]), Some((3, 3)));
+    let index = [0x08, 0x44, 15, 0, 0, 16, 0, 0, 0, 0, 0, 0, 0, 0];
+    assert_eq!(answer(&index), Some((4, 5)));
+    assert_eq!(answer(&index[..13]), Some((3, 1)));
+}
+
+#[test]
+fn the_end_of_a_part_is_an_end() {
+    assert_eq!(answer(&[0x20, 2, 0, 0, 0, 0x10, 0, 1]), Some((3, 5)));
+    assert_eq!(answer(&[0x20, 3, 0, 0, 0, 0x10, 0]), Some((6, 0)));
+    assert_eq!(answer(&[0x20, 3, 0, 0]), Some((3, 0)));
+    assert_eq!(answer(&[0x20, 0, 0, 0, 0]), None);
+    assert_eq!(answer(&[0x20, 0, 0, 0, 0, 0x20]), Some((6, 5)));
+}
+
+#[test]
+fn depth() {
+    assert_eq!(answer(&nested(31, &XOR)), None);
+    assert_eq!(answer(&nested(32, &[])), None);
+    assert_eq!(answer(&nested(32, &XOR)), Some((5, 32 * 5)));
+    assert_eq!(answer(&nested(32, &[0x10])), Some((5, 32 * 5)));
+    assert_eq!(answer(&nested(32, &[0x19])), Some((2, 32 * 5)));
+    assert_eq!(
+        answer(&nested(31, &while_loop(0, &[]))),
+        Some((3, 31 * 5 + 10))
+    );
+    assert_eq!(
+        answer(&nested(31, &while_loop(3, &XOR))),
+        Some((5, 31 * 5 + 10))
+    );
+}
+
+#[test]
+fn parts_of_an_if_else() {
+    let two = [0x10, 0, 1, 0x0f, 2, 3];
+    assert_eq!(answer(&if_else([3, 3], &two)), None);
+    assert_eq!(answer(&if_else([3, 4], &two)), Some((6, 0)));
+    assert_eq!(answer(&if_else([2, 4], &two)), Some((3, 14)));
+    assert_eq!(answer(&if_else([4, 2], &two)), Some((6, 17)));
+    assert_eq!(answer(&if_else([6, 0], &two)), Some((6, 17)));
+    assert_eq!(answer(&if_else([0, 6], &two)), Some((3, 14)));
+    assert_eq!(answer(&if_else([3, 2], &two)), Some((3, 17)));
+    assert_eq!(answer(&if_else([3, 0], &XOR)), Some((3, 17)));
+    assert_eq!(answer(&if_else([u32::MAX, 7], &two)), Some((6, 0)));
+    let mut bad_comparison = if_else([u32::MAX, 7], &two);
+    bad_comparison[10] = 0x30;
+    assert_eq!(answer(&bad_comparison), Some((2, 10)));
+}
+
+#[test]
+fn parts_of_a_while() {
+    assert_eq!(answer(&while_loop(3, &XOR)), None);
+    assert_eq!(answer(&while_loop(4, &XOR)), Some((6, 0)));
+    assert_eq!(answer(&while_loop(2, &XOR)), Some((3, 10)));
+    assert_eq!(answer(&while_loop(0, &XOR)), Some((3, 10)));
+    assert_eq!(answer(&block(&while_loop(3, &XOR))), None);
+    let mut reaches_out = block(&while_loop(5, &XOR));
+    reaches_out.extend([0, 0]);
+    assert_eq!(answer(&reaches_out), Some((6, 5)));
+}
+
+#[test]
+fn places_are_kept() {
+    let code = read(&block(&if_else([3, 5], &[0x10, 0, 1, 0x20, 0, 0, 0, 0]))).unwrap();
+    let Node::Block(codes) = code.node else {
+        panic!("a Block");
+    };
+    let Node::IfElse(condition, yes, no) = &codes[0].node else {
+        panic!("an IfElse");
+    };
+    let places = (codes[0].place, condition.place, yes.place, no.place);
+    assert_eq!(places, (5, 14, 19, 22));
+}

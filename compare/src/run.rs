@@ -1,0 +1,118 @@
+//! Running: the refusals in their order, then the source's evaluator, whose
+//! log gives the answer.
+
+use crate::cells::{self, Cell};
+use crate::job::{parse, Job};
+use crate::reader::{self, Trouble};
+use crate::source::*;
+use crate::state::{Start, State};
+use crate::tree::Code;
+
+#[derive(Clone, Copy, Debug, PartialEq, Eq)]
+pub enum Answer {
+    Done,
+    Fault(u8, usize),
+    Spent(usize),
+    Refused(u8, usize),
+}
+
+/// The answer, with state and cells unless it is a refusal.
+#[derive(Clone, Debug, PartialEq, Eq)]
+pub struct Outcome {
+    pub answer: Answer,
+    pub end: Option<(Start, Vec<Cell>)>,
+}
+
+impl Outcome {
+    pub fn refused(trouble: Trouble) -> Outcome {
+        Outcome {
+            answer: Answer::Refused(trouble.number, trouble.place),
+            end: None,
+        }
+    }
+}
+
+/// What following a job showed beside its outcome.
+pub struct Followed {
+    pub outcome: Outcome,
+    pub steps: u64,
+    pub met: [u64; 24],
+    pub least_fuel: u64,
+}
+
+/// The budget was used up before the job ended.
+#[derive(Debug, PartialEq, Eq)]
+pub struct TooLong;
+
+/// Answers a job's bytes, however long it takes.
+pub fn answer_bytes(input: &[u8]) -> Outcome {
+    let job = match parse(input) {
+        Ok(job) => job,
+        Err(trouble) => return Outcome::refused(trouble),
+    };
+    match accept(&job) {
+        Err(trouble) => Outcome::refused(trouble),
+        Ok(code) => {
+            let settings = Settings::new(job.fill);
+            let followed = follow(&job, &code, u64::from(job.fuel), settings);
+            followed.expect("no budget was set").outcome
+        }
+    }
+}
+
+/// Code is checked first, then the cells.
+pub fn accept(job: &Job) -> Result<Code, Trouble> {
+    let code = reader::read(&job.code)?;
+    cells::check(&job.cells)?;
+    Ok(code)
+}
+
+/// Runs accepted code with any fuel.
+pub fn follow(job: &Job, code: &Code, fuel: u64, settings: Settings) -> Result<Followed, TooLong> {
+    let mut f = Follow::new(settings);
+    let start = State::new(&job.start, &job.cells);
+    let result = eval_code(code, fuel, start, &mut f);
+    if f.over_budget {
+        return Err(TooLong);
+    }
+    let (answer, state) = read_off(&f.log, result);
+    Ok(Followed {
+        outcome: Outcome {
+            answer,
+            end: Some((state.visible(), state.cells(&job.cells))),
+        },
+        steps: f.steps,
+        met: f.met,
+        least_fuel: f.least_fuel,
+    })
+}
+
+fn read_off(log: &Log, result: Result<State, Stop>) -> (Answer, State) {
+    log_matches_source(log, &result);
+    match log.bad.first() {
+        None => (
+            Answer::Done,
+            result.ok().expect("a run without a bad event ends"),
+        ),
+        Some(event) => {
+            let before = log.before_first.clone().expect("kept with the first event");
+            let answer = match *event {
+                Event::Failed(number, place) => Answer::Fault(number, place),
+                Event::Starved(place) => Answer::Spent(place),
+            };
+            (answer, before)
+        }
+    }
+}
+
+/// What the source itself can tell, `ok` and None, has to match the log.
+fn log_matches_source(log: &Log, result: &Result<State, Stop>) {
+    let starved = matches!(log.bad.last(), Some(Event::Starved(_)));
+    match result {
+        Ok(state) => assert!(state.ok == log.bad.is_empty() && !starved),
+        Err(Stop::NoFuel) => assert!(starved),
+        Err(Stop::Cut) => assert!(!log.bad.is_empty()),
+    }
+    let starvations = log.bad.iter().filter(|e| matches!(e, Event::Starved(_)));
+    assert!(starvations.count() <= 1);
+}

@@ -1,0 +1,183 @@
+//! The source's machine: state, memory as a map over all whole numbers, and
+//! the operands' meaning. Addresses are exact in `i128`.
+
+use crate::cells::Cell;
+use crate::tree::*;
+use std::collections::BTreeMap;
+use std::rc::Rc;
+
+pub type Quad = [u32; 4];
+
+#[derive(Clone, Copy, Debug, PartialEq, Eq)]
+pub enum Entry {
+    Mem8(u8),
+    Mem16(u16),
+    Mem32(u32),
+    Mem64(u64),
+}
+
+pub type Memory = BTreeMap<i128, Entry>;
+
+#[derive(Clone, Debug, PartialEq, Eq)]
+pub struct State {
+    pub ok: bool,
+    pub regs: [u64; 16],
+    pub xmms: [Quad; 16],
+    pub flags: u64,
+    /// Shared between the states of a run until one of them is written to.
+    pub mem: Rc<Memory>,
+}
+
+/// What a run is given beside code, cells, fill and fuel.
+#[derive(Clone, Debug, PartialEq, Eq)]
+pub struct Start {
+    pub flags: u64,
+    pub regs: [u64; 16],
+    pub xmms: [Quad; 16],
+}
+
+impl State {
+    pub fn new(start: &Start, cells: &[Cell]) -> State {
+        let mem = cells
+            .iter()
+            .map(|c| (i128::from(c.address), entry_of(c)))
+            .collect();
+        State {
+            ok: true,
+            regs: start.regs,
+            xmms: start.xmms,
+            flags: start.flags,
+            mem: Rc::new(mem),
+        }
+    }
+
+    pub fn visible(&self) -> Start {
+        Start {
+            flags: self.flags,
+            regs: self.regs,
+            xmms: self.xmms,
+        }
+    }
+
+    /// The listed cells as this state has them.
+    pub fn cells(&self, listed: &[Cell]) -> Vec<Cell> {
+        let read = |c: &Cell| {
+            let (tag, value) = tag_and_value(select(i128::from(c.address), &self.mem));
+            Cell {
+                address: c.address,
+                tag,
+                value,
+            }
+        };
+        listed.iter().map(read).collect()
+    }
+}
+
+fn entry_of(cell: &Cell) -> Entry {
+    match cell.tag {
+        8 => Entry::Mem8(cell.value as u8),
+        16 => Entry::Mem16(cell.value as u16),
+        32 => Entry::Mem32(cell.value as u32),
+        _ => Entry::Mem64(cell.value),
+    }
+}
+
+fn tag_and_value(entry: Entry) -> (u8, u64) {
+    match entry {
+        Entry::Mem8(v) => (8, u64::from(v)),
+        Entry::Mem16(v) => (16, u64::from(v)),
+        Entry::Mem32(v) => (32, u64::from(v)),
+        Entry::Mem64(v) => (64, v),
+    }
+}
+
+/// The map's value, Mem8 of 0 where the address is not listed.
+pub fn select(address: i128, mem: &Memory) -> Entry {
+    mem.get(&address).copied().unwrap_or(Entry::Mem8(0))
+}
+
+pub fn valid_mem64(address: i128, mem: &Memory) -> bool {
+    matches!(select(address, mem), Entry::Mem64(_))
+}
+
+/// `off` is what this evaluator answers where the source promises nothing.
+pub fn load_mem64(address: i128, mem: &Memory, off: u64) -> u64 {
+    match select(address, mem) {
+        Entry::Mem64(v) => v,
+        _ => off,
+    }
+}
+
+pub fn store_mem64(address: i128, value: u64, mem: &mut Rc<Memory>) {
+    Rc::make_mut(mem).insert(address, Entry::Mem64(value));
+}
+
+pub fn eval_maddr(m: &Maddr, s: &State) -> i128 {
+    let reg = |r: Reg| i128::from(s.regs[usize::from(r)]);
+    match *m {
+        Maddr::Const(n) => i128::from(n),
+        Maddr::Reg(r, offset) => reg(r) + i128::from(offset),
+        Maddr::Index(base, scale, index, offset) => {
+            reg(base) + i128::from(scale) * reg(index) + i128::from(offset)
+        }
+    }
+}
+
+pub fn eval_operand(o: &Operand, s: &State, off: u64) -> u64 {
+    match o {
+        Operand::Const(n) => *n,
+        Operand::Reg(r) => s.regs[usize::from(*r)],
+        Operand::Mem(m) => load_mem64(eval_maddr(m, s), &s.mem, off),
+    }
+}
+
+pub fn valid_operand(o: &Operand, s: &State) -> bool {
+    match o {
+        Operand::Const(_) | Operand::Reg(_) => true,
+        Operand::Mem(m) => valid_mem64(eval_maddr(m, s), &s.mem),
+    }
+}
+
+fn valid_dst(o: &Operand) -> bool {
+    !matches!(o, Operand::Const(_) | Operand::Reg(RSP))
+}
+
+pub fn valid_dst_operand(o: &Operand, s: &State) -> bool {
+    valid_operand(o, s) && valid_dst(o)
+}
+
+/// The source's primed update: the flags stay.
+pub fn update_operand(o: &Operand, value: u64, s: &mut State) {
+    match o {
+        Operand::Const(_) => s.ok = false,
+        Operand::Reg(r) => s.regs[usize::from(*r)] = value,
+        Operand::Mem(m) => {
+            let address = eval_maddr(m, s);
+            store_mem64(address, value, &mut s.mem);
+        }
+    }
+}
+
+pub fn cf(flags: u64) -> bool {
+    flags % 2 == 1
+}
+
+pub fn overflow(flags: u64) -> bool {
+    (flags / 2048) % 2 == 1
+}
+
+pub fn update_cf(flags: u64, new_cf: bool) -> u64 {
+    match (new_cf, cf(flags)) {
+        (true, false) => flags + 1,
+        (false, true) => flags - 1,
+        _ => flags,
+    }
+}
+
+pub fn update_of(flags: u64, new_of: bool) -> u64 {
+    match (new_of, overflow(flags)) {
+        (true, false) => flags + 2048,
+        (false, true) => flags - 2048,
+        _ => flags,
+    }
+}

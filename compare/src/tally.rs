@@ -1,0 +1,68 @@
+//! How often each answer and number was met.
+
+use crate::run::Answer;
+use std::collections::BTreeMap;
+
+/// Answers that every run of some length has to meet.
+const REFUSALS: [u8; 12] = [1, 2, 3, 4, 5, 6, 12, 13, 14, 15, 41, 42];
+const FAULTS: [u8; 5] = [31, 32, 33, 34, 35];
+
+#[derive(Default)]
+pub struct Tally {
+    counts: BTreeMap<String, u64>,
+    pub jobs: u64,
+    pub steps: u64,
+    pub met: [u64; 24],
+}
+
+/// An answer without its place.
+pub fn class(answer: &Answer) -> String {
+    match answer {
+        Answer::Done => "done".to_string(),
+        Answer::Spent(_) => "spent".to_string(),
+        Answer::Fault(number, _) => format!("fault {number:2}"),
+        Answer::Refused(number, _) => format!("refused {number:2}"),
+    }
+}
+
+/// All the classes that a job can be answered with.
+pub fn classes() -> Vec<String> {
+    let mut all = vec![class(&Answer::Done), class(&Answer::Spent(0))];
+    all.extend(FAULTS.map(|n| class(&Answer::Fault(n, 0))));
+    all.extend(REFUSALS.map(|n| class(&Answer::Refused(n, 0))));
+    all
+}
+
+impl Tally {
+    pub fn add(&mut self, answer: &Answer) {
+        *self.counts.entry(class(answer)).or_insert(0) += 1;
+        self.jobs += 1;
+    }
+
+    pub fn count(&self, class: &str) -> u64 {
+        self.counts.get(class).copied().unwrap_or(0)
+    }
+
+    pub fn missing(&self) -> Vec<String> {
+        let mut all = classes();
+        all.retain(|c| self.count(c) == 0);
+        all.extend(
+            (0..24)
+                .filter(|&i| self.met[i] == 0)
+                .map(|i| format!("instruction {}", i + 1)),
+        );
+        all
+    }
+
+    pub fn report(&self) -> String {
+        let mut text = String::new();
+        for (class, count) in &self.counts {
+            let share = 100.0 * *count as f64 / self.jobs as f64;
+            text.push_str(&format!("{class:<10} {count:>9}  {share:5.1} %\n"));
+        }
+        text.push_str(&format!("instructions and comparisons {}\n", self.steps));
+        let least = self.met.iter().min().copied().unwrap_or(0);
+        text.push_str(&format!("rarest of the 24 instructions {least}\n"));
+        text
+    }
+}
