@@ -1,19 +1,29 @@
 -- Types_s: quads of 32-bit words, and what the lane instructions do to them.
 use Prim.Native.Nat.{ℕ, _+_, _%_, _^_}
-use mathlib.Core.Bool.{Bool, cond}
+use mathlib.Core.Bool.{cond}
 use lib.Dec.{eqb}
-use Rattle.words.specs.Words.{Two, Four, mktwo, mkfour, four-map, four-map2, two-two-to-four, four-to-two-two, nat-to-two, nat-to-four, two-insert, four-select, four-insert}
+use Rattle.words.specs.Words.{Two, Four, mktwo, mkfour, four-map, four-map2, two-two-to-four, four-to-two-two, nat-to-two, two-to-nat, nat-to-four, two-select, two-insert, four-select, four-insert}
 use Rattle.words.specs.Bits.{ixor, ishl, ishr}
 use Rattle.words.specs.declared.Double32.{Double32}
+use Rattle.words.specs.declared.TwoDoubles.{TwoDoubles}
 use Rattle.words.specs.declared.Quad32.{Quad32}
+use Rattle.words.specs.declared.BitsOfByte.{BitsOfByte}
 
 -- `double32`: the pair that a struct holds
 abbrev pub double32 : Double32 → Two ℕ
 double32 d = mktwo (d .lo) (d .hi)
 
+-- the pair of pairs that a struct holds
+abbrev pub two-doubles : TwoDoubles → Two (Two ℕ)
+two-doubles t = mktwo (double32 (t .lo)) (double32 (t .hi))
+
 -- `quad32`: the quad that a struct holds
 abbrev pub quad32 : Quad32 → Four ℕ
 quad32 q = mkfour (q .lo0) (q .lo1) (q .hi2) (q .hi3)
+
+-- `bits_of_byte`: the quad that a struct holds
+abbrev pub bits-of-byte : BitsOfByte → Four ℕ
+bits-of-byte b = mkfour (b .lo0) (b .lo1) (b .hi2) (b .hi3)
 
 -- the four two-bit parts of a byte
 abbrev pub byte-to-twobits : ℕ → Four ℕ
@@ -34,6 +44,10 @@ insert-nat32 q n i = four-insert q n i
 -- q with the two words of n at the pair i, 0 or 1
 unfoldable pub insert-nat64 : Four ℕ → ℕ → ℕ → Four ℕ
 insert-nat64 q n i = two-two-to-four (two-insert (four-to-two-two q) (nat-to-two 32 n) i)
+
+-- Pextrq: the number of the pair i, 0 or 1
+unfoldable pub extract-nat64 : Four ℕ → ℕ → ℕ
+extract-nat64 q i = two-to-nat 32 (two-select (four-to-two-two q) i)
 
 -- Paddd: each word of x and y summed modulo 2^32
 unfoldable pub add-lanes : Four ℕ → Four ℕ → Four ℕ

@@ -1,0 +1,25 @@
+-- Word by word.
+use borrow.Author.Needs.{needs}
+use Rattle.words.specs.Words.{mkfour}
+use Rattle.words.specs.Types.{add-lanes}
+use Rattle.words.proofs.lanes.add_lanes.Statement.{statement}
+use Rattle.words.proofs.lanes.add_lanes.Tie as tie
+
+wrapping-add-u32-requires : tie.Need-wrapping-add-u32-requires
+wrapping-add-u32-requires c κs = search needs
+
+wrapping-add-u32-requires-2 : tie.Need-wrapping-add-u32-requires-2
+wrapping-add-u32-requires-2 c κs = search needs
+
+wrapping-add-u32-requires-3 : tie.Need-wrapping-add-u32-requires-3
+wrapping-add-u32-requires-3 c κs = search needs
+
+wrapping-add-u32-requires-4 : tie.Need-wrapping-add-u32-requires-4
+wrapping-add-u32-requires-4 c κs = search needs
+
+returns : tie.Need-returns
+unfolding add-lanes
+returns c = (λ i. mkfour ((c .before .before .before .wrapping-add-u32 .ensures) i) ((c .before .before .wrapping-add-u322 .ensures) i) ((c .before .wrapping-add-u323 .ensures) i) ((c .wrapping-add-u324 .ensures) i))
+
+pub add-lanes-spec : {M : Type 1} → statement M
+add-lanes-spec = tie.close (tie.spec wrapping-add-u32-requires wrapping-add-u32-requires-2 wrapping-add-u32-requires-3 wrapping-add-u32-requires-4 returns)

@@ -1,0 +1,25 @@
+-- Word by word.
+use borrow.Author.Needs.{needs}
+use Rattle.words.specs.Words.{mkfour}
+use Rattle.words.specs.Types.{shl-lanes}
+use Rattle.words.proofs.lanes.shl_lanes.Statement.{statement}
+use Rattle.words.proofs.lanes.shl_lanes.Tie as tie
+
+ishl32-requires : tie.Need-ishl32-requires
+ishl32-requires c κs = search needs
+
+ishl32-requires-2 : tie.Need-ishl32-requires-2
+ishl32-requires-2 c κs = search needs
+
+ishl32-requires-3 : tie.Need-ishl32-requires-3
+ishl32-requires-3 c κs = search needs
+
+ishl32-requires-4 : tie.Need-ishl32-requires-4
+ishl32-requires-4 c κs = search needs
+
+returns : tie.Need-returns
+unfolding shl-lanes
+returns c = (λ i. mkfour ((c .before .before .before .ishl32 .ensures) i) ((c .before .before .ishl322 .ensures) i) ((c .before .ishl323 .ensures) i) ((c .ishl324 .ensures) i))
+
+pub shl-lanes-spec : {M : Type 1} → statement M
+shl-lanes-spec = tie.close (tie.spec ishl32-requires ishl32-requires-2 ishl32-requires-3 ishl32-requires-4 returns)
