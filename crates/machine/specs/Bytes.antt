@@ -25,9 +25,9 @@ unfoldable pub read-bytes : ℕ → ℕ → ByteMemory → ℕ
 read-bytes zero a m = 0
 read-bytes (suc n) a m = m (a % 2 ^ 64) + 256 * read-bytes n (suc a) m
 
--- how far the place x lies behind a, counted on over the end of the memory
+-- how far the place x lies behind a, counted on over the end of the memory; 2^64 where x is no place of it
 unfoldable pub distance : ℕ → ℕ → ℕ
-distance a x = (x + (2 ^ 64 - a % 2 ^ 64)) % 2 ^ 64
+distance a x = cond (ltb x (2 ^ 64)) ((x + (2 ^ 64 - a % 2 ^ 64)) % 2 ^ 64) (2 ^ 64)
 
 -- the memory with the eight bytes of v from a up
 unfoldable pub write-bytes : ℕ → ℕ → ByteMemory → ByteMemory

@@ -26,15 +26,23 @@ verdict (Refused n p) = refused n p
 unfoldable pub is-tag : ℕ → Bool
 is-tag t = eqb t 8 || eqb t 16 || eqb t 32 || eqb t 64
 
+-- the rule that a cell breaks, tried in this order, where the cell before ends at `last`; 0 where it breaks none
+unfoldable pub cell-rule : ℕ → ℕ → ℕ → ℕ → ℕ
+cell-rule last a t v =
+    cond (not (is-tag t)) 13 (cond (leb (2 ^ t) v) 14 (cond (ltb a last || ltb (2 ^ 64) (a + t / 8)) 15 0))
+
 -- the first cell to break a rule, from index i on, where the cell before ends at `last`
 unfoldable pub check-from : ℕ → ℕ → List ℕ → List ℕ → List ℕ → Verdict
 check-from i last [] ts vs = accepted
 check-from i last (a ∷ xs) [] vs = accepted
 check-from i last (a ∷ xs) (t ∷ ts) [] = accepted
 check-from i last (a ∷ xs) (t ∷ ts) (v ∷ vs) =
-    cond (not (is-tag t)) (refused 13 i)
-    (cond (leb (2 ^ t) v) (refused 14 i)
-    (cond (ltb a last || ltb (2 ^ 64) (a + t / 8)) (refused 15 i) (check-from (suc i) (a + t / 8) xs ts vs)))
+    cond (eqb (cell-rule last a t v) 0) (check-from (suc i) (a + t / 8) xs ts vs) (refused (cell-rule last a t v) i)
+
+-- three lists of one length
+pub record SameLengths (xs ts vs : List ℕ) : Type 0 where
+  pub tags : length ts ≡ length xs
+  pub values : length vs ≡ length xs
 
 -- Checking cells
 unfoldable pub check-cells : List ℕ → List ℕ → List ℕ → Verdict
@@ -53,6 +61,15 @@ eqℤ (negsuc a) (negsuc b) = eqb a b
 abbrev pub later : Option ℕ → Option ℕ
 later none = none
 later (some i) = some (suc i)
+
+-- addresses that ascend
+abbrev pub Ascending : List ℕ → Type 0
+Ascending xs = (i j : ℕ) → i < j → j < length xs → getD xs i 0 < getD xs j 0
+
+-- what a search asks of the cells; accepted ones have it
+pub record Searchable (xs ts : List ℕ) : Type 0 where
+  pub tags : length ts ≡ length xs
+  pub ascending : Ascending xs
 
 -- the index of the 64-bit cell at an exact address
 unfoldable pub find-cell : List ℕ → List ℕ → ℤ → Option ℕ

@@ -1,5 +1,6 @@
 pub mod Registers
 pub mod Operands
+pub mod Wide
 pub mod Cells
 pub mod Memory
 pub mod Bytes

@@ -1,5 +1,5 @@
 -- Operands and exact addresses.
-use Prim.Native.Nat.{ℕ, _^_}
+use Prim.Native.Nat.{ℕ, _^_, _<_}
 use mathlib.Core.Bool.{Bool, true, false, not, cond}
 use mathlib.Core.List.{List}
 use mathlib.Core.Option.{Option, none, some}
@@ -16,6 +16,12 @@ use Rattle.machine.specs.declared.Address.the-variants.{Inside, Outside}
 -- base + scale * index + offset over the whole numbers
 abbrev pub exact : ℕ → ℤ → ℕ → ℤ → ℤ
 exact base scale index offset = pos base +ℤ scale *ℤ pos index +ℤ offset
+
+-- the registers of a memory operand are numbered below 16
+abbrev pub NamesRegisters : Maddr → Type 0
+NamesRegisters (MConst n) = Unit {0}
+NamesRegisters (MReg r offset) = r .number < 16
+NamesRegisters (MIndex base scale index offset) = (base .number < 16) × (index .number < 16)
 
 -- the exact address of a memory operand
 unfoldable pub eval-maddr : Maddr → List ℕ → ℤ

@@ -1,7 +1,18 @@
 // X64.Machine_s: registers, the state, operands, exact addresses, and the cells that a caller lends.
 
+mod addressing;
+mod cells;
+mod destination;
 mod reg;
+mod wide;
 
+pub use addressing::exact_address;
+pub use addressing::operand_address;
+pub use addressing::register_address;
+pub use cells::check_cells;
+pub use cells::find_cell;
+pub use destination::valid_dst;
+pub use destination::writable_register;
 pub use reg::Reg;
 
 // The state by value. Word j of xmm i stands at 4 * i + j.

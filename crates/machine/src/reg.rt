@@ -1,3 +1,7 @@
+ghost use mathlib.Core.Path.{_≡_};
+ghost use lib.Dec.{eqb};
+ghost use Rattle.machine.specs.Registers.{Rsp};
+
 // A register by its number in the source's order, which is not the processor's.
 pub struct Reg {
     pub number: u8,
@@ -36,7 +40,10 @@ impl Reg {
 
     pub const R15: Reg = Reg { number: 15 };
 
-    pub fn is_stack(self) -> bool {
+    // Whether this is the stack pointer, the one register that is no destination.
+    pub fn is_rsp(self) -> bool
+        ensures { λ r. ⌜ r ≡ eqb (self .number) (Rsp .number) ⌝ }
+    {
         let sp = Reg::RSP;
         self.number == sp.number
     }

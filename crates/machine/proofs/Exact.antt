@@ -1,0 +1,210 @@
+-- Exact addresses. A sum of signed terms is the difference of two natural numbers, what is added and what is taken away: so
+-- `exact` is a `subℕ`, and whether that is a word is a comparison of natural numbers.
+use Prim.Native.Nat.{ℕ, zero, suc, _+_, _*_, _-_, _^_, _≤_, _<_}
+use mathlib.Core.Path.{_≡_, refl, sym, _∙_, ap, ap₂, subst, subst⁻¹}
+use mathlib.Core.Bool.{Bool, true, false, cond}
+use mathlib.Core.Option.{Option, none, some}
+use native.Mathlib.Nat.{add-zero, mul-le-mul}
+use native.Mathlib.Omega.{arith}
+use borrow.Author.Tests.{ltb-true, ltb-false, lt-ltb, le-ltb}
+use lib.Dec.{ltb}
+use lib.IntN.{ℤ, pos, negsuc, subℕ, negℤ, natAbs, _+ℤ_, _*ℤ_}
+use lib.Signed.{ltZ, mag}
+use mir.Syntax.{Width, w16, w64}
+use mir.Val.{SFits, toZ, ofZ}
+use mir.ValLaws.{toZ-ofZ}
+use mathlib.Core.List.{List}
+use Rattle.machine.specs.Registers.{reg-at}
+use Rattle.machine.specs.Operands.{in-range, exact, eval-maddr, NamesRegisters}
+use Rattle.machine.specs.declared.reg.Reg.{Reg}
+use Rattle.machine.specs.declared.Maddr.{Maddr}
+use Rattle.machine.specs.declared.Maddr.the-variants.{MConst, MReg, MIndex}
+use Rattle.machine.specs.Wide.{number}
+use Rattle.machine.specs.declared.wide.Wide.{Wide}
+
+-- ---- whether a difference is a word
+pub inside : (n m w : ℕ) → n ≡ m + w → w < 2 ^ 64 → in-range (subℕ n m) ≡ some w
+unfolding in-range
+inside n m w e h = let d : n - m ≡ w = omega arith in rw (le-ltb n m (omega arith), d, lt-ltb w (2 ^ 64) h)
+
+pub under : (n m : ℕ) → n < m → in-range (subℕ n m) ≡ none
+unfolding in-range
+under n m h = rw (lt-ltb n m h)
+
+pub above : (n m : ℕ) → m + 2 ^ 64 ≤ n → in-range (subℕ n m) ≡ none
+unfolding in-range
+above n m h = rw (le-ltb n m (omega arith), le-ltb (n - m) (2 ^ 64) (omega arith))
+
+-- ---- sums as differences
+pub sub-eq : (a b c d : ℕ) → a + d ≡ c + b → subℕ a b ≡ subℕ c d
+sub-eq a b c d e = go (ltb a b) refl
+  where
+    go : (t : Bool) → ltb a b ≡ t → subℕ a b ≡ subℕ c d
+    go true p =
+        let h : a < b = ltb-true a b p in
+        rw (p, lt-ltb c d (omega arith)) (ap negsuc (omega arith))
+    go false p =
+        let h : b ≤ a = ltb-false a b p in
+        rw (p, le-ltb c d (omega arith)) (ap pos (omega arith))
+
+pub pos-sub : (n : ℕ) → pos n ≡ subℕ n 0
+pos-sub n = rw (le-ltb n 0 (omega arith)) (ap pos (omega arith))
+
+neg-sub : (a x : ℕ) → pos a +ℤ negℤ (pos x) ≡ subℕ a x
+neg-sub a zero = pos-sub (a + 0) ∙ rw add-zero
+neg-sub a (suc x) = refl
+
+sub-plus : (a x o : ℕ) → subℕ a x +ℤ pos o ≡ subℕ (a + o) x
+sub-plus a x o = go (ltb a x) refl
+  where
+    go : (t : Bool) → ltb a x ≡ t → subℕ a x +ℤ pos o ≡ subℕ (a + o) x
+    go true p =
+        let h : a < x = ltb-true a x p in
+        rw p (sub-eq o (suc (x - suc a)) (a + o) x (omega arith))
+    go false p =
+        let h : x ≤ a = ltb-false a x p in
+        rw p (pos-sub (a - x + o) ∙ sub-eq (a - x + o) 0 (a + o) x (omega arith))
+
+sub-minus : (a x o : ℕ) → subℕ a x +ℤ negsuc o ≡ subℕ a (x + suc o)
+sub-minus a x o = go (ltb a x) refl
+  where
+    go : (t : Bool) → ltb a x ≡ t → subℕ a x +ℤ negsuc o ≡ subℕ a (x + suc o)
+    go true p =
+        let h : a < x = ltb-true a x p in
+        rw (p, lt-ltb a (x + suc o) (omega arith)) (ap negsuc (omega arith))
+    go false p =
+        let h : x ≤ a = ltb-false a x p in
+        rw p (sub-eq (a - x) (suc o) a (x + suc o) (omega arith))
+
+-- ---- the four signs of scale and offset, by the tests that the code makes
+pub plus-plus : (base index : ℕ) (s o : ℤ) → ltZ s (pos 0) ≡ false → ltZ o (pos 0) ≡ false → exact base s index o ≡ subℕ (natAbs s * index + base + natAbs o) 0
+plus-plus base index (pos s) (pos o) p q = ap pos (omega arith) ∙ pos-sub (s * index + base + o)
+plus-plus base index (pos s) (negsuc o) p q = cc
+plus-plus base index (negsuc s) o p q = cc
+
+pub plus-minus : (base index : ℕ) (s o : ℤ) → ltZ s (pos 0) ≡ false → ltZ o (pos 0) ≡ true → exact base s index o ≡ subℕ (natAbs s * index + base) (natAbs o)
+plus-minus base index (pos s) (pos o) p q = absurd (omega (arith, ltb-true o 0 q))
+plus-minus base index (pos s) (negsuc o) p q = sub-eq (base + s * index) (suc o) (s * index + base) (suc o) (omega arith)
+plus-minus base index (negsuc s) o p q = cc
+
+pub minus-plus : (base index : ℕ) (s o : ℤ) → ltZ s (pos 0) ≡ true → ltZ o (pos 0) ≡ false → exact base s index o ≡ subℕ (base + natAbs o) (natAbs s * index)
+minus-plus base index (pos s) o p q = absurd (omega (arith, ltb-true s 0 p))
+minus-plus base index (negsuc s) (pos o) p q = ap (λ (z : ℤ). z +ℤ pos o) (neg-sub base (suc s * index)) ∙ sub-plus base (suc s * index) o
+minus-plus base index (negsuc s) (negsuc o) p q = cc
+
+pub minus-minus : (base index : ℕ) (s o : ℤ) → ltZ s (pos 0) ≡ true → ltZ o (pos 0) ≡ true → exact base s index o ≡ subℕ base (natAbs s * index + natAbs o)
+minus-minus base index (pos s) o p q = absurd (omega (arith, ltb-true s 0 p))
+minus-minus base index (negsuc s) (pos o) p q = absurd (omega (arith, ltb-true o 0 q))
+minus-minus base index (negsuc s) (negsuc o) p q = ap (λ (z : ℤ). z +ℤ negsuc o) (neg-sub base (suc s * index)) ∙ sub-minus base (suc s * index) o
+
+pub base-plus : (base : ℕ) (o : ℤ) → ltZ o (pos 0) ≡ false → pos base +ℤ o ≡ subℕ (base + natAbs o) 0
+base-plus base (pos o) p = pos-sub (base + o)
+base-plus base (negsuc o) p = cc
+
+pub base-minus : (base : ℕ) (o : ℤ) → ltZ o (pos 0) ≡ true → pos base +ℤ o ≡ subℕ base (natAbs o)
+base-minus base (pos o) p = absurd (omega (arith, ltb-true o 0 p))
+base-minus base (negsuc o) p = refl
+
+-- a test of a sign, on a value that the machine reads back from its bits
+pub sign : (w : Width) (z : ℤ) → SFits w z → (b : Bool) → ltZ (toZ w (ofZ w z)) (pos 0) ≡ b → ltZ z (pos 0) ≡ b
+sign w z f b = subst (λ (y : ℤ). ltZ y (pos 0) ≡ b) (toZ-ofZ w z f)
+
+-- and its magnitude
+pub size-of : (w : Width) (z : ℤ) → SFits w z → (n : ℕ) → n ≡ natAbs (toZ w (ofZ w z)) → n ≡ natAbs z
+size-of w z f n e = e ∙ ap natAbs (toZ-ofZ w z f)
+
+-- a scale, read as a wider number
+pub widened : (z : ℤ) → SFits w16 z → SFits w64 (toZ w16 (ofZ w16 z))
+widened z f = subst⁻¹ (SFits w64) (toZ-ofZ w16 z f) (record { sfits = go (mag z) (f .sfits) })
+  where
+    go : (n : ℕ) → n < 2 ^ 15 → n < 2 ^ 63
+    go n h = omega arith
+
+pub scale-of : (z : ℤ) → SFits w16 z → (n : ℕ) → n ≡ natAbs (toZ w64 (ofZ w64 (toZ w16 (ofZ w16 z)))) → n ≡ natAbs z
+scale-of z f n e = size-of w16 z f n (size-of w64 (toZ w16 (ofZ w16 z)) (widened z f) n e)
+
+scale-small : (z : ℤ) → SFits w16 z → natAbs z ≤ 2 ^ 15
+scale-small (pos n) f = omega (arith, f .sfits)
+scale-small (negsuc n) f = omega (arith, f .sfits)
+
+pub factor-small : (z : ℤ) → SFits w16 z → (n : ℕ) → n ≡ natAbs z → n ≤ 2 ^ 15
+factor-small z f n e = omega (arith, scale-small z f)
+
+pub product-small : (n f i : ℕ) → n ≡ f * i → f ≤ 2 ^ 15 → i < 2 ^ 64 → n < 2 ^ 79
+product-small n f i e h k =
+    let m : i ≤ 2 ^ 64 - 1 = omega arith in
+    let l : f * i ≤ 2 ^ 15 * (2 ^ 64 - 1) = mul-le-mul h m in
+    omega arith
+
+pub sum-small : (s n b : ℕ) → s ≡ n + b → n < 2 ^ 79 → b < 2 ^ 64 → s < 2 ^ 80
+sum-small s n b e h k = omega arith
+
+-- ---- the address of an MReg
+module _ (base size : ℕ) (word : base < 2 ^ 64) (o : ℤ) (is : size ≡ natAbs o) where
+  pub down-in : ltZ o (pos 0) ≡ true → size ≤ base → some (base - size) ≡ in-range (pos base +ℤ o)
+  down-in p h = sym (ap in-range (base-minus base o p) ∙ inside base (natAbs o) (base - size) (omega arith) (omega arith))
+
+  pub down-out : ltZ o (pos 0) ≡ true → base < size → none ≡ in-range (pos base +ℤ o)
+  down-out p h = sym (ap in-range (base-minus base o p) ∙ under base (natAbs o) (omega arith))
+
+  pub up-in : ltZ o (pos 0) ≡ false → size ≤ 18446744073709551615 - base → some (base + size) ≡ in-range (pos base +ℤ o)
+  up-in p h = sym (ap in-range (base-plus base o p) ∙ inside (base + natAbs o) 0 (base + size) (omega arith) (omega arith))
+
+  pub up-out : ltZ o (pos 0) ≡ false → 18446744073709551615 - base < size → none ≡ in-range (pos base +ℤ o)
+  up-out p h = sym (ap in-range (base-plus base o p) ∙ above (base + natAbs o) 0 (omega arith))
+
+-- ---- numbers of two words
+high-small : (w : Wide) → number w < 2 ^ 80 → w .high < 2 ^ 16
+high-small w h = omega arith
+
+pub carry-fits : (w : Wide) → number w < 2 ^ 80 → w .high + 1 < 2 ^ 64
+carry-fits w h = go (w .high) (high-small w h)
+  where
+    go : (n : ℕ) → n < 2 ^ 16 → n + 1 < 2 ^ 64
+    go n h = omega arith
+
+pub one-word : (w : Wide) → w .high ≡ 0 → w .low ≡ number w
+one-word w h = omega arith
+
+pub two-words : (x : ℕ) (w : Wide) → x < 2 ^ 64 → (w .high ≡ 0 → ⊥) → x < number w
+two-words x w h n = omega arith
+
+-- their difference
+module _ (u d : Wide) (small : u .low < 2 ^ 64) (little : d .low < 2 ^ 64) where
+  pub level : d .low ≤ u .low → u .high ≡ d .high → some (u .low - d .low) ≡ in-range (subℕ (number u) (number d))
+  level h e = sym (inside (number u) (number d) (u .low - d .low) (omega arith) (omega arith))
+
+  pub borrowed : u .low < d .low → d .high < u .high → u .high - d .high ≡ 1 → some (18446744073709551615 - (d .low - u .low) + 1) ≡ in-range (subℕ (number u) (number d))
+  borrowed h k e = sym (inside (number u) (number d) (18446744073709551615 - (d .low - u .low) + 1) (omega arith) (omega arith))
+
+  pub unlike : d .low ≤ u .low → (u .high ≡ d .high → ⊥) → none ≡ in-range (subℕ (number u) (number d))
+  unlike h n = go (ltb (u .high) (d .high)) refl
+    where
+      go : (t : Bool) → ltb (u .high) (d .high) ≡ t → none ≡ in-range (subℕ (number u) (number d))
+      go true p = sym (under (number u) (number d) (omega (arith, ltb-true (u .high) (d .high) p)))
+      go false p = sym (above (number u) (number d) (omega (arith, ltb-false (u .high) (d .high) p)))
+
+  pub far : u .low < d .low → d .high < u .high → (u .high - d .high ≡ 1 → ⊥) → none ≡ in-range (subℕ (number u) (number d))
+  far h k n = sym (above (number u) (number d) (omega arith))
+
+  pub deep : u .low < d .low → u .high ≤ d .high → none ≡ in-range (subℕ (number u) (number d))
+  deep h k = sym (under (number u) (number d) (omega arith))
+
+-- the address of an MIndex, from the difference that the code makes
+pub gathered : (word : Option ℕ) (base index : ℕ) (s o : ℤ) (u d : Wide) (m n : ℕ) → word ≡ in-range (subℕ (number u) (number d)) → number u ≡ m → number d ≡ n → exact base s index o ≡ subℕ m n → word ≡ in-range (exact base s index o)
+gathered word base index s o u d m n e p q x = e ∙ ap₂ (λ (a b : ℕ). in-range (subℕ a b)) p q ∙ ap in-range (sym x)
+
+-- ---- the three memory operands
+module _ (m : Maddr) (regs : List ℕ) (word : Option ℕ) where
+  pub at-const : (n : ℕ) → m ≡ MConst n → n < 2 ^ 64 → some n ≡ in-range (eval-maddr m regs)
+  unfolding eval-maddr in-range
+  at-const n e h = rw (e, lt-ltb n (2 ^ 64) h)
+
+  pub at-register : (r : Reg) (o : ℤ) → m ≡ MReg r o → SFits w64 o → word ≡ in-range (pos (reg-at regs r) +ℤ toZ w64 (ofZ w64 o)) → word ≡ in-range (eval-maddr m regs)
+  unfolding eval-maddr
+  at-register r o e f q = rw e (q ∙ ap (λ (y : ℤ). in-range (pos (reg-at regs r) +ℤ y)) (toZ-ofZ w64 o f))
+
+  pub at-index : (b : Reg) (s : ℤ) (i : Reg) (o : ℤ) → m ≡ MIndex b s i o → SFits w16 s → SFits w64 o → word ≡ in-range (exact (reg-at regs b) (toZ w16 (ofZ w16 s)) (reg-at regs i) (toZ w64 (ofZ w64 o))) → word ≡ in-range (eval-maddr m regs)
+  unfolding eval-maddr
+  at-index b s i o e f g q =
+      rw e (q ∙ ap₂ (λ (x y : ℤ). in-range (exact (reg-at regs b) x (reg-at regs i) y)) (toZ-ofZ w16 s f) (toZ-ofZ w64 o g))

@@ -1,0 +1,7 @@
+pub mod RegisterLaws
+pub mod Exact
+pub mod CellLaws
+pub mod FindLaws
+pub mod Accepting
+pub mod MemoryLaws
+pub mod ByteLaws

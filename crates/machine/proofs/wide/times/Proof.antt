@@ -1,0 +1,29 @@
+-- `machine::wide::times` meets its contract: 2^15 times an index below 2^49 is a word.
+use native.Mathlib.Nat.{mul-le-mul}
+use native.Mathlib.Omega.{arith}
+use borrow.Author.Needs.{needs}
+use Prim.Native.Nat.{ℕ, _*_, _-_, _^_, _≤_, _<_}
+use Rattle.machine.proofs.wide.times.Statement.{statement}
+use Rattle.machine.proofs.wide.times.Tie as tie
+
+word : (f x : ℕ) → f ≤ 2 ^ 15 → x < 2 ^ 49 → f * x ≤ 2 ^ 15 * (2 ^ 49 - 1)
+word f x h k = let m : x ≤ 2 ^ 49 - 1 = omega arith in mul-le-mul h m
+
+mul-of-word : tie.Need-mul-of-word
+mul-of-word c = omega (arith, word (c .before .args .factor) (c .before .args .index) (search needs) (search needs))
+
+of-word-requires : tie.Need-of-word-requires
+of-word-requires c κs = search needs
+
+times-halves-requires : tie.Need-times-halves-requires
+times-halves-requires c κs = search needs
+
+returns : tie.Need-returns
+returns c = search needs
+
+returns-2 : tie.Need-returns-2
+returns-2 c = search needs
+
+pub times-spec : {M : Type 1} → statement M
+times-spec =
+    tie.close (tie.spec mul-of-word of-word-requires times-halves-requires returns returns-2)

@@ -1,0 +1,83 @@
+// The exact address of a memory operand, over the whole numbers. What is added and what is taken away are gathered
+// apart, so that nothing wraps, and compared at the end.
+
+use crate::Address;
+use crate::Maddr;
+use crate::wide::difference;
+use crate::wide::of_word;
+use crate::wide::plus;
+use crate::wide::times;
+ghost use mathlib.Core.Path.{_≡_};
+ghost use Prim.Native.Nat.{_≤_};
+ghost use lib.IntN.{pos, natAbs, _+ℤ_};
+ghost use Rattle.machine.specs.Operands.{word-of, in-range, exact, eval-maddr, NamesRegisters};
+
+// The number without its sign.
+fn magnitude(x: i64) -> u64
+    ensures { λ r. ⌜ r ≡ natAbs x ⌝ }
+{
+    if x < 0 {
+        (-(x + 1)) as u64 + 1
+    } else {
+        x as u64
+    }
+}
+
+// The address of an MReg, with no multiplication.
+pub fn register_address(base: u64, offset: i64) -> Address
+    ensures { λ r. ⌜ word-of r ≡ in-range (pos base +ℤ offset) ⌝ }
+{
+    let size = magnitude(offset);
+    if offset < 0 {
+        if size <= base {
+            Address::Inside(base - size)
+        } else {
+            Address::Outside
+        }
+    } else if size <= 18446744073709551615 - base {
+        Address::Inside(base + size)
+    } else {
+        Address::Outside
+    }
+}
+
+// The address of an MIndex.
+pub fn exact_address(base: u64, scale: i16, index: u64, offset: i64) -> Address
+    ensures { λ r. ⌜ word-of r ≡ in-range (exact base scale index offset) ⌝ }
+{
+    let product = times(magnitude(scale as i64), index);
+    let size = magnitude(offset);
+    if scale < 0 {
+        if offset < 0 {
+            difference(of_word(base), plus(product, size))
+        } else {
+            difference(plus(of_word(base), size), product)
+        }
+    } else {
+        let sum = plus(product, base);
+        if offset < 0 {
+            difference(sum, of_word(size))
+        } else {
+            difference(plus(sum, size), of_word(0))
+        }
+    }
+}
+
+// The address of a memory operand whose registers are numbered as registers.
+pub fn operand_address(m: Maddr, regs: &[u64; 16]) -> Address
+    requires { ⌜ NamesRegisters m ⌝ }
+    ensures { λ r. ⌜ word-of r ≡ in-range (eval-maddr m (now (regs .entry))) ⌝ }
+{
+    match m {
+        Maddr::MConst(n) => Address::Inside(n),
+        Maddr::MReg(register, offset) => {
+            let i = register.number as usize;
+            register_address(regs[i], offset)
+        }
+        Maddr::MIndex(base, scale, index, offset) => {
+            let i = base.number as usize;
+            let j = index.number as usize;
+            exact_address(regs[i], scale, regs[j], offset)
+        }
+    }
+}
