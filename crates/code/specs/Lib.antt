@@ -1,5 +1,8 @@
 pub mod Tree
 pub mod Records
+pub mod Kinds
 pub mod Reader
 pub mod Spells
-pub mod Fits
+pub mod WellFormed
+pub mod Reached
+pub mod Writer

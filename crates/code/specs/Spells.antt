@@ -1,8 +1,9 @@
 -- The bytes from `at` to e spell a code, or a list of codes: by recursion on the tree.
-use Prim.Native.Nat.{ℕ, zero, suc, _+_, _≤_}
+use Prim.Native.Nat.{ℕ, zero, suc, _+_, _≤_, _<_}
 use mathlib.Core.Path.{_≡_}
 use mathlib.Core.Bool.{Bool, true}
 use mathlib.Core.List.{List, [], _∷_}
+use lib.ListN.{length}
 use Rattle.code.specs.Tree.{Instruction, Ocmp, Code, Ins, Block, IfElse, While, Codes, ⟨⟩, _∷ᶜ_}
 use Rattle.code.specs.Records.{is-ins, is-ocmp, is-operand, operand-count, register-fields, byte-at, number-at, behind, ins-at, ocmp-at}
 
@@ -16,6 +17,10 @@ pub record IsRecord (allowed : ℕ → Bool) (bs : List ℕ) (at e : ℕ) : Type
   pub kind : allowed (byte-at bs at) ≡ true
   pub inside : behind bs at ≤ e
   pub fields : Fields (register-fields (byte-at bs at)) bs at
+
+-- an operand record lies in the bytes
+abbrev pub OperandBytes : List ℕ → ℕ → Type 0
+OperandBytes bs at = IsRecord is-operand bs at (length bs)
 
 -- n operand records stand from `at` to e
 abbrev pub Operands : ℕ → List ℕ → ℕ → ℕ → Type 0
@@ -80,3 +85,10 @@ unfoldable mutual
   pub NestsAll : Codes → ℕ → Type 0
   NestsAll ⟨⟩ d = Unit {0}
   NestsAll (c ∷ᶜ cs) d = Nests c d × NestsAll cs d
+
+-- all the bytes spell a code, within the limits: 1 to 16,384 bytes, and 32 deep
+pub record Parsed (bs : List ℕ) (c : Code) : Type 0 where
+  pub spells : Spells c bs 0 (length bs)
+  pub nests : Nests c 32
+  pub some-bytes : 0 < length bs
+  pub not-too-many : length bs ≤ 16384

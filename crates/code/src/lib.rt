@@ -1,1 +1,16 @@
 // Code records: the table of kinds, reading and checking code, and decoding one record.
+
+mod kinds;
+mod numbers;
+mod reader;
+mod records;
+
+pub use kinds::Class;
+pub use kinds::class_of;
+pub use numbers::number4;
+pub use numbers::number8;
+pub use numbers::signed2;
+pub use numbers::signed8;
+pub use reader::check_code;
+pub use records::extent;
+pub use records::operand_behind;

@@ -1,0 +1,135 @@
+-- The kinds: each law holds at every byte, by the ranges of the definition or by one test that antt computes.
+-- Assumes nothing.
+use Prim.Native.Nat.{ℕ, zero, suc, _+_, _*_, _/_, _%_, _≤_, _<_}
+use mathlib.Core.Path.{_≡_, refl, sym, subst}
+use mathlib.Core.Bool.{Bool, true, false, _&&_, _||_, cond}
+use mathlib.Core.List.{List, [], _∷_}
+use mathlib.Core.Logic.{_⊎_, inl, inr, ⊎-elim}
+use native.Mathlib.Nat.{eq-or-lt-of-le}
+use native.Mathlib.Omega.{arith}
+use borrow.Author.Tests.{le-leb, lt-leb, ne-eqb, leb-true, eqb-true}
+use lib.Dec.{T, eqb, leb}
+use Rattle.code.specs.Records.{between, is-ins, is-structure, is-code, is-ocmp, is-operand, body-length, operand-count, register-fields}
+use Rattle.code.specs.Kinds.{class, is-used, entry-of, fields-to, LastField}
+use Rattle.code.specs.declared.kinds.Class.{Class}
+use Rattle.code.specs.declared.kinds.Class.the-variants.{Instruction, Structure, Comparison, Operand, Unused}
+use Rattle.code.proofs.Passing.{and-both, or-right, between-true, true-between}
+
+-- a test that passes at each of n numbers from low on
+abbrev pub all-from : (ℕ → Bool) → ℕ → ℕ → Bool
+all-from f low zero = true
+all-from f low (suc n) = f low && all-from f (suc low) n
+
+pub within : (f : ℕ → Bool) (n low : ℕ) → all-from f low n ≡ true → (k : ℕ) → low ≤ k → k < low + n → f k ≡ true
+within f zero low h k l m = absurd (omega arith)
+within f (suc n) low h k l m =
+    let w = and-both (f low) (all-from f (suc low) n) h in
+    ⊎-elim
+    (λ e. subst (λ (x : ℕ). f x ≡ true) e (w .0))
+    (λ e. within f n (suc low) (w .1) k (omega arith) (omega arith))
+    (eq-or-lt-of-le l)
+
+and-none : (a b : Bool) → b ≡ false → (a && b) ≡ false
+and-none true b h = h
+and-none false b h = refl
+
+pub outside : (low high k : ℕ) → (k < low) ⊎ (high < k) → between low high k ≡ false
+outside low high k (inl h) = rw (lt-leb low k h)
+outside low high k (inr h) = and-none (leb low k) (leb k high) (lt-leb k high h)
+
+-- the class of each range, and of the gaps between them
+pub class-ins : (k : ℕ) → 0x01 ≤ k → k ≤ 0x18 → class k ≡ Instruction
+unfolding class
+class-ins k l h = rw (true-between 0x01 0x18 k l h)
+
+pub class-structure : (k : ℕ) → 0x20 ≤ k → k ≤ 0x22 → class k ≡ Structure
+unfolding class
+class-structure k l h = rw (outside 0x01 0x18 k (inr (omega arith)), true-between 0x20 0x22 k l h)
+
+pub class-ocmp : (k : ℕ) → 0x30 ≤ k → k ≤ 0x35 → class k ≡ Comparison
+unfolding class
+class-ocmp k l h =
+    rw (outside 0x01 0x18 k (inr (omega arith)), outside 0x20 0x22 k (inr (omega arith)), true-between 0x30 0x35 k l h)
+
+pub class-operand : (k : ℕ) → 0x40 ≤ k → k ≤ 0x44 → class k ≡ Operand
+unfolding class
+class-operand k l h =
+    rw (outside 0x01 0x18 k (inr (omega arith)), outside 0x20 0x22 k (inr (omega arith)), outside 0x30 0x35 k (inr (omega arith)), true-between 0x40 0x44 k l h)
+
+pub class-gap :
+    (k : ℕ) → (k < 0x01) ⊎ (0x18 < k) → (k < 0x20) ⊎ (0x22 < k) → (k < 0x30) ⊎ (0x35 < k) → (k < 0x40) ⊎ (0x44 < k) →
+    class k ≡ Unused
+unfolding class
+class-gap k a b c d =
+    rw (outside 0x01 0x18 k a, outside 0x20 0x22 k b, outside 0x30 0x35 k c, outside 0x40 0x44 k d)
+
+-- both counts fit their places in an entry
+small : ℕ → Bool
+small k = leb (body-length k) 12 && leb (operand-count k) 3
+
+pub counts : (k : ℕ) → k < 256 → (body-length k ≤ 12) × (operand-count k ≤ 3)
+unfolding small body-length operand-count
+counts k l =
+    let w = and-both _ _ (within small 256 0 refl k (omega arith) (omega arith)) in
+    (leb-true (body-length k) 12 (w .0), leb-true (operand-count k) 3 (w .1))
+
+-- an entry of a used kind, taken apart
+pub entry-body : (k r : ℕ) → k < 256 → is-used k ≡ true → r ≡ entry-of k → (r / 4 ≡ body-length k) × (r / 4 < 64)
+unfolding entry-of
+entry-body k r l u h =
+    let w = counts k l in
+    let e : r ≡ 4 * body-length k + operand-count k = rw (h, u) in
+    omega arith
+
+pub entry-count : (k r : ℕ) → k < 256 → is-used k ≡ true → r ≡ entry-of k → r % 4 ≡ operand-count k
+unfolding entry-of
+entry-count k r l u h =
+    let w = counts k l in
+    let e : r ≡ 4 * body-length k + operand-count k = rw (h, u) in
+    omega arith
+
+-- the register fields of a range of kinds, by a test of each
+unfoldable pub same : List ℕ → List ℕ → Bool
+same [] [] = true
+same [] (y ∷ ys) = false
+same (x ∷ xs) [] = false
+same (x ∷ xs) (y ∷ ys) = eqb x y && same xs ys
+
+same-true : (xs ys : List ℕ) → same xs ys ≡ true → xs ≡ ys
+unfolding same
+same-true [] [] h = refl
+same-true [] (y ∷ ys) h = let z : _≡_ {A = ℕ} 0 1 = cc in absurd (omega arith)
+same-true (x ∷ xs) [] h = let z : _≡_ {A = ℕ} 0 1 = cc in absurd (omega arith)
+same-true (x ∷ xs) (y ∷ ys) h =
+    let w = and-both (eqb x y) (same xs ys) h in
+    let e : x ≡ y = eqb-true x y (w .0) in
+    let f : xs ≡ ys = same-true xs ys (w .1) in
+    cc
+
+unfoldable pub last-is : ℕ → ℕ → Bool
+last-is r k = same (register-fields k) (fields-to r) && leb r (body-length k)
+
+last-of : (r k : ℕ) → last-is r k ≡ true → LastField k r
+unfolding last-is
+last-of r k h =
+    let w = and-both _ _ h in
+    record { fields = same-true (register-fields k) (fields-to r) (w .0); inside = leb-true r (body-length k) (w .1) }
+
+pub last-in : (r low n k : ℕ) → all-from (last-is r) low n ≡ true → low ≤ k → k < low + n → LastField k r
+last-in r low n k h l m = last-of r k (within (last-is r) n low h k l m)
+
+pub last-at : (r k x : ℕ) → last-is r x ≡ true → k ≡ x → LastField k r
+last-at r k x h e = last-of r k (rw e h)
+
+-- above 17 only four kinds have register fields
+unfoldable pub last-or : ℕ → Bool
+last-or k = eqb k 0x18 || (eqb k 0x41 || (eqb k 0x43 || (eqb k 0x44 || last-is 0 k)))
+
+pub last-none :
+    (k : ℕ) → 0x18 ≤ k → k < 256 → (k ≡ 0x18 → ⊥) → (k ≡ 0x41 → ⊥) → (k ≡ 0x43 → ⊥) → (k ≡ 0x44 → ⊥) → LastField k 0
+unfolding last-or last-is same register-fields body-length
+last-none k l m a b c d =
+    last-of 0 k
+    (or-right _ _
+    (or-right _ _ (or-right _ _ (or-right _ _ (within last-or 232 0x18 refl k l (omega arith)) (ne-eqb k 0x18 a)) (ne-eqb k 0x41 b)) (ne-eqb k 0x43 c))
+    (ne-eqb k 0x44 d))

@@ -1,0 +1,15 @@
+pub mod Passing
+pub mod Sound
+pub mod Complete
+pub mod Unique
+pub mod Accepted
+pub mod Reading
+pub mod KindLaws
+pub mod NumberLaws
+pub mod Classes
+pub mod Steps
+pub mod Parts
+pub mod Frames
+pub mod CodeFrames
+pub mod Extents
+pub mod Held

@@ -1,0 +1,48 @@
+-- Reading gives the one tree that the bytes spell within the limits, and every such tree. Assumes nothing.
+use Prim.Native.Nat.{ℕ}
+use mathlib.Core.Path.{_≡_, refl, _∙_, ap}
+use mathlib.Core.List.{List}
+use native.Mathlib.Omega.{arith}
+use lib.ListN.{length}
+use Rattle.machine.specs.Cells.{Verdict, accepted, refused}
+use Rattle.code.specs.Tree.{Code}
+use Rattle.code.specs.Reader.{Read, got, trouble, parse, verdict-of, check-code}
+use Rattle.code.specs.Spells.{Spells, Parsed}
+use Rattle.code.specs.WellFormed.{Bytes, WfCode}
+use Rattle.code.proofs.Sound.{parse-sound}
+use Rattle.code.proofs.Complete.{parse-complete}
+use Rattle.code.proofs.Unique.{one-code}
+use Rattle.code.proofs.Accepted.{parse-wf}
+
+pub record Reading (bs : List ℕ) : Type 0 where
+  -- what is read is spelled, within the limits
+  pub sound : (c : Code) (e : ℕ) → parse bs ≡ got c e → Parsed bs c × (e ≡ length bs)
+  -- what is spelled within the limits is read
+  pub complete : (c : Code) → Parsed bs c → parse bs ≡ got c (length bs)
+  -- codes that are spelled from one place on are equal, and so are their ends
+  pub unique : (c c′ : Code) (at e e′ : ℕ) → Spells c bs at e → Spells c′ bs at e′ → (c ≡ c′) × (e ≡ e′)
+  -- checking accepts where there is a tree to read
+  pub accepts : check-code bs ≡ accepted → (c : Code) × (parse bs ≡ got c (length bs))
+  -- and refuses nothing that is spelled within the limits
+  pub refuses-none : (c : Code) → Parsed bs c → check-code bs ≡ accepted
+  -- every tree that is read is well formed
+  pub well-formed : Bytes bs → (c : Code) (e : ℕ) → parse bs ≡ got c e → WfCode c
+
+accepts-of : (r : Read Code) → verdict-of r ≡ accepted → (c : Code) × (e : ℕ) × (r ≡ got c e)
+unfolding verdict-of
+accepts-of (got c e) h = (c, e, refl)
+accepts-of (trouble n p) h = let z : _≡_ {A = ℕ} 0 1 = cc in absurd (omega arith)
+
+pub reading : (bs : List ℕ) → Reading bs
+unfolding check-code verdict-of
+reading bs =
+    record {
+      sound = parse-sound bs;
+      complete = parse-complete bs;
+      unique = λ c c′ at e e′. one-code c c′ bs at e e′;
+      accepts = λ h.
+          let w = accepts-of (parse bs) h in
+          (w .0, w .2 ∙ ap (got (w .0)) (parse-sound bs (w .0) (w .1) (w .2) .1));
+      refuses-none = λ c h. ap verdict-of (parse-complete bs c h);
+      well-formed = parse-wf bs;
+    }

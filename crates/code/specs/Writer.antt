@@ -1,0 +1,114 @@
+-- Writing: the bytes of a tree, and where its records land.
+use Prim.Native.Nat.{ℕ, zero, suc, _+_, _-_, _*_, _/_, _%_, _^_}
+use mathlib.Core.Path.{_≡_}
+use mathlib.Core.List.{List, [], _∷_, _++_}
+use lib.IntN.{ℤ, pos, negsuc}
+use lib.ListN.{length}
+use Rattle.machine.specs.declared.Maddr.{Maddr}
+use Rattle.machine.specs.declared.Maddr.the-variants.{MConst, MReg, MIndex}
+use Rattle.machine.specs.declared.Operand.{Operand}
+use Rattle.machine.specs.declared.Operand.the-variants.{OConst, OReg, OMem}
+use Rattle.code.specs.Tree.{Instruction, Mov64, Add64, AddLea64, AddCarry64, Adcx64, Adox64, Sub64, Mul64, Mulx64, IMul64, Xor64, And64, Shr64, Shl64, Paddd, Pxor, Pslld, Psrld, Pshufd, Pcmpeqd, Pextrq, Pinsrd, Pinsrq, VPSLLDQ, Ocmp, OEq, ONe, OLe, OGe, OLt, OGt, Code, Ins, Block, IfElse, While, Codes, ⟨⟩, _∷ᶜ_}
+
+-- n bytes of a number, low byte first
+unfoldable pub bytes-of : ℕ → ℕ → List ℕ
+bytes-of zero x = []
+bytes-of (suc n) x = x % 256 ∷ bytes-of n (x / 256)
+
+-- n bytes of a signed number, two's complement
+unfoldable pub signed-bytes : ℕ → ℤ → List ℕ
+signed-bytes n (pos k) = bytes-of n k
+signed-bytes n (negsuc k) = bytes-of n (2 ^ (8 * n) - 1 - k)
+
+-- a memory operand's record
+unfoldable pub bytes-of-maddr : Maddr → List ℕ
+bytes-of-maddr (MConst n) = 0x42 ∷ bytes-of 8 n
+bytes-of-maddr (MReg r offset) = 0x43 ∷ r .number ∷ signed-bytes 8 offset
+bytes-of-maddr (MIndex base scale index offset) =
+    0x44 ∷ base .number ∷ signed-bytes 2 scale ++ index .number ∷ signed-bytes 8 offset
+
+-- an operand's record
+unfoldable pub bytes-of-operand : Operand → List ℕ
+bytes-of-operand (OConst n) = 0x40 ∷ bytes-of 8 n
+bytes-of-operand (OReg r) = 0x41 ∷ r .number ∷ []
+bytes-of-operand (OMem m) = bytes-of-maddr m
+
+-- operand records in a row
+unfoldable pub bytes-of-operands : List Operand → List ℕ
+bytes-of-operands [] = []
+bytes-of-operands (o ∷ os) = bytes-of-operand o ++ bytes-of-operands os
+
+-- a kind byte, a body and operands, both in field order
+unfoldable pub bytes-of-record : ℕ → List ℕ → List Operand → List ℕ
+bytes-of-record kind body operands = kind ∷ body ++ bytes-of-operands operands
+
+-- an instruction's record
+unfoldable pub bytes-of-ins : Instruction → List ℕ
+bytes-of-ins (Mov64 dst src) = bytes-of-record 0x01 [] (dst ∷ src ∷ [])
+bytes-of-ins (Add64 dst src) = bytes-of-record 0x02 [] (dst ∷ src ∷ [])
+bytes-of-ins (AddLea64 dst src1 src2) = bytes-of-record 0x03 [] (dst ∷ src1 ∷ src2 ∷ [])
+bytes-of-ins (AddCarry64 dst src) = bytes-of-record 0x04 [] (dst ∷ src ∷ [])
+bytes-of-ins (Adcx64 dst src) = bytes-of-record 0x05 [] (dst ∷ src ∷ [])
+bytes-of-ins (Adox64 dst src) = bytes-of-record 0x06 [] (dst ∷ src ∷ [])
+bytes-of-ins (Sub64 dst src) = bytes-of-record 0x07 [] (dst ∷ src ∷ [])
+bytes-of-ins (Mul64 src) = bytes-of-record 0x08 [] (src ∷ [])
+bytes-of-ins (Mulx64 dst-hi dst-lo src) = bytes-of-record 0x09 [] (dst-hi ∷ dst-lo ∷ src ∷ [])
+bytes-of-ins (IMul64 dst src) = bytes-of-record 0x0a [] (dst ∷ src ∷ [])
+bytes-of-ins (Xor64 dst src) = bytes-of-record 0x0b [] (dst ∷ src ∷ [])
+bytes-of-ins (And64 dst src) = bytes-of-record 0x0c [] (dst ∷ src ∷ [])
+bytes-of-ins (Shr64 dst amt) = bytes-of-record 0x0d [] (dst ∷ amt ∷ [])
+bytes-of-ins (Shl64 dst amt) = bytes-of-record 0x0e [] (dst ∷ amt ∷ [])
+bytes-of-ins (Paddd dst src) = bytes-of-record 0x0f (dst ∷ src ∷ []) []
+bytes-of-ins (Pxor dst src) = bytes-of-record 0x10 (dst ∷ src ∷ []) []
+bytes-of-ins (Pslld dst amt) = bytes-of-record 0x11 (dst ∷ amt ∷ []) []
+bytes-of-ins (Psrld dst amt) = bytes-of-record 0x12 (dst ∷ amt ∷ []) []
+bytes-of-ins (Pshufd dst src permutation) = bytes-of-record 0x13 (dst ∷ src ∷ permutation ∷ []) []
+bytes-of-ins (Pcmpeqd dst src) = bytes-of-record 0x14 (dst ∷ src ∷ []) []
+bytes-of-ins (Pextrq dst src index) = bytes-of-record 0x15 (src ∷ index ∷ []) (dst ∷ [])
+bytes-of-ins (Pinsrd dst src index) = bytes-of-record 0x16 (dst ∷ index ∷ []) (src ∷ [])
+bytes-of-ins (Pinsrq dst src index) = bytes-of-record 0x17 (dst ∷ index ∷ []) (src ∷ [])
+bytes-of-ins (VPSLLDQ dst src count) = bytes-of-record 0x18 (dst ∷ src ∷ count ∷ []) []
+
+-- a comparison's record
+unfoldable pub bytes-of-ocmp : Ocmp → List ℕ
+bytes-of-ocmp (OEq a b) = bytes-of-record 0x30 [] (a ∷ b ∷ [])
+bytes-of-ocmp (ONe a b) = bytes-of-record 0x31 [] (a ∷ b ∷ [])
+bytes-of-ocmp (OLe a b) = bytes-of-record 0x32 [] (a ∷ b ∷ [])
+bytes-of-ocmp (OGe a b) = bytes-of-record 0x33 [] (a ∷ b ∷ [])
+bytes-of-ocmp (OLt a b) = bytes-of-record 0x34 [] (a ∷ b ∷ [])
+bytes-of-ocmp (OGt a b) = bytes-of-record 0x35 [] (a ∷ b ∷ [])
+
+unfoldable mutual
+  -- a code: a structure states the lengths of its parts in 4 bytes each
+  pub bytes-of-code : Code → List ℕ
+  bytes-of-code (Ins p i) = bytes-of-ins i
+  bytes-of-code (Block p cs) = 0x20 ∷ bytes-of 4 (length (bytes-of-codes cs)) ++ bytes-of-codes cs
+  bytes-of-code (IfElse p q c a b) =
+      0x21
+      ∷ bytes-of 4 (length (bytes-of-code a))
+      ++ bytes-of 4 (length (bytes-of-code b))
+      ++ bytes-of-ocmp c
+      ++ bytes-of-code a
+      ++ bytes-of-code b
+  bytes-of-code (While p q c b) = 0x22 ∷ bytes-of 4 (length (bytes-of-code b)) ++ bytes-of-ocmp c ++ bytes-of-code b
+
+  -- codes in a row
+  pub bytes-of-codes : Codes → List ℕ
+  bytes-of-codes ⟨⟩ = []
+  bytes-of-codes (c ∷ᶜ cs) = bytes-of-code c ++ bytes-of-codes cs
+
+unfoldable mutual
+  -- a code's places are those where its records land from `at` on
+  pub PlacedAt : ℕ → Code → Type 0
+  PlacedAt at (Ins p i) = p ≡ at
+  PlacedAt at (Block p cs) = (p ≡ at) × PlacedAll (at + 5) cs
+  PlacedAt at (IfElse p q c a b) =
+      (p ≡ at)
+      × (q ≡ at + 9)
+      × PlacedAt (at + 9 + length (bytes-of-ocmp c)) a
+      × PlacedAt (at + 9 + length (bytes-of-ocmp c) + length (bytes-of-code a)) b
+  PlacedAt at (While p q c b) = (p ≡ at) × (q ≡ at + 5) × PlacedAt (at + 5 + length (bytes-of-ocmp c)) b
+
+  pub PlacedAll : ℕ → Codes → Type 0
+  PlacedAll at ⟨⟩ = Unit {0}
+  PlacedAll at (c ∷ᶜ cs) = PlacedAt at c × PlacedAll (at + length (bytes-of-code c)) cs
