@@ -1,1 +1,3 @@
 pub mod ByteMachine
+pub mod Third
+pub mod Examples

@@ -1,0 +1,4 @@
+pub mod Operands
+pub mod Instructions
+pub mod Runs
+pub mod Demand

@@ -1,0 +1,155 @@
+-- The kernels tried of document 01, P1 to P14, as one table from inputs to outcomes, and one claim: Running gives these ends.
+-- Its examples of code, of cells and of a job stand behind it.
+use Prim.Native.Nat.{ℕ}
+use mathlib.Core.Path.{_≡_, refl}
+use mathlib.Core.Bool.{xor}
+use mathlib.Core.List.{List, [], _∷_}
+use lib.ListN.{length, set, replicate}
+use Rattle.words.specs.Words.{nat-to-four, two-select, two-to-nat, four-select, four-insert}
+use Rattle.words.specs.Bits.{to-vec, from-vec, map2, ixor, ishl}
+use Rattle.words.specs.Types.{shl-lanes, shuffle-lanes, shift-quad}
+use Rattle.words.specs.Sums.{sum-mod, sum-carry, sub-mod, mul-div, mul-mod}
+use Rattle.words.specs.Flags.{cf, overflow, update-cf, update-of}
+use Rattle.machine.specs.Registers.{Rax, xmm-at, set-xmm}
+use Rattle.machine.specs.Operands.{eval-maddr, valid-dst}
+use Rattle.machine.specs.Cells.{Verdict, accepted, refused, is-tag, cell-rule, check-from, check-cells, find-cell, eqℤ}
+use Rattle.machine.specs.declared.Operand.the-variants.{OConst, OReg}
+use Rattle.code.specs.Tree.{Add64, Ins}
+use Rattle.code.specs.Records.{body-length, operand-count, register-fields, number-at, signed-at, operand-at, behind, operands-at, ins-at, ocmp-at}
+use Rattle.code.specs.Reader.{got, followed, with-fields, read-record, read-operands, read-with, read-ocmp, read-part, read-codes, read-block, read-if, read-while, read-structure, read-body, read-code, parse, verdict-of, check-code}
+use Rattle.eval.specs.Config.{Env, Config, with-flags, with-values, End, ends, Outcome, done, fault, spent, continue, check, choose}
+use Rattle.eval.specs.Flags.{add-flags}
+use Rattle.eval.specs.Steps.{cell-of, valid-operand, eval-operand, valid-dst-operand, update-operand, run-mulx, run-ins, valid-ocmp, eval-ocmp}
+use Rattle.eval.specs.Running.{run-ocmp, rounds, run-code, run-checked, run-read, run-of}
+
+-- what document 01 gives to a kernel, and the end that it names
+pub record Kernel : Type 0 where
+  pub code : List ℕ
+  pub env : Env
+  pub fuel : ℕ
+  pub start : Config
+  pub end : End
+
+-- registers, xmm words and flags all 0, and no cells
+abbrev zeros : Config
+zeros = record { regs = replicate 16 0; xmms = replicate 64 0; flags = 0; values = [] }
+
+-- with v in a register: Rax is 0, Rdx 3
+abbrev reg : ℕ → ℕ → Config → Config
+reg r v s = record { regs = set (s .regs) r v; xmms = s .xmms; flags = s .flags; values = s .values }
+
+-- all 0 but for Rax
+abbrev rax : ℕ → Config
+rax v = reg 0 v zeros
+
+-- all 0 but for the four words of xmm 0, lo0 first
+abbrev xmm0 : ℕ → ℕ → ℕ → ℕ → Config
+xmm0 a b c d = record { regs = replicate 16 0; xmms = a ∷ b ∷ c ∷ d ∷ replicate 60 0; flags = 0; values = [] }
+
+-- no cells, and a fill word
+abbrev no-cells : ℕ → Env
+no-cells fill = record { addresses = []; tags = []; fill = fill }
+
+-- a 64-bit cell at an address, fill 0
+abbrev one-cell : ℕ → Env
+one-cell a = record { addresses = a ∷ []; tags = 64 ∷ []; fill = 0 }
+
+-- a row of the table
+abbrev row : List ℕ → Env → ℕ → Config → Outcome → Config → Kernel
+row code env fuel start how end = record { code = code; env = env; fuel = fuel; start = start; end = ends how end }
+
+-- the table: code, cells and fill, fuel, start, how it ends, and with what
+pub kernels : List Kernel
+kernels =
+    -- P1: Add64 Rax 2^64-1 and 1
+    row (0x02 ∷ 0x41 ∷ 0x00 ∷ 0x40 ∷ 0x01 ∷ 0x00 ∷ 0x00 ∷ 0x00 ∷ 0x00 ∷ 0x00 ∷ 0x00 ∷ 0x00 ∷ []) (no-cells 0) 0 (rax 18446744073709551615) done (with-flags 1 (rax 0))
+    -- P2: Add64 1 and 1, flags 2048
+    ∷ row (0x02 ∷ 0x41 ∷ 0x00 ∷ 0x40 ∷ 0x01 ∷ 0x00 ∷ 0x00 ∷ 0x00 ∷ 0x00 ∷ 0x00 ∷ 0x00 ∷ 0x00 ∷ []) (no-cells 0) 0 (with-flags 2048 (rax 1)) done (with-flags 2048 (rax 2))
+    -- P3: Sub64 0 less 1, fill 9
+    ∷ row (0x07 ∷ 0x41 ∷ 0x00 ∷ 0x40 ∷ 0x01 ∷ 0x00 ∷ 0x00 ∷ 0x00 ∷ 0x00 ∷ 0x00 ∷ 0x00 ∷ 0x00 ∷ []) (no-cells 9) 0 (rax 0) done (with-flags 9 (rax 18446744073709551615))
+    -- P4: Mulx64, both destinations Rax, Rdx 2^63, source 2
+    ∷ row (0x09 ∷ 0x41 ∷ 0x00 ∷ 0x41 ∷ 0x00 ∷ 0x40 ∷ 0x02 ∷ 0x00 ∷ 0x00 ∷ 0x00 ∷ 0x00 ∷ 0x00 ∷ 0x00 ∷ 0x00 ∷ []) (no-cells 0) 0 (reg 3 9223372036854775808 (rax 0)) done (reg 3 9223372036854775808 (rax 1))
+    -- P5: Xor64 Rax with Rax, fill 2^64-1
+    ∷ row (0x0b ∷ 0x41 ∷ 0x00 ∷ 0x41 ∷ 0x00 ∷ []) (no-cells 18446744073709551615) 0 (rax 5) done (with-flags 18446744073709549566 (rax 0))
+    -- P6: Shl64 of 1 by 63
+    ∷ row (0x0e ∷ 0x41 ∷ 0x00 ∷ 0x40 ∷ 0x3f ∷ 0x00 ∷ 0x00 ∷ 0x00 ∷ 0x00 ∷ 0x00 ∷ 0x00 ∷ 0x00 ∷ []) (no-cells 0) 0 (rax 1) done (rax 9223372036854775808)
+    -- P6: by 64
+    ∷ row (0x0e ∷ 0x41 ∷ 0x00 ∷ 0x40 ∷ 0x40 ∷ 0x00 ∷ 0x00 ∷ 0x00 ∷ 0x00 ∷ 0x00 ∷ 0x00 ∷ 0x00 ∷ []) (no-cells 0) 0 (rax 1) (fault 33 0) (rax 1)
+    -- P7: Pslld word 1 by 31
+    ∷ row (0x11 ∷ 0x00 ∷ 0x1f ∷ []) (no-cells 0) 0 (xmm0 1 0 0 0) done (xmm0 2147483648 0 0 0)
+    -- P7: by 32
+    ∷ row (0x11 ∷ 0x00 ∷ 0x20 ∷ []) (no-cells 0) 0 (xmm0 1 0 0 0) (fault 34 0) (xmm0 1 0 0 0)
+    -- P8: VPSLLDQ (1,2,3,4) by 4
+    ∷ row (0x18 ∷ 0x00 ∷ 0x00 ∷ 0x04 ∷ []) (no-cells 0) 0 (xmm0 1 2 3 4) done (xmm0 0 1 2 3)
+    -- P8: by 5
+    ∷ row (0x18 ∷ 0x00 ∷ 0x00 ∷ 0x05 ∷ []) (no-cells 0) 0 (xmm0 1 2 3 4) (fault 35 0) (xmm0 1 2 3 4)
+    -- P9: Pshufd (10,11,12,13) by 27
+    ∷ row (0x13 ∷ 0x00 ∷ 0x00 ∷ 0x1b ∷ []) (no-cells 0) 0 (xmm0 10 11 12 13) done (xmm0 13 12 11 10)
+    -- P10: While with a false condition (Rax differs from Rax, over an empty Block), fuel 0
+    ∷ row (0x22 ∷ 0x05 ∷ 0x00 ∷ 0x00 ∷ 0x00 ∷ 0x31 ∷ 0x41 ∷ 0x00 ∷ 0x41 ∷ 0x00 ∷ 0x20 ∷ 0x00 ∷ 0x00 ∷ 0x00 ∷ 0x00 ∷ []) (no-cells 0) 0 zeros (spent 0) zeros
+    -- P10: fuel 1
+    ∷ row (0x22 ∷ 0x05 ∷ 0x00 ∷ 0x00 ∷ 0x00 ∷ 0x31 ∷ 0x41 ∷ 0x00 ∷ 0x41 ∷ 0x00 ∷ 0x20 ∷ 0x00 ∷ 0x00 ∷ 0x00 ∷ 0x00 ∷ []) (no-cells 0) 1 zeros done zeros
+    -- P11: reading MReg Rax, offset 1, into Rbx, Rax 2^64-1, a 64-bit cell at 0
+    ∷ row (0x01 ∷ 0x41 ∷ 0x01 ∷ 0x43 ∷ 0x00 ∷ 0x01 ∷ 0x00 ∷ 0x00 ∷ 0x00 ∷ 0x00 ∷ 0x00 ∷ 0x00 ∷ 0x00 ∷ []) (one-cell 0) 0 (with-values (6 ∷ []) (rax 18446744073709551615)) (fault 31 0) (with-values (6 ∷ []) (rax 18446744073709551615))
+    -- P12: Mov64 of 1 to Rsp
+    ∷ row (0x01 ∷ 0x41 ∷ 0x07 ∷ 0x40 ∷ 0x01 ∷ 0x00 ∷ 0x00 ∷ 0x00 ∷ 0x00 ∷ 0x00 ∷ 0x00 ∷ 0x00 ∷ []) (no-cells 0) 0 zeros (fault 32 0) zeros
+    -- P13: Pextrq (1,2,3,4) index 1 into Rax
+    ∷ row (0x15 ∷ 0x00 ∷ 0x01 ∷ 0x41 ∷ 0x00 ∷ []) (no-cells 0) 0 (xmm0 1 2 3 4) done (reg 0 17179869187 (xmm0 1 2 3 4))
+    -- P13: Pinsrd of 7, index 5, fills word 1
+    ∷ row (0x16 ∷ 0x00 ∷ 0x05 ∷ 0x40 ∷ 0x07 ∷ 0x00 ∷ 0x00 ∷ 0x00 ∷ 0x00 ∷ 0x00 ∷ 0x00 ∷ 0x00 ∷ []) (no-cells 0) 0 (xmm0 1 2 3 4) done (xmm0 1 7 3 4)
+    -- P14: While Rax differs from 0, Sub64 Rax 1, from 3, fuel 4
+    ∷ row (0x22 ∷ 0x0c ∷ 0x00 ∷ 0x00 ∷ 0x00 ∷ 0x31 ∷ 0x41 ∷ 0x00 ∷ 0x40 ∷ 0x00 ∷ 0x00 ∷ 0x00 ∷ 0x00 ∷ 0x00 ∷ 0x00 ∷ 0x00 ∷ 0x00 ∷ 0x07 ∷ 0x41 ∷ 0x00 ∷ 0x40 ∷ 0x01 ∷ 0x00 ∷ 0x00 ∷ 0x00 ∷ 0x00 ∷ 0x00 ∷ 0x00 ∷ 0x00 ∷ []) (no-cells 0) 4 (rax 3) done (rax 0)
+    -- P14: fuel 3
+    ∷ row (0x22 ∷ 0x0c ∷ 0x00 ∷ 0x00 ∷ 0x00 ∷ 0x31 ∷ 0x41 ∷ 0x00 ∷ 0x40 ∷ 0x00 ∷ 0x00 ∷ 0x00 ∷ 0x00 ∷ 0x00 ∷ 0x00 ∷ 0x00 ∷ 0x00 ∷ 0x07 ∷ 0x41 ∷ 0x00 ∷ 0x40 ∷ 0x01 ∷ 0x00 ∷ 0x00 ∷ 0x00 ∷ 0x00 ∷ 0x00 ∷ 0x00 ∷ 0x00 ∷ []) (no-cells 0) 3 (rax 3) (spent 0) (rax 0)
+    ∷ []
+
+-- Running, with all that it computes with opened
+unfoldable pub ran : Kernel → End
+unfolding run-of run-read run-checked run-code rounds run-ocmp continue check choose cell-of valid-operand eval-operand valid-dst-operand update-operand run-mulx run-ins valid-ocmp eval-ocmp add-flags find-cell eqℤ eval-maddr valid-dst xmm-at set-xmm cf overflow update-cf update-of sum-mod sum-carry sub-mod mul-div mul-mod shl-lanes shuffle-lanes shift-quad to-vec from-vec map2 xor ixor ishl nat-to-four two-select two-to-nat four-select four-insert followed with-fields read-record read-operands read-with read-ocmp read-part read-codes read-block read-if read-while read-structure read-body read-code parse verdict-of check-code body-length operand-count register-fields number-at signed-at operand-at behind operands-at ins-at ocmp-at is-tag cell-rule check-from check-cells
+ran k = run-of (k .code) (k .env) (k .fuel) (k .start)
+
+-- what Running makes of each row
+unfoldable pub ends-of : List Kernel → List End
+ends-of [] = []
+ends-of (k ∷ ks) = ran k ∷ ends-of ks
+
+-- what document 01 names for each row
+unfoldable pub named : List Kernel → List End
+named [] = []
+named (k ∷ ks) = k .end ∷ named ks
+
+-- the one claim
+pub kernels-hold : ends-of kernels ≡ named kernels
+unfolding ends-of named kernels ran
+kernels-hold = refl
+
+-- Add64 Rax, 1, as bytes and as a tree; the first eleven bytes alone give 3 at 3
+pub code-is : parse (0x02 ∷ 0x41 ∷ 0x00 ∷ 0x40 ∷ 0x01 ∷ 0x00 ∷ 0x00 ∷ 0x00 ∷ 0x00 ∷ 0x00 ∷ 0x00 ∷ 0x00 ∷ []) ≡ got (Ins 0 (Add64 (OReg Rax) (OConst 1))) 12
+unfolding ran
+code-is = refl
+
+pub code-cut : check-code (0x02 ∷ 0x41 ∷ 0x00 ∷ 0x40 ∷ 0x01 ∷ 0x00 ∷ 0x00 ∷ 0x00 ∷ 0x00 ∷ 0x00 ∷ 0x00 ∷ []) ≡ refused 3 3
+unfolding ran
+code-cut = refl
+
+-- checks of cells tagged 64, each of value 0, at these addresses
+unfoldable pub checked : List (List ℕ) → List Verdict
+unfolding ran
+checked [] = []
+checked (xs ∷ xss) = check-cells xs (replicate (length xs) 64) (replicate (length xs) 0) ∷ checked xss
+
+-- at 0 and 7: 15 at 1; at 0 and 8: accepted; at 2^64-8 accepted, at 2^64-7 not
+pub cells-hold : checked ((0 ∷ 7 ∷ []) ∷ (0 ∷ 8 ∷ []) ∷ (18446744073709551608 ∷ []) ∷ (18446744073709551609 ∷ []) ∷ []) ≡ refused 15 1 ∷ accepted ∷ accepted ∷ refused 15 0 ∷ []
+unfolding checked
+cells-hold = refl
+
+-- the run of the job: Add64 of Rax, 5, to a cell at 4096 tagged 64 with value 7
+pub job : List Kernel
+job =
+    row (0x02 ∷ 0x42 ∷ 0x00 ∷ 0x10 ∷ 0x00 ∷ 0x00 ∷ 0x00 ∷ 0x00 ∷ 0x00 ∷ 0x00 ∷ 0x41 ∷ 0x00 ∷ []) (one-cell 4096) 0 (with-values (7 ∷ []) (rax 5)) done (with-values (12 ∷ []) (rax 5))
+    ∷ []
+
+-- done, flags 0, Rax 5, the cell 12, and all else 0
+pub job-holds : ends-of job ≡ named job
+unfolding ends-of named job ran
+job-holds = refl

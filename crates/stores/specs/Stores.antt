@@ -1,0 +1,117 @@
+-- The stores that a run makes to its cells: those of the instructions that it completes, in order.
+use Prim.Native.Nat.{ℕ, zero, suc, _+_, _%_}
+use mathlib.Core.Bool.{Bool, true, false}
+use mathlib.Core.List.{List, [], _∷_, _++_}
+use mathlib.Core.Option.{Option, none, some}
+use lib.ListN.{set}
+use Rattle.words.specs.Words.{four-to-two-two, two-select, two-to-nat}
+use Rattle.words.specs.Bits.{bit, iand, ixor, ishl, ishr}
+use Rattle.words.specs.Sums.{sum-mod, sub-mod, mul-div, mul-mod}
+use Rattle.words.specs.Flags.{cf, overflow}
+use Rattle.machine.specs.Registers.{Rdx, reg-at, xmm-at}
+use Rattle.machine.specs.declared.Operand.{Operand}
+use Rattle.machine.specs.declared.Operand.the-variants.{OConst, OReg, OMem}
+use Rattle.code.specs.Tree.{Instruction, Mov64, Add64, AddLea64, AddCarry64, Adcx64, Adox64, Sub64, Mul64, Mulx64, IMul64, Xor64, And64, Shr64, Shl64, Paddd, Pxor, Pslld, Psrld, Pshufd, Pcmpeqd, Pextrq, Pinsrd, Pinsrq, VPSLLDQ, Ocmp, Code, Ins, Block, IfElse, While, Codes, ⟨⟩, _∷ᶜ_}
+use Rattle.eval.specs.Config.{Env, Config, with-flags, End, Outcome, done, fault, spent, refused}
+use Rattle.eval.specs.Steps.{cell-of, eval-operand, update-operand, run-ins, valid-ocmp, eval-ocmp}
+use Rattle.eval.specs.Running.{run-code}
+
+-- a value for the cell at an index
+pub record Store : Type 0 where
+  pub index : ℕ
+  pub value : ℕ
+
+-- values with stores made to them, in order
+unfoldable pub make : List Store → List ℕ → List ℕ
+make [] vs = vs
+make (w ∷ ws) vs = make ws (set vs (w .index) (w .value))
+
+-- the store of v to the cell that was found
+unfoldable pub to-cell : Option ℕ → ℕ → List Store
+to-cell none v = []
+to-cell (some i) v = record { index = i; value = v } ∷ []
+
+-- an instruction that a run has completed, and the configuration before it
+pub record Completed : Type 0 where
+  pub instruction : Instruction
+  pub before : Config
+
+-- what comes behind a part of a run: nothing, unless that part is done
+unfoldable pub behind : Outcome → List Completed → List Completed
+behind done l = l
+behind (fault n p) l = []
+behind (spent p) l = []
+behind (refused n p) l = []
+
+-- the way that a comparison takes: none where it faults
+unfoldable pub way : Bool → Bool → (Config → List Completed) → (Config → List Completed) → Config → List Completed
+way false b yes-way no-way s = []
+way true true yes-way no-way s = yes-way s
+way true false yes-way no-way s = no-way s
+
+module _ (env : Env) where
+  -- the store of v to a destination: a memory operand's cell, and no store where it is a register
+  unfoldable pub store : Operand → ℕ → Config → List Store
+  store (OConst n) v s = []
+  store (OReg r) v s = []
+  store (OMem m) v s = to-cell (cell-of env m s) v
+
+  -- the stores of an instruction: its destination and the value that it gets
+  unfoldable pub stores : Instruction → Config → List Store
+  stores (Mov64 dst src) s = store dst (eval-operand env src s) s
+  stores (Add64 dst src) s = store dst (sum-mod 64 (eval-operand env dst s + eval-operand env src s)) s
+  stores (AddLea64 dst src1 src2) s = store dst (sum-mod 64 (eval-operand env src1 s + eval-operand env src2 s)) s
+  stores (AddCarry64 dst src) s = store dst (sum-mod 64 (eval-operand env dst s + eval-operand env src s + bit (cf (s .flags)))) s
+  stores (Adcx64 dst src) s = store dst (sum-mod 64 (eval-operand env dst s + eval-operand env src s + bit (cf (s .flags)))) s
+  stores (Adox64 dst src) s = store dst (sum-mod 64 (eval-operand env dst s + eval-operand env src s + bit (overflow (s .flags)))) s
+  stores (Sub64 dst src) s = store dst (sub-mod 64 (eval-operand env dst s) (eval-operand env src s)) s
+  stores (Mul64 src) s = []
+  -- the low half, then the high half, whose destination is resolved after the low half is written
+  stores (Mulx64 dst-hi dst-lo src) s =
+      let a = reg-at (s .regs) Rdx in
+      let b = eval-operand env src s in
+      store dst-lo (mul-mod 64 a b) s ++ store dst-hi (mul-div 64 a b) (update-operand env dst-lo (mul-mod 64 a b) s)
+  stores (IMul64 dst src) s = store dst (mul-mod 64 (eval-operand env dst s) (eval-operand env src s)) s
+  stores (Xor64 dst src) s = store dst (ixor 64 (eval-operand env dst s) (eval-operand env src s)) s
+  stores (And64 dst src) s = store dst (iand 64 (eval-operand env dst s) (eval-operand env src s)) s
+  stores (Shr64 dst amt) s = store dst (ishr (eval-operand env dst s) (eval-operand env amt s)) s
+  stores (Shl64 dst amt) s = store dst (ishl 64 (eval-operand env dst s) (eval-operand env amt s)) s
+  stores (Paddd dst src) s = []
+  stores (Pxor dst src) s = []
+  stores (Pslld dst amt) s = []
+  stores (Psrld dst amt) s = []
+  stores (Pshufd dst src imm8) s = []
+  stores (Pcmpeqd dst src) s = []
+  stores (Pextrq dst src index) s =
+      store dst (two-to-nat 32 (two-select (four-to-two-two (xmm-at (s .xmms) src)) (index % 2))) s
+  stores (Pinsrd dst src index) s = []
+  stores (Pinsrq dst src index) s = []
+  stores (VPSLLDQ dst src count) s = []
+
+  -- the stores of completed instructions, in order
+  unfoldable pub stores-of : List Completed → List Store
+  stores-of [] = []
+  stores-of (d ∷ ds) = stores (d .instruction) (d .before) ++ stores-of ds
+
+  -- the instructions that the rounds of a While complete
+  unfoldable pub completed-rounds : (ℕ → Config → End) → (ℕ → Config → List Completed) → Ocmp → ℕ → Config → List Completed
+  completed-rounds body inside c zero s = []
+  completed-rounds body inside c (suc fuel) s =
+      way (valid-ocmp env c s) (eval-ocmp env c s)
+      (λ t. inside fuel t ++ behind (body fuel t .how) (completed-rounds body inside c fuel (body fuel t .config)))
+      (λ t. []) (with-flags (env .fill) s)
+
+  unfoldable mutual
+    -- the instructions that the run of a code completes, in order
+    pub completed : Code → ℕ → Config → List Completed
+    completed (Ins p i) fuel s = behind (run-ins env p i s .how) (record { instruction = i; before = s } ∷ [])
+    completed (Block p cs) fuel s = completed-all cs fuel s
+    completed (IfElse p q c a b) fuel s =
+        way (valid-ocmp env c s) (eval-ocmp env c s) (completed a fuel) (completed b fuel) (with-flags (env .fill) s)
+    completed (While p q c b) fuel s = completed-rounds (run-code env b) (completed b) c fuel s
+
+    -- those of a list of codes
+    pub completed-all : Codes → ℕ → Config → List Completed
+    completed-all ⟨⟩ fuel s = []
+    completed-all (c ∷ᶜ cs) fuel s =
+        completed c fuel s ++ behind (run-code env c fuel s .how) (completed-all cs fuel (run-code env c fuel s .config))
