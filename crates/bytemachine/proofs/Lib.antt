@@ -1,4 +1,4 @@
 pub mod Operands
 pub mod Instructions
 pub mod Runs
-pub mod Demand
+pub mod Follows

@@ -1,3 +1,3 @@
 pub mod ByteMachine
-pub mod Third
+pub mod Follows
 pub mod Examples

@@ -107,7 +107,7 @@ module _ (bs : List ℕ) (at : ℕ) where
   maddr-held (MReg r z) h l =
       let b = one-byte (r .number) (h .1 .0) in
       let e : signed-at 8 bs (at + 1 + 1) ≡ z =
-          signed-held 8 refl refl z bs (at + 1 + 1) (holds-from bs (suc (suc at)) (at + 1 + 1) (signed-bytes 8 z) (h .1 .1) (omega arith)) (l .1) in
+      signed-held 8 refl refl z bs (at + 1 + 1) (holds-from bs (suc (suc at)) (at + 1 + 1) (signed-bytes 8 z) (h .1 .1) (omega arith)) (l .1) in
       record {
         kind = rw (h .0);
         fields = rw (h .0) (omega (arith, b, l .0), tt);
@@ -118,10 +118,10 @@ module _ (bs : List ℕ) (at : ℕ) where
       let b = one-byte (base .number) (h .1 .0) in
       let w = split bs (suc (suc at)) (signed-bytes 2 s) (index .number ∷ signed-bytes 8 z) (h .1 .1) (at + 1 + 3) (omega (arith, length-signed 2 s)) in
       let d : signed-at 2 bs (at + 1 + 1) ≡ s =
-          signed-held 2 refl refl s bs (at + 1 + 1) (holds-from bs (suc (suc at)) (at + 1 + 1) (signed-bytes 2 s) (w .0) (omega arith)) (l .1) in
+      signed-held 2 refl refl s bs (at + 1 + 1) (holds-from bs (suc (suc at)) (at + 1 + 1) (signed-bytes 2 s) (w .0) (omega arith)) (l .1) in
       let i : byte-at bs (at + 1 + 3) ≡ index .number = w .1 .0 in
       let e : signed-at 8 bs (at + 1 + 4) ≡ z =
-          signed-held 8 refl refl z bs (at + 1 + 4) (holds-from bs (suc (at + 1 + 3)) (at + 1 + 4) (signed-bytes 8 z) (w .1 .1) (omega arith)) (l .3) in
+      signed-held 8 refl refl z bs (at + 1 + 4) (holds-from bs (suc (at + 1 + 3)) (at + 1 + 4) (signed-bytes 8 z) (w .1 .1) (omega arith)) (l .3) in
       let f : byte-at bs (at + 4) ≡ index .number = ap (byte-at bs) (omega arith) ∙ i in
       record {
         kind = rw (h .0);
@@ -167,10 +167,10 @@ operands-held (o ∷ os) bs at h l =
     let s = operand-held bs at o (w .0) (l .0) in
     let r = operands-held os bs (at + length (bytes-of-operand o)) (w .1) (l .1) in
     let e : at + length (bytes-of-operand o) + length (bytes-of-operands os) ≡ at + length (bytes-of-operand o ++ bytes-of-operands os) =
-        omega (arith, length-append (bytes-of-operand o) (bytes-of-operands os)) in
+    omega (arith, length-append (bytes-of-operand o) (bytes-of-operands os)) in
     let t : Operands (length os) bs (behind bs at) (at + length (bytes-of-operand o ++ bytes-of-operands os)) =
-        subst (λ (x : ℕ). Operands (length os) bs x (at + length (bytes-of-operand o ++ bytes-of-operands os))) (sym (s .ends))
-        (subst (λ (x : ℕ). Operands (length os) bs (at + length (bytes-of-operand o)) x) e r)
+    subst (λ (x : ℕ). Operands (length os) bs x (at + length (bytes-of-operand o ++ bytes-of-operands os))) (sym (s .ends))
+    (subst (λ (x : ℕ). Operands (length os) bs (at + length (bytes-of-operand o)) x) e r)
     in
     (record { kind = s .kind; inside = operands-le (length os) bs (behind bs at) _ t; fields = s .fields }, t)
 

@@ -13,3 +13,5 @@ pub mod Frames
 pub mod CodeFrames
 pub mod Extents
 pub mod Held
+pub mod ReadBack
+pub mod Placing

@@ -7,26 +7,13 @@ use lib.ListN.{length}
 use Rattle.machine.specs.Cells.{Verdict, accepted, refused}
 use Rattle.code.specs.Tree.{Code}
 use Rattle.code.specs.Reader.{Read, got, trouble, parse, verdict-of, check-code}
-use Rattle.code.specs.Spells.{Spells, Parsed}
-use Rattle.code.specs.WellFormed.{Bytes, WfCode}
+use Rattle.code.specs.Reading.{Reading, Writing}
 use Rattle.code.proofs.Sound.{parse-sound}
 use Rattle.code.proofs.Complete.{parse-complete}
 use Rattle.code.proofs.Unique.{one-code}
 use Rattle.code.proofs.Accepted.{parse-wf}
-
-pub record Reading (bs : List ℕ) : Type 0 where
-  -- what is read is spelled, within the limits
-  pub sound : (c : Code) (e : ℕ) → parse bs ≡ got c e → Parsed bs c × (e ≡ length bs)
-  -- what is spelled within the limits is read
-  pub complete : (c : Code) → Parsed bs c → parse bs ≡ got c (length bs)
-  -- codes that are spelled from one place on are equal, and so are their ends
-  pub unique : (c c′ : Code) (at e e′ : ℕ) → Spells c bs at e → Spells c′ bs at e′ → (c ≡ c′) × (e ≡ e′)
-  -- checking accepts where there is a tree to read
-  pub accepts : check-code bs ≡ accepted → (c : Code) × (parse bs ≡ got c (length bs))
-  -- and refuses nothing that is spelled within the limits
-  pub refuses-none : (c : Code) → Parsed bs c → check-code bs ≡ accepted
-  -- every tree that is read is well formed
-  pub well-formed : Bytes bs → (c : Code) (e : ℕ) → parse bs ≡ got c e → WfCode c
+use Rattle.code.proofs.ReadBack.{read-back}
+use Rattle.code.proofs.Placing.{read-back-placed}
 
 accepts-of : (r : Read Code) → verdict-of r ≡ accepted → (c : Code) × (e : ℕ) × (r ≡ got c e)
 unfolding verdict-of
@@ -46,3 +33,6 @@ reading bs =
       refuses-none = λ c h. ap verdict-of (parse-complete bs c h);
       well-formed = parse-wf bs;
     }
+
+pub writing : (c : Code) → Writing c
+writing c = record { read-back = read-back c; read-back-placed = read-back-placed c }

@@ -21,7 +21,7 @@ is-used k = is-code k || (is-ocmp k || is-operand k)
 unfoldable pub entry-of : ℕ → ℕ
 entry-of k = cond (is-used k) (4 * body-length k + operand-count k) 255
 
--- the register fields of which `last` is the last: none for 0, and the first at 1
+-- the register fields up to the last one: none where that is 0; the first stands at 1
 abbrev pub fields-to : ℕ → List ℕ
 fields-to zero = []
 fields-to (suc zero) = 1 ∷ []

@@ -6,3 +6,4 @@ pub mod Spells
 pub mod WellFormed
 pub mod Reached
 pub mod Writer
+pub mod Reading

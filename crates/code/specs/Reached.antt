@@ -27,6 +27,6 @@ unfoldable pub rest-of-all : List ℕ → ℕ → ℕ → Read (Unit {0})
 rest-of-all bs e at =
     followed (rest-of-record bs e at) (λ _ next. read-operands (operand-count (byte-at bs at)) bs e next)
 
--- a structure behind its kind byte, in which d more codes may nest
+-- a structure behind its kind byte, with d levels left for its codes
 unfoldable pub structure-of : ℕ → List ℕ → ℕ → ℕ → Read Code
 structure-of d bs e at = with-body bs e at (read-structure (read-code d bs) bs e at)

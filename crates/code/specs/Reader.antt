@@ -46,7 +46,7 @@ unfoldable pub read-operands : ℕ → List ℕ → ℕ → ℕ → Read (Unit {
 read-operands zero bs e at = got tt at
 read-operands (suc n) bs e at = followed (read-record is-operand bs e at) (λ _ next. read-operands n bs e next)
 
--- a record with its operands, read as what `at` says
+-- a record with its operands, which says a
 unfoldable pub read-with : {A : Type 0} → (ℕ → Bool) → A → List ℕ → ℕ → ℕ → Read A
 read-with allowed a bs e at =
     followed (read-record allowed bs e at) (λ _ next.
@@ -64,7 +64,7 @@ One = ℕ → ℕ → Read Code
 unfoldable pub read-part : One → ℕ → ℕ → Read Code
 read-part one e at = followed (one e at) (λ c next. unless (not (eqb next e)) 6 next (got c e))
 
--- the codes of a Block, from `at` to e, at most n of them
+-- the codes of a Block, from `at` to e; n, the bytes from `at` to e, bounds their number, since each takes a byte at least
 unfoldable pub read-codes : One → ℕ → ℕ → ℕ → Read Codes
 read-codes one zero e at = got ⟨⟩ e
 read-codes one (suc n) e at =
@@ -83,18 +83,18 @@ unfoldable pub read-if : One → List ℕ → ℕ → ℕ → Read Code
 read-if one bs e at =
     let size = number-at 4 bs (at + 1) in
     let other = number-at 4 bs (at + 5) in
-    followed (read-ocmp bs e (at + 9)) (λ cond next.
+    followed (read-ocmp bs e (at + 9)) (λ c next.
     unless (ltb (e - next) (size + other)) 6 at
     (followed (read-part one (next + size) next) (λ yes-part mid.
-    followed (read-part one (mid + other) mid) (λ no-part last. got (IfElse at (at + 9) cond yes-part no-part) last))))
+    followed (read-part one (mid + other) mid) (λ no-part last. got (IfElse at (at + 9) c yes-part no-part) last))))
 
 -- a While: one 4-byte length, a comparison, the part
 unfoldable pub read-while : One → List ℕ → ℕ → ℕ → Read Code
 read-while one bs e at =
     let size = number-at 4 bs (at + 1) in
-    followed (read-ocmp bs e (at + 5)) (λ cond next.
+    followed (read-ocmp bs e (at + 5)) (λ c next.
     unless (ltb (e - next) size) 6 at
-    (followed (read-part one (next + size) next) (λ body last. got (While at (at + 5) cond body) last)))
+    (followed (read-part one (next + size) next) (λ body last. got (While at (at + 5) c body) last)))
 
 -- a structure, by its kind
 unfoldable pub read-structure : One → List ℕ → ℕ → ℕ → Read Code
@@ -109,7 +109,7 @@ read-body one bs e at =
     (read-with is-code (Ins at (ins-at bs at)) bs e at)
     (with-body bs e at (read-structure one bs e at))
 
--- a code, of which d more may nest; 5 where one stands too deep
+-- a code where d levels are left, its own counted; 5 where none is
 unfoldable pub read-code : ℕ → List ℕ → One
 read-code zero bs e at = with-kind is-code bs e at (trouble 5 at)
 read-code (suc d) bs e at = with-kind is-code bs e at (read-body (read-code d bs) bs e at)

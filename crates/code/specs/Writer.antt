@@ -86,11 +86,9 @@ unfoldable mutual
   bytes-of-code (IfElse p q c a b) =
       0x21
       ∷ bytes-of 4 (length (bytes-of-code a))
-      ++ bytes-of 4 (length (bytes-of-code b))
-      ++ bytes-of-ocmp c
-      ++ bytes-of-code a
-      ++ bytes-of-code b
-  bytes-of-code (While p q c b) = 0x22 ∷ bytes-of 4 (length (bytes-of-code b)) ++ bytes-of-ocmp c ++ bytes-of-code b
+      ++ (bytes-of 4 (length (bytes-of-code b)) ++ (bytes-of-ocmp c ++ (bytes-of-code a ++ bytes-of-code b)))
+  bytes-of-code (While p q c b) =
+      0x22 ∷ bytes-of 4 (length (bytes-of-code b)) ++ (bytes-of-ocmp c ++ bytes-of-code b)
 
   -- codes in a row
   pub bytes-of-codes : Codes → List ℕ
@@ -112,3 +110,17 @@ unfoldable mutual
   pub PlacedAll : ℕ → Codes → Type 0
   PlacedAll at ⟨⟩ = Unit {0}
   PlacedAll at (c ∷ᶜ cs) = PlacedAt at c × PlacedAll (at + length (bytes-of-code c)) cs
+
+unfoldable mutual
+  -- the same code with the places where its records land from `at` on
+  pub place-code : ℕ → Code → Code
+  place-code at (Ins p i) = Ins at i
+  place-code at (Block p cs) = Block at (place-codes (at + 5) cs)
+  place-code at (IfElse p q c a b) =
+      IfElse at (at + 9) c (place-code (at + 9 + length (bytes-of-ocmp c)) a)
+      (place-code (at + 9 + length (bytes-of-ocmp c) + length (bytes-of-code a)) b)
+  place-code at (While p q c b) = While at (at + 5) c (place-code (at + 5 + length (bytes-of-ocmp c)) b)
+
+  pub place-codes : ℕ → Codes → Codes
+  place-codes at ⟨⟩ = ⟨⟩
+  place-codes at (c ∷ᶜ cs) = place-code at c ∷ᶜ place-codes (at + length (bytes-of-code c)) cs

@@ -1,24 +1,28 @@
--- The three demands, whole, of Running: of `run-of`, which the contract of `run` names.
+-- The three demands, whole, of Running: of `run-of`, which the contract of `run` names. `Claim` says of which inputs they hold.
 use Prim.Native.Nat.{ℕ}
 use mathlib.Core.Path.{_≡_}
 use mathlib.Core.List.{List}
 use lib.IntN.{ℤ}
-use lib.ListN.{length, getD}
-use Rattle.machine.specs.Cells.{Verdict, check-cells}
-use Rattle.machine.specs.Cells.{accepted as accepts, refused as refuses}
+use lib.ListN.{length}
+use Rattle.machine.specs.Registers.{IsState}
+use Rattle.machine.specs.Cells.{Verdict, accepted, check-cells}
+use Rattle.machine.specs.Cells.{refused as cells-refused}
 use Rattle.machine.specs.Memory.{Memory, LoadsMem64}
 use Rattle.machine.specs.Bytes.{ByteMemory, Agree}
-use Rattle.code.specs.Tree.{Code}
+use Rattle.machine.specs.declared.State.{State}
+use Rattle.code.specs.Tree.{Instruction, Code}
 use Rattle.code.specs.Reader.{got, parse, check-code}
-use Rattle.eval.specs.Config.{Env, Config, End, ends, done, refused}
+use Rattle.code.specs.WellFormed.{Bytes}
+use Rattle.eval.specs.Config.{Env, Config, config, End, ends, done, fault, refused}
+use Rattle.eval.specs.Steps.{run-ins}
 use Rattle.eval.specs.Running.{run-of}
-use Rattle.stores.specs.Stores.{make, stores-of, completed}
-use Rattle.stores.specs.First.{To64}
-use Rattle.source.specs.Demand2.{IntToNat64, Agrees}
-use Rattle.bytemachine.specs.Third.{ThirdOf}
+use Rattle.stores.specs.OnlyStores.{OnlyStores}
+use Rattle.source.specs.Text.{Text}
+use Rattle.source.specs.Correspondence.{IntToNat64, Corresponds, Correspondence}
+use Rattle.bytemachine.specs.Follows.{FollowsOf}
 
 module _ (code : List ℕ) (env : Env) (fuel : ℕ) (s : Config) where
-  -- what Running gives
+  -- what Running gives: a total function, so every run ends, and `run` is proved to return it
   abbrev pub ran : End
   ran = run-of code env fuel s
 
@@ -26,39 +30,45 @@ module _ (code : List ℕ) (env : Env) (fuel : ℕ) (s : Config) where
   abbrev pub cells : Verdict
   cells = check-cells (env .addresses) (env .tags) (s .values)
 
-  -- the cells of a run of code c. Addresses and tags are constant: they stand in `env`, and no end has others
-  pub record Kept (c : Code) : Type 0 where
-    -- the end values are the values as lent with the stores of the completed instructions, in order, and nothing else
-    pub made : ran .config .values ≡ make (stores-of env (completed env c fuel s)) (s .values)
-    -- each store is to a 64-bit cell, so the value of a cell of another tag never changes
-    pub to-64 : To64 (env .tags) (stores-of env (completed env c fuel s))
-    pub others : (i : ℕ) → (getD (env .tags) i 0 ≡ 64 → ⊥) → getD (ran .config .values) i 0 ≡ getD (s .values) i 0
-    pub as-many : length (ran .config .values) ≡ length (s .values)
-
-  -- the first demand
+  -- the first demand. Addresses and tags are constant in a run: they stand in `env`, and no end has others
   pub record Demand1 : Type 0 where
     -- bad code is refused with the number and place of its check, then bad cells; start and cells are as they were
-    pub bad-code : (n p : ℕ) → check-code code ≡ refuses n p → ran ≡ ends (refused n p) s
-    pub bad-cells : (n i : ℕ) → check-code code ≡ accepts → cells ≡ refuses n i → ran ≡ ends (refused n i) s
+    pub bad-code : (n p : ℕ) → check-code code ≡ cells-refused n p → ran ≡ ends (refused n p) s
+    pub bad-cells : (n i : ℕ) → check-code code ≡ accepted → cells ≡ cells-refused n i → ran ≡ ends (refused n i) s
     -- nothing else is refused: accepted code is read to a tree, and runs over accepted cells
-    pub runs : check-code code ≡ accepts → cells ≡ accepts → (n p : ℕ) (t : Config) → ran ≡ ends (refused n p) t → ⊥
-    pub is-read : check-code code ≡ accepts → (c : Code) × (parse code ≡ got c (length code))
+    pub runs : check-code code ≡ accepted → cells ≡ accepted → (n p : ℕ) (t : Config) → ran ≡ ends (refused n p) t → ⊥
+    pub is-read : check-code code ≡ accepted → (c : Code) × (parse code ≡ got c (length code))
     -- a value changes only by the store of an instruction that completed
-    pub kept : (c : Code) → parse code ≡ got c (length code) → cells ≡ accepts → Kept c
+    pub only-stores : (c : Code) → parse code ≡ got c (length code) → cells ≡ accepted → OnlyStores env c fuel s (ran .config .values)
+    -- an instruction that faults has written nothing
+    pub fault-writes-nothing : (p : ℕ) (i : Instruction) (u t : Config) (n q : ℕ) → run-ins env p i u ≡ ends (fault n q) t → t ≡ u
 
-  -- the second demand: run and source say the same of the tree that was read (`Agrees`), for every `load_mem64` and `int_to_nat64` that meet their clauses
+  -- the second demand
   pub record Demand2 : Type 0 where
-    pub agrees : (load-mem64 : ℤ → Memory → ℕ) → LoadsMem64 load-mem64 → (int-to-nat64 : ℤ → ℕ) → IntToNat64 int-to-nat64
-        → (c : Code) → parse code ≡ got c (length code) → cells ≡ accepts → Agrees load-mem64 int-to-nat64 env c s fuel ran
-    -- a run that is done, a fault or spent is one of code that was read and of accepted cells
-    pub judged : ((n p : ℕ) → ran .how ≡ refused n p → ⊥) → (c : Code) × (parse code ≡ got c (length code)) × (cells ≡ accepts)
+    -- run and source say the same of the tree that was read, for every `load_mem64` and `int_to_nat64` that meet their clauses
+    pub corresponds : (load-mem64 : ℤ → Memory → ℕ) → LoadsMem64 load-mem64 → (int-to-nat64 : ℤ → ℕ) → IntToNat64 int-to-nat64
+        → (c : Code) → parse code ≡ got c (length code) → cells ≡ accepted → Corresponds load-mem64 int-to-nat64 env c s fuel ran
+    -- a run that is not refused is one of code that was read and of accepted cells
+    pub judged : ((n p : ℕ) → ran .how ≡ refused n p → ⊥) → (c : Code) × (parse code ≡ got c (length code)) × (cells ≡ accepted)
+    -- the log is the source's, ok stays clear, and some `load_mem64` and `int_to_nat64` meet their clauses
+    pub correspondence : Correspondence
+    -- the source is F*'s text, where it is written another way
+    pub text : (load-mem64 : ℤ → Memory → ℕ) (int-to-nat64 : ℤ → ℕ) (fill : ℕ) → Text load-mem64 int-to-nat64 fill
 
-  -- the third demand: the byte machine over every memory that agrees with the cells as lent, beside every Done run
+  -- the third demand
   pub record Demand3 : Type 0 where
-    pub machine : (t : Config) (m : ByteMemory) → Agree (env .addresses) (env .tags) (s .values) m → ran ≡ ends done t
-        → ThirdOf code env fuel s t m
+    -- the byte machine over every memory that agrees with the cells as lent, beside every Done run
+    pub follows : (t : Config) (m : ByteMemory) → Agree (env .addresses) (env .tags) (s .values) m → ran ≡ ends done t
+        → FollowsOf code env fuel s t m
 
+  -- all three
   pub record Demands : Type 0 where
     pub demand1 : Demand1
     pub demand2 : Demand2
     pub demand3 : Demand3
+
+-- they hold of every run: code is bytes and a start is a state, which every value of the parameters' types is
+abbrev pub Claim : Type 0
+Claim =
+    (code : List ℕ) (env : Env) (fuel : ℕ) (start : State) (values : List ℕ) → Bytes code → IsState start
+    → Demands code env fuel (config start values)

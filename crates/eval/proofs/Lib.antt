@@ -1,1 +1,10 @@
+pub mod Ranges
+pub mod OperandLaws
+pub mod StepLaws
+pub mod LaneLaws
+pub mod InsLaws
+pub mod ComparisonLaws
+pub mod CycleLaws
+pub mod RunLaws
+pub mod InputLaws
 pub mod Fuel

@@ -2,3 +2,10 @@ pub mod Config
 pub mod Flags
 pub mod Steps
 pub mod Running
+pub mod Found
+pub mod Lent
+pub mod Stepped
+pub mod Families
+pub mod Comparing
+pub mod Coded
+pub mod Inputs

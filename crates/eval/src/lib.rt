@@ -1,7 +1,18 @@
 // Running: the evaluator of accepted code over lent cells.
 
 mod answer;
+mod arithmetic;
+mod comparison;
+mod cycle;
+mod instruction;
+mod lanes;
+mod operand;
+mod products;
+mod running;
+mod step;
+mod twos;
 
 pub use answer::Answer;
 pub use answer::Run;
 pub use answer::Setting;
+pub use running::run;

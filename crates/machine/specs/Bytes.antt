@@ -6,7 +6,7 @@ use mathlib.Core.List.{List, [], _∷_}
 use lib.Dec.{ltb}
 use lib.IntN.{ℤ, pos, negsuc}
 
--- one byte at every address below 2^64
+-- one byte at every address below 2^64; what stands from there on is neither read nor written
 abbrev pub ByteMemory : Type 0
 ByteMemory = ℕ → ℕ
 

@@ -25,7 +25,7 @@ use Rattle.eval.specs.Steps as Run
 use Rattle.source.specs.Source as Source
 use Rattle.source.specs.Source.{State, St, put}
 use Rattle.source.specs.Log.{Note, Noted, _>>=_, _>>_, quiet, get, check, check-imm, amount, update-operand-preserve-flags, update-operand, note-ins}
-use Rattle.source.specs.Demand2.{IntToNat64, state-of}
+use Rattle.source.specs.Correspondence.{IntToNat64, state-of}
 use Rattle.source.proofs.OperandLaws.{Held, valid-operand-is, valid-dst-is, dst-read, update-is, update-held, eval-operand-is}
 
 -- the number of the first check that failed

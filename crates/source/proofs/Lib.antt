@@ -1,7 +1,6 @@
-pub mod Recursion
-pub mod Subtraction
+pub mod Text
 pub mod Erase
 pub mod OperandLaws
 pub mod Instructions
 pub mod Codes
-pub mod Demand2
+pub mod Correspondence

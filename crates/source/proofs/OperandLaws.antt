@@ -18,7 +18,7 @@ use Rattle.eval.specs.Config.{Env, Config}
 use Rattle.eval.specs.Steps as Run
 use Rattle.source.specs.Source as Source
 use Rattle.source.specs.Source.{with-mem}
-use Rattle.source.specs.Demand2.{IntToNat64, state-of}
+use Rattle.source.specs.Correspondence.{IntToNat64, state-of}
 
 -- every cell has a value
 abbrev pub Held : Env → Config → Type 0

@@ -1,4 +1,4 @@
 pub mod Source
-pub mod Recursion
+pub mod Text
 pub mod Log
-pub mod Demand2
+pub mod Correspondence

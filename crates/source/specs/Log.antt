@@ -91,10 +91,11 @@ update-operand-preserve-flags dst v = do
   s ← get
   quiet (put (update-operand-preserve-flags′ dst v s))
 
--- events, then those of what follows
+-- events, and the state that is returned, if any
 abbrev pub Logged : Type 0
 Logged = List Event × Option State
 
+-- events, then those of what follows
 abbrev pub after : List Event → Logged → Logged
 after log m = (log ++ m .0, m .1)
 

@@ -1,2 +1,2 @@
 pub mod Made
-pub mod Demand
+pub mod OnlyStores

@@ -14,10 +14,10 @@ use Rattle.code.specs.Tree.{Instruction, Mov64, Add64, AddLea64, AddCarry64, Ad
 use Rattle.eval.specs.Config.{Env, Config, with-flags, End, ends, Outcome, done, fault, spent, refused, continue, check, choose}
 use Rattle.eval.specs.Steps.{cell-of, update-operand, write, write-xmm, run-mulx, run-ins, valid-ocmp, eval-ocmp}
 use Rattle.eval.specs.Running.{run-ocmp, rounds, run-code, run-codes}
-use Rattle.stores.specs.Stores.{Store, make, to-cell, store, stores, stores-of, Completed, behind, way, completed, completed-all, completed-rounds}
+use Rattle.stores.specs.Stores.{Store, with-stores, to-cell, store, stores, stores-of, Completed, behind, way, completed, completed-all, completed-rounds}
 
-pub make-append : (a b : List Store) (vs : List ℕ) → make (a ++ b) vs ≡ make b (make a vs)
-unfolding make
+pub make-append : (a b : List Store) (vs : List ℕ) → with-stores (a ++ b) vs ≡ with-stores b (with-stores a vs)
+unfolding with-stores
 make-append [] b vs = refl
 make-append (w ∷ a) b vs = make-append a b (set vs (w .index) (w .value))
 
@@ -31,10 +31,10 @@ NotRefused (refused n p) = ⊥
 -- an end that is done has made the stores ws from s on, and any other is s
 pub record Made (ws : List Store) (s : Config) (e : End) : Type 0 where
   pub judged : NotRefused (e .how)
-  pub all : e .how ≡ done → e .config .values ≡ make ws (s .values)
+  pub all : e .how ≡ done → e .config .values ≡ with-stores ws (s .values)
   pub nothing : (e .how ≡ done → ⊥) → e .config ≡ s
 
-made-done : (ws : List Store) (s t : Config) → t .values ≡ make ws (s .values) → Made ws s (ends done t)
+made-done : (ws : List Store) (s t : Config) → t .values ≡ with-stores ws (s .values) → Made ws s (ends done t)
 made-done ws s t h = record { judged = tt; all = λ e. h; nothing = λ f. absurd (f refl) }
 
 made-check : {ws : List Store} {s : Config} {k : End} (b : Bool) (n p : ℕ) → Made ws s k → Made ws s (check b n p s k)
@@ -43,13 +43,13 @@ made-check true n p h = h
 made-check false n p h = record { judged = tt; all = λ e. absurd (let z : _≡_ {A = ℕ} 0 1 = cc in omega arith); nothing = λ f. refl }
 
 module _ (env : Env) where
-  stored : (o : Operand) (v : ℕ) (s : Config) → update-operand env o v s .values ≡ make (store env o v s) (s .values)
-  unfolding update-operand store to-cell make
+  stored : (o : Operand) (v : ℕ) (s : Config) → update-operand env o v s .values ≡ with-stores (store env o v s) (s .values)
+  unfolding update-operand store to-cell with-stores
   stored (OConst n) v s = refl
   stored (OReg r) v s = refl
   stored (OMem m) v s = go (cell-of env m s)
     where
-      go : (k : Option ℕ) → set-cell (s .values) k v ≡ make (to-cell k v) (s .values)
+      go : (k : Option ℕ) → set-cell (s .values) k v ≡ with-stores (to-cell k v) (s .values)
       go none = refl
       go (some i) = refl
 
@@ -63,14 +63,14 @@ module _ (env : Env) where
   made-mulx p dst-hi dst-lo hi lo s =
       let t = update-operand env dst-lo lo s in
       made-check _ 32 p (made-check _ 32 p (made-done _ s _
-      (stored dst-hi hi t ∙ ap (make (store env dst-hi hi t)) (stored dst-lo lo s) ∙ sym (make-append (store env dst-lo lo s) (store env dst-hi hi t) (s .values)))))
+      (stored dst-hi hi t ∙ ap (with-stores (store env dst-hi hi t)) (stored dst-lo lo s) ∙ sym (make-append (store env dst-lo lo s) (store env dst-hi hi t) (s .values)))))
 
   made-xmm : (x : ℕ) (q : Four ℕ) (flags : ℕ) (s : Config) → Made [] s (write-xmm env x q flags s)
-  unfolding make
+  unfolding with-stores
   made-xmm x q flags s = made-done [] s _ refl
 
   pub made-ins : (p : ℕ) (i : Instruction) (s : Config) → Made (stores env i s) s (run-ins env p i s)
-  unfolding run-ins stores make
+  unfolding run-ins stores with-stores
   made-ins p (Mov64 dst src) s = made-check _ 31 p (made-write p dst _ _ s)
   made-ins p (Add64 dst src) s = made-check _ 31 p (made-write p dst _ _ s)
   made-ins p (AddLea64 dst src1 src2) s = made-check _ 31 p (made-check _ 31 p (made-write p dst _ _ s))
@@ -103,18 +103,18 @@ module _ (env : Env) where
       ap (λ l. stores env (d .instruction) (d .before) ++ l) (stores-of-append a b)
       ∙ sym (append-assoc (stores env (d .instruction) (d .before)) (stores-of env a) (stores-of env b))
 
-  make-both : (a b : List Completed) (vs : List ℕ) → make (stores-of env (a ++ b)) vs ≡ make (stores-of env b) (make (stores-of env a) vs)
+  make-both : (a b : List Completed) (vs : List ℕ) → with-stores (stores-of env (a ++ b)) vs ≡ with-stores (stores-of env b) (with-stores (stores-of env a) vs)
   make-both a b vs = rw (stores-of-append a b) (make-append (stores-of env a) (stores-of env b) vs)
 
   -- a run that is not refused, and whose end values are the values vs with the stores of the instructions l
   pub record Traced (vs : List ℕ) (l : List Completed) (e : End) : Type 0 where
     pub judged : NotRefused (e .how)
-    pub made : e .config .values ≡ make (stores-of env l) vs
+    pub made : e .config .values ≡ with-stores (stores-of env l) vs
 
   traced-one : (d : Completed) (vs : List ℕ) (o : Outcome) (t : Config) → NotRefused o
-      → (o ≡ done → t .values ≡ make (stores env (d .instruction) (d .before)) vs) → ((o ≡ done → ⊥) → t .values ≡ vs)
+      → (o ≡ done → t .values ≡ with-stores (stores env (d .instruction) (d .before)) vs) → ((o ≡ done → ⊥) → t .values ≡ vs)
       → Traced vs (behind o (d ∷ [])) (ends o t)
-  unfolding behind stores-of make
+  unfolding behind stores-of with-stores
   traced-one d vs done t j f g =
       record { judged = tt; made = f refl ∙ sym (make-append (stores env (d .instruction) (d .before)) [] vs) }
   traced-one d vs (fault n p) t j f g = record { judged = tt; made = g (λ e. let z : _≡_ {A = ℕ} 0 1 = cc in omega arith) }
@@ -123,9 +123,9 @@ module _ (env : Env) where
 
   traced-behind : (vs : List ℕ) (l : List Completed) (o : Outcome) (t : Config) (k : Config → End) (m : Config → List Completed)
       → Traced vs l (ends o t) → Traced (t .values) (m t) (k t) → Traced vs (l ++ behind o (m t)) (continue o t k)
-  unfolding behind continue stores-of make
+  unfolding behind continue stores-of with-stores
   traced-behind vs l done t k m h g =
-      record { judged = g .judged; made = g .made ∙ ap (make (stores-of env (m t))) (h .made) ∙ sym (make-both l (m t) vs) }
+      record { judged = g .judged; made = g .made ∙ ap (with-stores (stores-of env (m t))) (h .made) ∙ sym (make-both l (m t) vs) }
   traced-behind vs l (fault n p) t k m h g = record { judged = tt; made = h .made ∙ sym (make-both l [] vs) }
   traced-behind vs l (spent p) t k m h g = record { judged = tt; made = h .made ∙ sym (make-both l [] vs) }
   traced-behind vs l (refused n p) t k m h g = absurd (h .judged)
@@ -133,7 +133,7 @@ module _ (env : Env) where
   traced-way : (q : ℕ) (c : Ocmp) (f g : Config → End) (l m : Config → List Completed) (s : Config)
       → ((t : Config) → Traced (t .values) (l t) (f t)) → ((t : Config) → Traced (t .values) (m t) (g t))
       → Traced (s .values) (way (valid-ocmp env c s) (eval-ocmp env c s) l m (with-flags (env .fill) s)) (run-ocmp env q c f g s)
-  unfolding run-ocmp check choose way stores-of make
+  unfolding run-ocmp check choose way stores-of with-stores
   traced-way q c f g l m s F G = go (valid-ocmp env c s) (eval-ocmp env c s)
     where
       go : (a b : Bool) → Traced (s .values) (way a b l m (with-flags (env .fill) s)) (check a 31 q s (choose b f g (with-flags (env .fill) s)))
@@ -144,7 +144,7 @@ module _ (env : Env) where
   traced-rounds : (body : ℕ → Config → End) (inside : ℕ → Config → List Completed) (p q : ℕ) (c : Ocmp)
       → ((f : ℕ) (t : Config) → Traced (t .values) (inside f t) (body f t))
       → (f : ℕ) (s : Config) → Traced (s .values) (completed-rounds env body inside c f s) (rounds env body p q c f s)
-  unfolding rounds completed-rounds stores-of make
+  unfolding rounds completed-rounds stores-of with-stores
   traced-rounds body inside p q c h zero s = record { judged = tt; made = refl }
   traced-rounds body inside p q c h (suc f) s =
       traced-way q c _ _ _ _ s
@@ -153,7 +153,7 @@ module _ (env : Env) where
       (λ t. record { judged = tt; made = refl })
 
   mutual
-    unfolding run-code run-codes completed completed-all stores-of make
+    unfolding run-code run-codes completed completed-all stores-of with-stores
 
     pub traced : (c : Code) (f : ℕ) (s : Config) → Traced (s .values) (completed env c f s) (run-code env c f s)
     traced (Ins p i) f s =

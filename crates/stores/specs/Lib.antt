@@ -1,2 +1,2 @@
 pub mod Stores
-pub mod First
+pub mod OnlyStores

@@ -22,9 +22,9 @@ pub record Store : Type 0 where
   pub value : ℕ
 
 -- values with stores made to them, in order
-unfoldable pub make : List Store → List ℕ → List ℕ
-make [] vs = vs
-make (w ∷ ws) vs = make ws (set vs (w .index) (w .value))
+unfoldable pub with-stores : List Store → List ℕ → List ℕ
+with-stores [] vs = vs
+with-stores (w ∷ ws) vs = with-stores ws (set vs (w .index) (w .value))
 
 -- the store of v to the cell that was found
 unfoldable pub to-cell : Option ℕ → ℕ → List Store

@@ -1,0 +1,28 @@
+use borrow.Author.Needs.{needs}
+use Rattle.eval.proofs.arithmetic.overflow_addition.Statement.{statement}
+use Rattle.eval.proofs.arithmetic.overflow_addition.Tie as tie
+use Rattle.eval.proofs.arithmetic.overflow_addition.Reads as reads
+use Rattle.eval.proofs.arithmetic.overflow_addition.Lts as lts
+use Rattle.words.proofs.overflow.Reads as overflow-reads
+use Rattle.words.proofs.update_of.Reads as update-of-reads
+use Rattle.words.proofs.add64.Reads as add64-reads
+
+-- src/arithmetic.rt:54:27
+overflow-requires : tie.Need-overflow-requires
+overflow-requires c κs = search needs
+
+-- src/arithmetic.rt:54:9
+add64-requires : tie.Need-add64-requires
+add64-requires c κs = search needs
+
+-- src/arithmetic.rt:57:16
+update-of-requires : tie.Need-update-of-requires
+update-of-requires c κs = search needs
+
+-- src/arithmetic.rt:51:1
+returns : tie.Need-returns
+returns c = record { word-is = rw (← c .before .before .overflow .ensures) (c .before .add64 .ensures .word-is); flags-is = rw (← c .before .before .overflow .ensures, ← c .before .add64 .ensures .carry-is) (c .update-of .ensures) }
+
+pub overflow-addition-spec : {M : Type 1} → statement M
+overflow-addition-spec =
+    tie.close (tie.spec overflow-requires add64-requires update-of-requires returns)

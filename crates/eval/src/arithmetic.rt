@@ -1,0 +1,102 @@
+// The words and flags of the instructions of a destination and a source.
+ghost use mathlib.Core.Path.{_≡_};
+ghost use mathlib.Core.Bool.{true, false};
+ghost use Prim.Native.Nat.{_+_};
+ghost use Rattle.words.specs.Bits.{bit};
+ghost use Rattle.words.specs.Flags as Flags;
+ghost use Rattle.words.specs.Sums.{sum-mod, sum-carry};
+ghost use Rattle.eval.specs.Flags.{add-flags};
+ghost use Rattle.eval.specs.Families.{two-word, two-flags, IsEffect};
+use words::add64;
+use words::cf;
+use words::iand64;
+use words::ishl64;
+use words::ishr64;
+use words::ixor64;
+use words::mul_mod;
+use words::overflow;
+use words::sub64;
+use words::update_cf;
+use words::update_of;
+
+// What an instruction writes to its destination and to the flags.
+pub struct Effect {
+    pub word: u64,
+    pub flags: u64,
+}
+
+// Add64 and AddCarry64.
+fn addition(fill: u64, flags: u64, a: u64, b: u64, carry: bool) -> Effect
+    ensures { λ r. ⌜ IsEffect (sum-mod 64 (a + b + bit carry)) (add-flags fill flags a b (bit carry)) r ⌝ }
+{
+    let sum = add64(a, b, carry);
+    Effect {
+        word: sum.word,
+        flags: update_cf(flags, sum.carry),
+    }
+}
+
+// Adcx64.
+fn carry_addition(flags: u64, a: u64, b: u64) -> Effect
+    ensures { λ r. ⌜ IsEffect (sum-mod 64 (a + b + bit (Flags.cf flags))) (Flags.update-cf flags (sum-carry 64 (a + b + bit (Flags.cf flags)))) r ⌝ }
+{
+    let sum = add64(a, b, cf(flags));
+    Effect {
+        word: sum.word,
+        flags: update_cf(flags, sum.carry),
+    }
+}
+
+// Adox64.
+fn overflow_addition(flags: u64, a: u64, b: u64) -> Effect
+    ensures { λ r. ⌜ IsEffect (sum-mod 64 (a + b + bit (Flags.overflow flags))) (Flags.update-of flags (sum-carry 64 (a + b + bit (Flags.overflow flags)))) r ⌝ }
+{
+    let sum = add64(a, b, overflow(flags));
+    Effect {
+        word: sum.word,
+        flags: update_of(flags, sum.carry),
+    }
+}
+
+// The flags of Xor64.
+fn cleared(fill: u64) -> u64
+    ensures { λ r. ⌜ r ≡ Flags.update-cf (Flags.update-of fill false) false ⌝ }
+{
+    update_cf(update_of(fill, false), false)
+}
+
+pub fn effect_of(kind: u8, fill: u64, flags: u64, a: u64, b: u64) -> Effect
+    ensures { λ r. ⌜ IsEffect (two-word kind flags a b) (two-flags kind fill flags a b) r ⌝ }
+{
+    match kind {
+        0x01 => Effect { word: b, flags },
+        0x02 => addition(fill, flags, a, b, false),
+        0x04 => addition(fill, flags, a, b, cf(flags)),
+        0x05 => carry_addition(flags, a, b),
+        0x06 => overflow_addition(flags, a, b),
+        0x07 => Effect {
+            word: sub64(a, b).word,
+            flags: fill,
+        },
+        0x0a => Effect {
+            word: mul_mod(a, b),
+            flags: fill,
+        },
+        0x0b => Effect {
+            word: ixor64(a, b),
+            flags: cleared(fill),
+        },
+        0x0c => Effect {
+            word: iand64(a, b),
+            flags: fill,
+        },
+        0x0d => Effect {
+            word: ishr64(a, b),
+            flags: fill,
+        },
+        _ => Effect {
+            word: ishl64(a, b),
+            flags: fill,
+        },
+    }
+}

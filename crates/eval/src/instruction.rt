@@ -1,0 +1,69 @@
+// One instruction, by its kind: in two levels, so that each stays small.
+ghost use Prim.Native.Nat.{ℕ, _≤_};
+ghost use lib.ListN.{length, getD};
+ghost use Rattle.code.specs.Records.{is-ins, ins-at};
+ghost use Rattle.code.specs.Spells.{Stands};
+ghost use Rattle.eval.specs.Steps.{run-ins};
+ghost use Rattle.eval.specs.Lent.{environment, held, Cells};
+ghost use Rattle.eval.specs.Stepped.{Ran};
+use crate::lanes::extract;
+use crate::lanes::insert;
+use crate::lanes::shift_by_word;
+use crate::lanes::shift_words;
+use crate::lanes::shuffle;
+use crate::lanes::two_quads;
+use crate::products::multiply;
+use crate::products::multiply_into;
+use crate::step::Step;
+use crate::twos::add_lea;
+use crate::twos::two_operands;
+
+fn lane_instruction(
+    code: &[u8],
+    at: usize,
+    fill: u64,
+    regs: &mut [u64; 16],
+    xmms: &mut [u32; 64],
+    flags: &mut u64,
+    addresses: &[u64],
+    tags: &[u8],
+    values: &mut [u64],
+) -> Step
+    requires { ⌜ ((e : ℕ) × Stands is-ins (now code) at e × (e ≤ length (now code))) ⌝ }
+    requires { ⌜ 0x0f ≤ getD (now code) at 0 ⌝ }
+    requires { ⌜ Cells (now addresses) (now tags) (now values) ⌝ }
+    ensures { λ r. ⌜ ((e : ℕ) → Stands is-ins (now (code .entry)) at e → Ran (run-ins (environment (now (addresses .entry)) (now (tags .entry)) fill) at (ins-at (now (code .entry)) at) (held (now (regs .entry)) (now (xmms .entry)) (now (flags .entry)) (now (values .entry)))) e r (held (now (regs .exit)) (now (xmms .exit)) (now (flags .exit)) (now (values .exit)))) ⌝ }
+{
+    match code[at] {
+        0x11 | 0x12 => shift_words(code, at, xmms),
+        0x13 => shuffle(code, at, xmms),
+        0x15 => extract(code, at, regs, xmms, addresses, tags, values),
+        0x16 | 0x17 => insert(code, at, regs, xmms, addresses, tags, values),
+        0x18 => shift_by_word(code, at, xmms),
+        _ => two_quads(code, at, fill, xmms, flags),
+    }
+}
+
+pub fn instruction(
+    code: &[u8],
+    at: usize,
+    fill: u64,
+    regs: &mut [u64; 16],
+    xmms: &mut [u32; 64],
+    flags: &mut u64,
+    addresses: &[u64],
+    tags: &[u8],
+    values: &mut [u64],
+) -> Step
+    requires { ⌜ ((e : ℕ) × Stands is-ins (now code) at e × (e ≤ length (now code))) ⌝ }
+    requires { ⌜ Cells (now addresses) (now tags) (now values) ⌝ }
+    ensures { λ r. ⌜ ((e : ℕ) → Stands is-ins (now (code .entry)) at e → Ran (run-ins (environment (now (addresses .entry)) (now (tags .entry)) fill) at (ins-at (now (code .entry)) at) (held (now (regs .entry)) (now (xmms .entry)) (now (flags .entry)) (now (values .entry)))) e r (held (now (regs .exit)) (now (xmms .exit)) (now (flags .exit)) (now (values .exit)))) ⌝ }
+{
+    match code[at] {
+        0x03 => add_lea(code, at, regs, addresses, tags, values),
+        0x08 => multiply(code, at, fill, regs, flags, addresses, tags, values),
+        0x09 => multiply_into(code, at, regs, addresses, tags, values),
+        0x0f..=0x18 => lane_instruction(code, at, fill, regs, xmms, flags, addresses, tags, values),
+        _ => two_operands(code, at, fill, regs, flags, addresses, tags, values),
+    }
+}

@@ -1,0 +1,100 @@
+// Products of two words, in two words: Rax and Rdx, or two destinations.
+ghost use mathlib.Core.Path.{_≡_};
+ghost use mathlib.Core.List.{List};
+ghost use Prim.Native.Nat.{ℕ, _+_};
+ghost use Rattle.code.specs.Tree.{Mul64, Mulx64};
+ghost use Rattle.code.specs.Records.{operand-at};
+ghost use Rattle.code.specs.Records as Records;
+ghost use Rattle.eval.specs.Steps.{run-ins};
+ghost use Rattle.eval.specs.Lent.{environment, held, Cells, OperandsFrom};
+ghost use Rattle.eval.specs.Stepped.{Ran};
+use crate::operand::behind;
+use crate::operand::put;
+use crate::operand::source;
+use crate::operand::target;
+use crate::step::Step;
+use machine::Reg;
+use words::mul_wide;
+
+pub fn multiply(
+    code: &[u8],
+    at: usize,
+    fill: u64,
+    regs: &mut [u64; 16],
+    flags: &mut u64,
+    addresses: &[u64],
+    tags: &[u8],
+    values: &[u64],
+) -> Step
+    requires { ⌜ OperandsFrom 1 (now code) (at + 1) ⌝ }
+    requires { ⌜ Cells (now addresses) (now tags) (now values) ⌝ }
+    ensures { λ r. ⌜ ((xmms : List ℕ) → Ran (run-ins (environment (now (addresses .entry)) (now (tags .entry)) fill) at (Mul64 (operand-at (now (code .entry)) (at + 1))) (held (now (regs .entry)) xmms (now (flags .entry)) (now (values .entry)))) (Records.behind (now (code .entry)) (at + 1)) r (held (now (regs .exit)) xmms (now (flags .exit)) (now (values .entry)))) ⌝ }
+{
+    let src = source(code, at + 1, regs, addresses, tags, values);
+    if !src.found {
+        return Step {
+            number: 31,
+            place: at,
+        };
+    }
+    let rax = Reg::RAX;
+    let rdx = Reg::RDX;
+    let low = rax.number as usize;
+    let high = rdx.number as usize;
+    let product = mul_wide(regs[low], src.word);
+    regs[low] = product.low;
+    regs[high] = product.high;
+    *flags = fill;
+    Step {
+        number: 0,
+        place: src.next,
+    }
+}
+
+// The low half is written, and the high destination is resolved in the state after that: where it is
+// invalid, the old word goes back.
+pub fn multiply_into(
+    code: &[u8],
+    at: usize,
+    regs: &mut [u64; 16],
+    addresses: &[u64],
+    tags: &[u8],
+    values: &mut [u64],
+) -> Step
+    requires { ⌜ OperandsFrom 3 (now code) (at + 1) ⌝ }
+    requires { ⌜ Cells (now addresses) (now tags) (now values) ⌝ }
+    ensures { λ r. ⌜ ((fill flags : ℕ) (xmms : List ℕ) → Ran (run-ins (environment (now (addresses .entry)) (now (tags .entry)) fill) at (Mulx64 (operand-at (now (code .entry)) (at + 1)) (operand-at (now (code .entry)) (Records.behind (now (code .entry)) (at + 1))) (operand-at (now (code .entry)) (Records.behind (now (code .entry)) (Records.behind (now (code .entry)) (at + 1))))) (held (now (regs .entry)) xmms flags (now (values .entry)))) (Records.behind (now (code .entry)) (Records.behind (now (code .entry)) (Records.behind (now (code .entry)) (at + 1)))) r (held (now (regs .exit)) xmms flags (now (values .exit)))) ⌝ }
+{
+    let second = behind(code, at + 1);
+    let low = target(code, second, regs, addresses, tags, values);
+    let src = source(code, low.next, regs, addresses, tags, values);
+    if !src.found {
+        return Step {
+            number: 31,
+            place: at,
+        };
+    }
+    if !low.valid {
+        return Step {
+            number: 32,
+            place: at,
+        };
+    }
+    let rdx = Reg::RDX;
+    let from = rdx.number as usize;
+    let product = mul_wide(regs[from], src.word);
+    put(low, product.low, regs, values);
+    let high = target(code, at + 1, regs, addresses, tags, values);
+    if !high.valid {
+        put(low, low.word, regs, values);
+        return Step {
+            number: 32,
+            place: at,
+        };
+    }
+    put(high, product.high, regs, values);
+    Step {
+        number: 0,
+        place: src.next,
+    }
+}

@@ -1,0 +1,80 @@
+// Running: code and cells are checked, and then the state's arrays are lent to the evaluator's cycle.
+ghost use mathlib.Core.Path.{_≡_};
+ghost use Rattle.eval.specs.Config.{config, outcome, end-of};
+ghost use Rattle.eval.specs.Stepped.{how};
+ghost use Rattle.eval.specs.Lent.{environment};
+ghost use Rattle.eval.specs.Running.{run-of};
+ghost use Rattle.eval.specs.Inputs.{IsInput};
+use crate::answer::Answer;
+use crate::answer::Run;
+use crate::answer::Setting;
+use crate::cycle::eval_code;
+use crate::step::Step;
+use code::check_code;
+use machine::Checked;
+use machine::State;
+use machine::check_cells;
+
+fn answer_of(step: Step) -> Answer
+    ensures { λ r. ⌜ outcome r ≡ how step ⌝ }
+{
+    let number = step.number;
+    let place = step.place;
+    if number == 0 {
+        return Answer::Done;
+    }
+    if number == 1 {
+        return Answer::Spent(place);
+    }
+    Answer::Fault(number, place)
+}
+
+// The state is copied in and out once, since a copy at each call would cost more than an instruction.
+pub fn run(
+    code: &[u8],
+    addresses: &[u64],
+    tags: &[u8],
+    values: &mut [u64],
+    start: State,
+    setting: Setting,
+) -> Run
+    ensures { λ r. ⌜ end-of r (now (values .exit)) ≡ run-of (now (code .entry)) (environment (now (addresses .entry)) (now (tags .entry)) (setting .fill)) (setting .fuel) (config start (now (values .entry))) ⌝ }
+    ensures { λ _. ⌜ IsInput (now (code .entry)) start setting ⌝ }
+{
+    let checked = check_code(code);
+    if let Checked::Refused(number, place) = checked {
+        let answer = Answer::Refused(number, place);
+        return Run {
+            answer,
+            state: start,
+        };
+    }
+    let cells = check_cells(addresses, tags, values);
+    if let Checked::Refused(number, index) = cells {
+        let answer = Answer::Refused(number, index);
+        return Run {
+            answer,
+            state: start,
+        };
+    }
+    let mut regs = start.regs;
+    let mut xmms = start.xmms;
+    let mut flags = start.flags;
+    let fuel = setting.fuel;
+    let fill = setting.fill;
+    let step = eval_code(
+        code,
+        0,
+        fuel,
+        fill,
+        &mut regs,
+        &mut xmms,
+        &mut flags,
+        addresses,
+        tags,
+        values,
+    );
+    let answer = answer_of(step);
+    let state = State { regs, xmms, flags };
+    Run { answer, state }
+}

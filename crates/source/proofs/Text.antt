@@ -1,0 +1,76 @@
+-- The text where Source is written another way: each equation is a clause of the definitions, with `choose` read as a condition and a carry of 0
+-- left out. The difference of words: where b is the larger, 2^64 is added once.
+use Prim.Native.Nat.{ℕ, zero, suc, _+_, _-_, _%_, _^_, _<_, _≤_}
+use mathlib.Core.Path.{_≡_, refl, ap, fun-ext}
+use mathlib.Core.Bool.{Bool, true, false, not, cond}
+use mathlib.Core.Option.{Option, some}
+use native.Mathlib.Nat.{add-zero}
+use native.Mathlib.Omega.{arith}
+use borrow.Author.Tests.{ltb-true, ltb-false}
+use lib.Dec.{ltb, leb}
+use lib.IntN.{ℤ, pos, negsuc, subℕ, _-ℤ_}
+use Rattle.words.specs.Sums.{sum-carry, sub-mod}
+use Rattle.words.specs.Flags.{update-cf}
+use Rattle.machine.specs.Bytes.{wrap}
+use Rattle.machine.specs.declared.Operand.{Operand}
+use Rattle.code.specs.Tree.{Add64, AddCarry64}
+use Rattle.eval.specs.Flags.{add-flags}
+use Rattle.machine.specs.Memory.{Memory}
+use Rattle.source.specs.Source.{State, choose, if-some, eval-ins, eval-while, eval-code, eval-codes}
+use Rattle.source.specs.Text.{Text, add64-text, add-carry64-text}
+
+choose-is : {A B : Type 0} (b : Bool) (f g : A → B) (a : A) → choose b f g a ≡ cond b (f a) (g a)
+unfolding choose
+choose-is true f g a = refl
+choose-is false f g a = refl
+
+round-is : (b : Bool) (o : State → Option State) (w : State → Option State) (s : State)
+    → choose b (λ u. if-some (o u) (λ s1. choose (s1 .ok) w some s1)) some s
+    ≡ cond (not b) (some s) (if-some (o s) (λ s1. cond (s1 .ok) (w s1) (some s1)))
+unfolding choose
+round-is true o w s = ap (if-some (o s)) (fun-ext (λ s1. choose-is (s1 .ok) w some s1))
+round-is false o w s = refl
+
+-- a sum with no carry in
+no-carry : (fill flags a b : ℕ) → add-flags fill flags a b 0 ≡ update-cf flags (leb (2 ^ 64) (a + b))
+unfolding add-flags sum-carry
+no-carry fill flags a b = rw (add-zero (a + b))
+
+difference : (a b : ℕ) → a < 2 ^ 64 → b < 2 ^ 64 → sub-mod 64 a b ≡ wrap (subℕ a b)
+unfolding sub-mod wrap
+difference a b h k = go (ltb a b) refl
+  where
+    go : (x : Bool) → ltb a b ≡ x → (a + (2 ^ 64 - b)) % 2 ^ 64 ≡ wrap (subℕ a b)
+    go true e = let l : a < b = ltb-true a b e in rw e (omega arith)
+    go false e = let l : b ≤ a = ltb-false a b e in rw e (omega arith)
+
+difference-of : (a b : ℕ) → a < 2 ^ 64 → b < 2 ^ 64 → sub-mod 64 a b ≡ wrap (pos a -ℤ pos b)
+unfolding sub-mod wrap
+difference-of a zero h k = omega arith
+difference-of a (suc b) h k = difference a (suc b) h k
+
+module _ (load-mem64 : ℤ → Memory → ℕ) (int-to-nat64 : ℤ → ℕ) (fill : ℕ) where
+  ins-add : (dst src : Operand) → eval-ins load-mem64 int-to-nat64 fill (Add64 dst src) ≡ add64-text load-mem64 int-to-nat64 fill dst src
+  unfolding eval-ins
+  ins-add dst src = simp no-carry
+
+  ins-add-carry : (dst src : Operand)
+      → eval-ins load-mem64 int-to-nat64 fill (AddCarry64 dst src) ≡ add-carry64-text load-mem64 int-to-nat64 fill dst src
+  unfolding eval-ins add-flags sum-carry
+  ins-add-carry dst src = refl
+
+  pub text : Text load-mem64 int-to-nat64 fill
+  unfolding eval-code eval-codes eval-while
+  text = record {
+    ins-add = ins-add;
+    ins-add-carry = ins-add-carry;
+    difference = difference-of;
+    code-ins = λ p ins fuel s. refl;
+    code-block = λ p l fuel s. refl;
+    code-if-else = λ p q c ifTrue ifFalse fuel s. choose-is _ _ _ _;
+    code-while = λ p q b c fuel s. refl;
+    codes-nil = λ fuel s. refl;
+    codes-cons = λ c tl fuel s. refl;
+    while-zero = λ b c s0. refl;
+    while-suc = λ b c fuel s0. round-is _ _ _ _;
+  }
