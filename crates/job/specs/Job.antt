@@ -1,10 +1,13 @@
 -- The job program: what it prints of the bytes that it reads.
-use Prim.Native.Nat.{ℕ, zero, suc, _+_, _*_}
+use Prim.Native.Nat.{ℕ, zero, suc, _+_, _*_, _≤_}
 use mathlib.Core.Bool.{cond}
-use mathlib.Core.List.{List, [], _∷_}
+use mathlib.Core.Path.{_≡_}
+use mathlib.Core.List.{List, [], _∷_, _++_}
 use lib.Dec.{ltb}
-use lib.ListN.{length, getD, drop}
-use Rattle.code.specs.Records.{byte-at, number-at}
+use lib.ListN.{length, drop}
+use Rattle.machine.specs.Cells.{Verdict}
+use Rattle.machine.specs.Cells.{accepted as job-accepted, refused as job-refused}
+use Rattle.code.specs.Records.{number-at}
 use Rattle.eval.specs.Config.{Env, Config, End, ends, refused}
 use Rattle.eval.specs.Running.{run-of}
 use Rattle.job.specs.Text.{render}
@@ -46,19 +49,48 @@ start-of bs =
 abbrev pub code-at : List ℕ → ℕ
 code-at bs = 406 + 17 * count-of bs
 
--- what refuses a job before it runs: number and place 0
-abbrev pub turn-away : ℕ → List ℕ → End
-turn-away n bs = ends (refused n 0) (start-of bs)
+-- Checking a job: 42, 41, 12, 41 in this order, all at place 0
+unfoldable pub check-job : List ℕ → Verdict
+check-job bs =
+    cond (ltb 34198 (length bs)) (job-refused 42 0)
+    (cond (ltb (length bs) 406) (job-refused 41 0)
+    (cond (ltb 1024 (count-of bs)) (job-refused 12 0)
+    (cond (ltb (length bs) (code-at bs)) (job-refused 41 0) job-accepted)))
 
--- the end of a job: 42, 41, 12, 41 in this order, then the run's
-unfoldable pub end-of-job : List ℕ → End
-end-of-job bs =
-    cond (ltb 34198 (length bs)) (turn-away 42 bs)
-    (cond (ltb (length bs) 406) (turn-away 41 bs)
-    (cond (ltb 1024 (count-of bs)) (turn-away 12 bs)
-    (cond (ltb (length bs) (code-at bs)) (turn-away 41 bs)
-    (run-of (drop (code-at bs) bs) (env-of bs) (fuel-of bs) (start-of bs)))))
+-- a job that has its header, no more cells than may be, and the cells whole
+pub record Complete (bs : List ℕ) : Type 0 where
+  pub header : 406 ≤ length bs
+  pub few : count-of bs ≤ 1024
+  pub cells : code-at bs ≤ length bs
+
+-- the end of an accepted job: the run's
+abbrev pub run-of-job : List ℕ → End
+run-of-job bs = run-of (drop (code-at bs) bs) (env-of bs) (fuel-of bs) (start-of bs)
+
+-- the end of a job that was checked
+unfoldable pub end-checked : Verdict → List ℕ → End
+end-checked job-accepted bs = run-of-job bs
+end-checked (job-refused n p) bs = ends (refused n p) (start-of bs)
+
+-- the end of a job
+abbrev pub end-of-job : List ℕ → End
+end-of-job bs = end-checked (check-job bs) bs
+
+-- what is printed of an end of a job
+abbrev pub printed : List ℕ → End → List ℕ
+printed bs e = render (env-of bs .addresses) (env-of bs .tags) e
 
 -- what the job program prints
 unfoldable pub output : List ℕ → List ℕ
-output bs = render (env-of bs .addresses) (env-of bs .tags) (end-of-job bs)
+output bs = printed bs (end-of-job bs)
+
+-- the lent lists after a job: an accepted one leaves its cells at the front, one that is turned away nothing
+unfoldable pub lent-list : Verdict → List ℕ → List ℕ → List ℕ
+lent-list job-accepted xs l = xs ++ drop (length xs) l
+lent-list (job-refused n p) xs l = l
+
+-- what a job leaves in the lent lists: addresses and tags as read, values as the run leaves them
+pub record Lists (bs addresses tags values addresses′ tags′ values′ : List ℕ) : Type 0 where
+  pub of-addresses : addresses′ ≡ lent-list (check-job bs) (env-of bs .addresses) addresses
+  pub of-tags : tags′ ≡ lent-list (check-job bs) (env-of bs .tags) tags
+  pub of-values : values′ ≡ lent-list (check-job bs) (run-of-job bs .config .values) values

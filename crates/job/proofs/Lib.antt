@@ -1,0 +1,7 @@
+pub mod Writing
+pub mod Digits
+pub mod Choices
+pub mod Rests
+pub mod Numbers
+pub mod Checking
+pub mod Outputs

@@ -1,0 +1,118 @@
+-- Each variant writes its word, its number where it has one, and its place.
+use native.Mathlib.Omega.{arith}
+use Rattle.job.proofs.Writing.{_▸_, spelled, looser}
+use Rattle.job.proofs.Choices.{line-done, line-fault, line-spent, line-refused}
+use borrow.Author.Needs.{needs}
+use Rattle.job.proofs.lines.put_answer.Statement.{statement}
+use Rattle.job.proofs.lines.put_answer.Tie as tie
+
+enum-told : tie.Need-enum-told
+enum-told c = search needs
+
+slice-aggregate-put-word : tie.Need-slice-aggregate-put-word
+slice-aggregate-put-word c = search needs
+
+put-word-requires : tie.Need-put-word-requires
+put-word-requires c κs = search needs
+
+enum-known-answer : tie.Need-enum-known-answer
+enum-known-answer c = search needs
+
+slice-aggregate-put-word-2 : tie.Need-slice-aggregate-put-word-2
+slice-aggregate-put-word-2 c = search needs
+
+put-word-requires-2 : tie.Need-put-word-requires-2
+put-word-requires-2 c κs = search needs
+
+cast-put-field : tie.Need-cast-put-field
+cast-put-field c = search needs
+
+put-field-requires : tie.Need-put-field-requires
+put-field-requires c κs = search needs
+
+put-place-requires : tie.Need-put-place-requires
+put-place-requires c κs = search needs
+
+enum-known-answer-2 : tie.Need-enum-known-answer-2
+enum-known-answer-2 c = search needs
+
+slice-aggregate-put-word-3 : tie.Need-slice-aggregate-put-word-3
+slice-aggregate-put-word-3 c = search needs
+
+put-word-requires-3 : tie.Need-put-word-requires-3
+put-word-requires-3 c κs = search needs
+
+put-place-requires-2 : tie.Need-put-place-requires-2
+put-place-requires-2 c κs = search needs
+
+enum-known-answer-3 : tie.Need-enum-known-answer-3
+enum-known-answer-3 c = search needs
+
+slice-aggregate-put-word-4 : tie.Need-slice-aggregate-put-word-4
+slice-aggregate-put-word-4 c = search needs
+
+put-word-requires-4 : tie.Need-put-word-requires-4
+put-word-requires-4 c κs = search needs
+
+cast-put-field-2 : tie.Need-cast-put-field-2
+cast-put-field-2 c = search needs
+
+put-field-requires-2 : tie.Need-put-field-requires-2
+put-field-requires-2 c κs = search needs
+
+put-place-requires-3 : tie.Need-put-place-requires-3
+put-place-requires-3 c κs = search needs
+
+returns : tie.Need-returns
+returns c =
+    looser (omega arith) (spelled (line-done (c .before .before .before .enum-told .given .1)) (c .put-word .ensures))
+
+returns-2 : tie.Need-returns-2
+returns-2 c =
+    let number = c .before .before in
+    let word = number .before .before in
+    let told = word .before .before .before in
+    looser (omega arith) (spelled (line-fault _ _ (told .before .answer .given .1))
+    (word .put-word2 .ensures ▸ number .put-field .ensures ▸ c .put-place .ensures))
+
+returns-3 : tie.Need-returns-3
+returns-3 c =
+    let word = c .before .before in
+    let told = word .before .before .before in
+    looser (omega arith) (spelled (line-spent _ (told .before .answer2 .given .1)) (word .put-word3 .ensures ▸ c .put-place2 .ensures))
+
+returns-4 : tie.Need-returns-4
+returns-4 c =
+    let number = c .before .before in
+    let word = number .before .before in
+    let told = word .before .before .before in
+    spelled (line-refused _ _ (told .before .answer3 .given .1))
+    (word .put-word4 .ensures ▸ number .put-field2 .ensures ▸ c .put-place3 .ensures)
+
+pub put-answer-spec : {M : Type 1} → statement M
+put-answer-spec =
+    tie.close
+    (tie.spec
+    enum-told
+    slice-aggregate-put-word
+    put-word-requires
+    enum-known-answer
+    slice-aggregate-put-word-2
+    put-word-requires-2
+    cast-put-field
+    put-field-requires
+    put-place-requires
+    enum-known-answer-2
+    slice-aggregate-put-word-3
+    put-word-requires-3
+    put-place-requires-2
+    enum-known-answer-3
+    slice-aggregate-put-word-4
+    put-word-requires-4
+    cast-put-field-2
+    put-field-requires-2
+    put-place-requires-3
+    returns
+    returns-2
+    returns-3
+    returns-4)

@@ -1,0 +1,86 @@
+-- In each turn the first i numbers are read, and the next one stands i steps behind the first.
+use Prim.Native.Nat.{_+_, _*_, _-_, _≤_, _<_}
+use mathlib.Core.Path.{_≡_, refl, sym, ap, _∙_}
+use native.Mathlib.Omega.{arith}
+use borrow.Author.Needs.{needs}
+use lib.ListN.{length, length-set}
+use Rattle.job.proofs.Numbers.{Got, got-none, got-more, got-all, steps-more, steps-within}
+use Rattle.code.specs.Records.{number-at}
+use Rattle.job.proofs.read.read_words.Statement.{statement}
+use Rattle.job.proofs.read.read_words.Tie as tie
+
+abbrev Inv-loop : tie.InvT-loop
+Inv-loop input from step to₀ at₀ i₀ to at i =
+    (i ≤ length to₀) × (length to ≡ length to₀) × (at ≡ from + step * i) × Got 8 step input from i to
+
+abbrev μ-loop : tie.MeasureT-loop
+μ-loop input from step to₀ at₀ i₀ to at i = length to₀ - i
+
+loop-holds : tie.Need-loop-holds Inv-loop μ-loop
+loop-holds c = (omega arith, refl, omega arith, got-none 8 (c .before .before .args .step) (c .before .before .args .input .now) (c .before .before .args .from) (c .before .before .args .to .now))
+
+number8-requires : tie.Need-number8-requires Inv-loop μ-loop
+number8-requires c κs =
+    let args = c .before .before .before .before .args in
+    let inside : c .before .loop .i < length (args .to .now) = omega arith in
+    let within = steps-within (args .step) inside in
+    omega arith
+
+mul-to : tie.Need-mul-to Inv-loop μ-loop
+mul-to c = search needs
+
+slice-write-to : tie.Need-slice-write-to Inv-loop μ-loop
+slice-write-to c = omega arith
+
+add-at : tie.Need-add-at Inv-loop μ-loop
+add-at c =
+    let args = c .before .before .before .before .before .args in
+    let inside : c .before .before .loop .i < length (args .to .now) = omega arith in
+    let within = steps-within (args .step) inside in
+    omega arith
+
+add-i : tie.Need-add-i Inv-loop μ-loop
+add-i c = omega arith
+
+loop-less : tie.Need-loop-less Inv-loop μ-loop
+loop-less c = omega arith
+
+loop-again : tie.Need-loop-again Inv-loop μ-loop
+loop-again c =
+    let args = c .before .before .before .before .before .args in
+    let loop = c .before .before .loop in
+    let inside : loop .i < length (loop .to) = omega arith in
+    let more = steps-more (args .step) (loop .i) in
+    let place : loop .at ≡ args .from + args .step * loop .i = loop .inv .2 in
+    let value = c .number8 .ensures ∙ ap (number-at 8 (args .input .now)) place in (
+      omega arith,
+      length-set (loop .to) (loop .i) (c .number8 .result) ∙ loop .inv .1,
+      omega arith,
+      got-more 8 (args .step) (args .input .now) (args .from) (loop .i) (loop .to) (loop .inv .3) inside value,
+    )
+
+same-length : tie.Need-same-length Inv-loop μ-loop
+same-length c = c .before .loop .inv .1
+
+returns : tie.Need-returns Inv-loop μ-loop
+returns c =
+    let args = c .before .before .before .before .args in
+    let loop = c .before .loop in
+    got-all 8 (args .step) (args .input .now) (args .from) (loop .i) (length (args .to .now)) (loop .to) (loop .inv .3) (omega arith) (omega arith)
+
+pub read-words-spec : {M : Type 1} → statement M
+read-words-spec =
+    tie.close
+    (tie.spec
+    Inv-loop
+    μ-loop
+    loop-holds
+    number8-requires
+    mul-to
+    slice-write-to
+    add-at
+    add-i
+    loop-less
+    loop-again
+    same-length
+    returns)

@@ -1,0 +1,36 @@
+-- The flags, the registers, the xmm and the cells follow each other.
+use Prim.Native.Nat.{_+_, _*_, _≤_}
+use lib.ListN.{length}
+use native.Mathlib.Omega.{arith}
+use Rattle.job.proofs.Writing.{_▸_, looser}
+use borrow.Author.Needs.{needs}
+use Rattle.job.proofs.render.put_end.Statement.{statement}
+use Rattle.job.proofs.render.put_end.Tie as tie
+
+put-flags-requires : tie.Need-put-flags-requires
+put-flags-requires c κs = search needs
+
+put-regs-requires : tie.Need-put-regs-requires
+put-regs-requires c κs = search needs
+
+put-xmms-requires : tie.Need-put-xmms-requires
+put-xmms-requires c κs = search needs
+
+put-cells-requires : tie.Need-put-cells-requires
+put-cells-requires c κs = search needs
+
+returns : tie.Need-returns
+returns c =
+    let xmms = c .before .before in
+    let regs = xmms .before .before .before in
+    let flags = regs .before .before .before in
+    let start = flags .before .before .before .before .before .before .before in
+    let cells = length (start .args .addresses .now) in
+    let few : 2459 + 51 * cells ≤ 65483 = omega arith in
+    looser {m = 2459 + 51 * cells} few
+    (flags .put-flags .ensures ▸ regs .put-regs .ensures ▸ xmms .put-xmms .ensures ▸ c .put-cells .ensures)
+
+pub put-end-spec : {M : Type 1} → statement M
+put-end-spec =
+    tie.close
+    (tie.spec put-flags-requires put-regs-requires put-xmms-requires put-cells-requires returns)
