@@ -3,7 +3,7 @@
 use Prim.Native.Nat.{ℕ}
 use mathlib.Core.Path.{_≡_, refl}
 use mathlib.Core.Bool.{xor}
-use mathlib.Core.List.{List, [], _∷_}
+use mathlib.Core.List.{List, [], _∷_, _++_}
 use lib.ListN.{length, set, replicate}
 use Rattle.words.specs.Words.{nat-to-four, two-select, two-to-nat, four-select, four-insert}
 use Rattle.words.specs.Bits.{to-vec, from-vec, map2, ixor, ishl}
@@ -20,6 +20,8 @@ use Rattle.code.specs.Reader.{got, followed, with-fields, read-record, read-ope
 use Rattle.eval.specs.Config.{Env, Config, with-flags, with-values, End, ends, Outcome, done, fault, spent, continue, check, choose}
 use Rattle.eval.specs.Flags.{add-flags}
 use Rattle.eval.specs.Steps.{cell-of, valid-operand, eval-operand, valid-dst-operand, update-operand, run-mulx, run-ins, valid-ocmp, eval-ocmp}
+use Rattle.job.specs.Text.{digits, name-of, first-line, reg-lines, xmm-lines, cell-lines, render}
+use Rattle.job.specs.Job.{numbers, check-job, end-checked, output}
 use Rattle.eval.specs.Running.{run-ocmp, rounds, run-code, run-checked, run-read, run-of}
 
 -- what document 01 gives to a kernel, and the end that it names
@@ -153,3 +155,25 @@ job =
 pub job-holds : ends-of job ≡ named job
 unfolding ends-of named job ran
 job-holds = refl
+
+-- the same job as its 435 bytes: fuel, fill and flags; Rax and the other registers; the xmm words; one cell; the code
+pub job-bytes : List ℕ
+job-bytes =
+    replicate 20 0
+    ++ 0x05 ∷ replicate 127 0
+    ++ replicate 256 0
+    ++ 0x01 ∷ 0x00 ∷ []
+    ++ 0x00 ∷ 0x10 ∷ 0x00 ∷ 0x00 ∷ 0x00 ∷ 0x00 ∷ 0x00 ∷ 0x00 ∷ 64 ∷ 0x07 ∷ replicate 7 0
+    ++ 0x02 ∷ 0x42 ∷ 0x00 ∷ 0x10 ∷ 0x00 ∷ 0x00 ∷ 0x00 ∷ 0x00 ∷ 0x00 ∷ 0x00 ∷ 0x41 ∷ 0x00 ∷ []
+
+-- what it prints, in bytes: "done", "flags 0", "Rax 5" and "cell 4096 64 12", each with a line feed
+pub job-text : List ℕ
+job-text =
+    100 ∷ 111 ∷ 110 ∷ 101 ∷ 10 ∷ []
+    ++ 102 ∷ 108 ∷ 97 ∷ 103 ∷ 115 ∷ 32 ∷ 48 ∷ 10 ∷ []
+    ++ 82 ∷ 97 ∷ 120 ∷ 32 ∷ 53 ∷ 10 ∷ []
+    ++ 99 ∷ 101 ∷ 108 ∷ 108 ∷ 32 ∷ 52 ∷ 48 ∷ 57 ∷ 54 ∷ 32 ∷ 54 ∷ 52 ∷ 32 ∷ 49 ∷ 50 ∷ 10 ∷ []
+
+pub job-prints : output job-bytes ≡ job-text
+unfolding ran job-bytes job-text output check-job end-checked numbers render first-line reg-lines xmm-lines cell-lines name-of digits
+job-prints = refl
