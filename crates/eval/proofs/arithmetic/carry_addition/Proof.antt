@@ -1,3 +1,4 @@
+-- Word and carry are those of the sum with the old carry.
 use Rattle.words.specs.Bits.{bit}
 use borrow.Author.Needs.{needs}
 use Rattle.eval.proofs.arithmetic.carry_addition.Statement.{statement}
@@ -8,19 +9,15 @@ use Rattle.words.proofs.cf.Reads as cf-reads
 use Rattle.words.proofs.update_cf.Reads as update-cf-reads
 use Rattle.words.proofs.add64.Reads as add64-reads
 
--- src/arithmetic.rt:43:27
 cf-requires : tie.Need-cf-requires
 cf-requires c κs = search needs
 
--- src/arithmetic.rt:43:9
 add64-requires : tie.Need-add64-requires
 add64-requires c κs = search needs
 
--- src/arithmetic.rt:46:16
 update-cf-requires : tie.Need-update-cf-requires
 update-cf-requires c κs = search needs
 
--- src/arithmetic.rt:40:1
 returns : tie.Need-returns
 returns c = record { word-is = rw (← c .before .before .cf .ensures) (c .before .add64 .ensures .word-is); flags-is = rw (← c .before .before .cf .ensures, ← c .before .add64 .ensures .carry-is) (c .update-cf .ensures) }
 

@@ -1,3 +1,4 @@
+-- Carry and overflow of the fill word are cleared in turn.
 use mathlib.Core.Bool.{false}
 use mathlib.Core.Path.{ap, _∙_}
 use Rattle.words.specs.Flags.{update-cf}
@@ -9,15 +10,12 @@ use Rattle.eval.proofs.arithmetic.cleared.Lts as lts
 use Rattle.words.proofs.update_cf.Reads as update-cf-reads
 use Rattle.words.proofs.update_of.Reads as update-of-reads
 
--- src/arithmetic.rt:65:15
 update-of-requires : tie.Need-update-of-requires
 update-of-requires c κs = search needs
 
--- src/arithmetic.rt:65:5
 update-cf-requires : tie.Need-update-cf-requires
 update-cf-requires c κs = search needs
 
--- src/arithmetic.rt:62:1
 returns : tie.Need-returns
 returns c = c .update-cf .ensures ∙ ap (λ f. update-cf f false) (c .before .update-of .ensures)
 

@@ -1,3 +1,4 @@
+-- Each arm is the word and the flags of its kind.
 use mathlib.Core.Path.{_∙_}
 use borrow.Author.Tests.{ne-eqb}
 use Rattle.eval.specs.Families.{two-word, two-flags}
@@ -19,105 +20,82 @@ use Rattle.words.proofs.cf.Reads as cf-reads
 use Rattle.words.proofs.mul_mod.Reads as mul-mod-reads
 use Rattle.words.proofs.sub64.Reads as sub64-reads
 
--- src/arithmetic.rt:73:17
 addition-requires : tie.Need-addition-requires
 addition-requires c κs = search needs
 
--- src/arithmetic.rt:74:45
 cf-requires : tie.Need-cf-requires
 cf-requires c κs = search needs
 
--- src/arithmetic.rt:74:17
 addition-requires-2 : tie.Need-addition-requires-2
 addition-requires-2 c κs = search needs
 
--- src/arithmetic.rt:75:17
 carry-addition-requires : tie.Need-carry-addition-requires
 carry-addition-requires c κs = search needs
 
--- src/arithmetic.rt:76:17
 overflow-addition-requires : tie.Need-overflow-addition-requires
 overflow-addition-requires c κs = search needs
 
--- src/arithmetic.rt:78:19
 sub64-requires : tie.Need-sub64-requires
 sub64-requires c κs = search needs
 
--- src/arithmetic.rt:82:19
 mul-mod-requires : tie.Need-mul-mod-requires
 mul-mod-requires c κs = search needs
 
--- src/arithmetic.rt:86:19
 ixor64-requires : tie.Need-ixor64-requires
 ixor64-requires c κs = search needs
 
--- src/arithmetic.rt:87:20
 cleared-requires : tie.Need-cleared-requires
 cleared-requires c κs = search needs
 
--- src/arithmetic.rt:90:19
 iand64-requires : tie.Need-iand64-requires
 iand64-requires c κs = search needs
 
--- src/arithmetic.rt:94:19
 ishr64-requires : tie.Need-ishr64-requires
 ishr64-requires c κs = search needs
 
--- src/arithmetic.rt:98:19
 ishl64-requires : tie.Need-ishl64-requires
 ishl64-requires c κs = search needs
 
--- src/arithmetic.rt:68:1
 returns : tie.Need-returns
 unfolding two-word two-flags
 returns c = record { word-is = rw (c .match .keys1); flags-is = rw (c .match .keys1) }
 
--- src/arithmetic.rt:68:1
 returns-2 : tie.Need-returns-2
 unfolding two-word two-flags
 returns-2 c = record { word-is = rw (c .before .match .keys2) (c .addition .ensures .word-is ∙ plus-none (c .before .before .args .a) (c .before .before .args .b)); flags-is = rw (c .before .match .keys2) (c .addition .ensures .flags-is) }
 
--- src/arithmetic.rt:68:1
 returns-3 : tie.Need-returns-3
 unfolding two-word two-flags
 returns-3 c = record { word-is = rw (c .before .before .match .keys3, ← c .before .cf .ensures) (c .addition2 .ensures .word-is); flags-is = rw (c .before .before .match .keys3, ← c .before .cf .ensures) (c .addition2 .ensures .flags-is) }
 
--- src/arithmetic.rt:68:1
 returns-4 : tie.Need-returns-4
 unfolding two-word two-flags
 returns-4 c = record { word-is = rw (c .before .match .keys4) (c .carry-addition .ensures .word-is); flags-is = rw (c .before .match .keys4) (c .carry-addition .ensures .flags-is) }
 
--- src/arithmetic.rt:68:1
 returns-5 : tie.Need-returns-5
 unfolding two-word two-flags
 returns-5 c = record { word-is = rw (c .before .match .keys5) (c .overflow-addition .ensures .word-is); flags-is = rw (c .before .match .keys5) (c .overflow-addition .ensures .flags-is) }
 
--- src/arithmetic.rt:68:1
 returns-6 : tie.Need-returns-6
 unfolding two-word two-flags
 returns-6 c = record { word-is = rw (c .before .match .keys6) (c .sub64 .ensures .word-is); flags-is = rw (c .before .match .keys6) }
 
--- src/arithmetic.rt:68:1
 returns-7 : tie.Need-returns-7
 unfolding two-word two-flags
 returns-7 c = record { word-is = rw (c .before .match .keys7) (c .mul-mod .ensures); flags-is = rw (c .before .match .keys7) }
 
--- src/arithmetic.rt:68:1
 returns-8 : tie.Need-returns-8
 unfolding two-word two-flags
 returns-8 c = record { word-is = rw (c .before .before .match .keys8) (c .before .ixor64 .ensures); flags-is = rw (c .before .before .match .keys8) (c .cleared .ensures) }
 
--- src/arithmetic.rt:68:1
 returns-9 : tie.Need-returns-9
 unfolding two-word two-flags
 returns-9 c = record { word-is = rw (c .before .match .keys9) (c .iand64 .ensures); flags-is = rw (c .before .match .keys9) }
 
--- src/arithmetic.rt:68:1
 returns-10 : tie.Need-returns-10
 unfolding two-word two-flags
 returns-10 c = record { word-is = rw (c .before .match .keys10) (c .ishr64 .ensures); flags-is = rw (c .before .match .keys10) }
 
--- src/arithmetic.rt:68:1
 returns-11 : tie.Need-returns-11
 unfolding two-word two-flags
 returns-11 c = let k = c .before .before .args .kind in let r = c .before .match .rest in record { word-is = rw (ne-eqb k 0x01 (r .0 .0 .0 .0 .0 .0 .0 .0 .0 .1), ne-eqb k 0x02 (r .0 .0 .0 .0 .0 .0 .0 .0 .1), ne-eqb k 0x04 (r .0 .0 .0 .0 .0 .0 .0 .1), ne-eqb k 0x05 (r .0 .0 .0 .0 .0 .0 .1), ne-eqb k 0x06 (r .0 .0 .0 .0 .0 .1), ne-eqb k 0x07 (r .0 .0 .0 .0 .1), ne-eqb k 0x0a (r .0 .0 .0 .1), ne-eqb k 0x0b (r .0 .0 .1), ne-eqb k 0x0c (r .0 .1), ne-eqb k 0x0d (r .1)) (c .ishl64 .ensures); flags-is = rw (ne-eqb k 0x01 (r .0 .0 .0 .0 .0 .0 .0 .0 .0 .1), ne-eqb k 0x02 (r .0 .0 .0 .0 .0 .0 .0 .0 .1), ne-eqb k 0x04 (r .0 .0 .0 .0 .0 .0 .0 .1), ne-eqb k 0x05 (r .0 .0 .0 .0 .0 .0 .1), ne-eqb k 0x06 (r .0 .0 .0 .0 .0 .1), ne-eqb k 0x0b (r .0 .0 .1)) }

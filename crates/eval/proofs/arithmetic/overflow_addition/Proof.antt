@@ -1,3 +1,4 @@
+-- Word and overflow are those of the sum with the old overflow.
 use borrow.Author.Needs.{needs}
 use Rattle.eval.proofs.arithmetic.overflow_addition.Statement.{statement}
 use Rattle.eval.proofs.arithmetic.overflow_addition.Tie as tie
@@ -7,19 +8,15 @@ use Rattle.words.proofs.overflow.Reads as overflow-reads
 use Rattle.words.proofs.update_of.Reads as update-of-reads
 use Rattle.words.proofs.add64.Reads as add64-reads
 
--- src/arithmetic.rt:54:27
 overflow-requires : tie.Need-overflow-requires
 overflow-requires c κs = search needs
 
--- src/arithmetic.rt:54:9
 add64-requires : tie.Need-add64-requires
 add64-requires c κs = search needs
 
--- src/arithmetic.rt:57:16
 update-of-requires : tie.Need-update-of-requires
 update-of-requires c κs = search needs
 
--- src/arithmetic.rt:51:1
 returns : tie.Need-returns
 returns c = record { word-is = rw (← c .before .before .overflow .ensures) (c .before .add64 .ensures .word-is); flags-is = rw (← c .before .before .overflow .ensures, ← c .before .add64 .ensures .carry-is) (c .update-of .ensures) }
 

@@ -1,3 +1,4 @@
+-- Each arm runs the instruction that its kind says stands there.
 use borrow.Author.Needs.{needs}
 use mathlib.Core.Logic.{⊎-elim}
 use mathlib.Core.Path.{refl}
@@ -16,67 +17,51 @@ use Rattle.eval.proofs.products.multiply_into.Reads as multiply-into-re
 use Rattle.eval.proofs.twos.add_lea.Reads as add-lea-reads
 use Rattle.eval.proofs.twos.two_operands.Reads as two-operands-reads
 
--- src/instruction.rt:62:11
 shared-slice-read-match : tie.Need-shared-slice-read-match
 shared-slice-read-match c = omega (arith, ins-inside (c .before .before .before .before .before .pre .0 .1), c .before .before .before .before .before .pre .0 .2)
 
--- src/instruction.rt:63:17
 add-lea-requires : tie.Need-add-lea-requires
 add-lea-requires c κs = let w = lea-stood (c .before .before .before .before .before .before .before .before .args .code .now) (c .before .before .before .before .before .before .before .before .args .at) (c .before .before .before .before .before .before .before .before .pre .0 .0) (c .before .before .before .before .before .before .before .before .pre .0 .1) (c .before .before .before .before .before .before .before .before .pre .0 .2) (c .before .before .match .keys1) in (w .operands, c .before .before .before .before .before .before .before .before .pre .1)
 
--- src/instruction.rt:64:17
 multiply-requires : tie.Need-multiply-requires
 multiply-requires c κs = let w = mul-stood (c .before .before .before .before .before .before .before .before .before .args .code .now) (c .before .before .before .before .before .before .before .before .before .args .at) (c .before .before .before .before .before .before .before .before .before .pre .0 .0) (c .before .before .before .before .before .before .before .before .before .pre .0 .1) (c .before .before .before .before .before .before .before .before .before .pre .0 .2) (c .before .before .before .match .keys2) in (w .operands, c .before .before .before .before .before .before .before .before .before .pre .1)
 
--- src/instruction.rt:65:17
 multiply-into-requires : tie.Need-multiply-into-requires
 multiply-into-requires c κs = let w = mulx-stood (c .before .before .before .before .before .before .before .before .args .code .now) (c .before .before .before .before .before .before .before .before .args .at) (c .before .before .before .before .before .before .before .before .pre .0 .0) (c .before .before .before .before .before .before .before .before .pre .0 .1) (c .before .before .before .before .before .before .before .before .pre .0 .2) (c .before .before .match .keys3) in (w .operands, c .before .before .before .before .before .before .before .before .pre .1)
 
--- src/instruction.rt:66:24
 lane-instruction-requires : tie.Need-lane-instruction-requires
 lane-instruction-requires c κs = (c .before .before .before .before .before .before .before .before .before .before .before .before .pre .0, (c .before .before .before .before .before .if1 .left, c .before .before .before .before .before .before .before .before .before .before .before .before .pre .1))
 
--- src/instruction.rt:67:14
 two-operands-requires : tie.Need-two-operands-requires
 two-operands-requires c κs = let m = ins-kinds (c .before .before .before .before .before .before .before .before .before .before .pre .0 .1) in let n : (getD (c .before .before .before .before .before .before .before .before .before .before .args .code .now) (c .before .before .before .before .before .before .before .before .before .before .args .at) 0) < 0x0f = ⊎-elim (λ w. w .taken) (λ w. absurd (omega (arith, w .1 .left, m .1))) (c .before .before .before .if1 .came) in let h = which-two (getD (c .before .before .before .before .before .before .before .before .before .before .args .code .now) (c .before .before .before .before .before .before .before .before .before .before .args .at) 0) (m .0) n (c .before .before .before .before .match .rest .0 .0 .1) (c .before .before .before .before .match .rest .0 .1) (c .before .before .before .before .match .rest .1) in let w = two-stood (c .before .before .before .before .before .before .before .before .before .before .args .code .now) (c .before .before .before .before .before .before .before .before .before .before .args .at) (c .before .before .before .before .before .before .before .before .before .before .pre .0 .0) (c .before .before .before .before .before .before .before .before .before .before .pre .0 .1) (c .before .before .before .before .before .before .before .before .before .before .pre .0 .2) (getD (c .before .before .before .before .before .before .before .before .before .before .args .code .now) (c .before .before .before .before .before .before .before .before .before .before .args .at) 0) (m .0) (omega arith) h refl in (w .operands, (h, c .before .before .before .before .before .before .before .before .before .before .pre .1))
 
--- src/instruction.rt:47:1
 same-length : tie.Need-same-length
 same-length c = search needs
 
--- src/instruction.rt:47:1
 returns : tie.Need-returns
 returns c = let w = lea-stood (c .before .before .before .before .before .before .before .before .before .before .before .args .code .now) (c .before .before .before .before .before .before .before .before .before .before .before .args .at) (c .before .before .before .before .before .before .before .before .before .before .before .pre .0 .0) (c .before .before .before .before .before .before .before .before .before .before .before .pre .0 .1) (c .before .before .before .before .before .before .before .before .before .before .before .pre .0 .2) (c .before .before .before .before .before .match .keys1) in ran-stood (c .before .before .before .before .before .before .before .before .before .before .before .args .code .now) (c .before .before .before .before .before .before .before .before .before .before .before .args .at) _ _ _ w (environment (c .before .before .before .before .before .before .before .before .before .before .before .args .addresses .now) (c .before .before .before .before .before .before .before .before .before .before .before .args .tags .now) (c .before .before .before .before .before .before .before .before .before .before .before .args .fill)) (held (c .before .before .before .before .before .before .before .before .before .before .before .args .regs .now) (c .before .before .before .before .before .before .before .before .before .before .before .args .xmms .now) (c .before .before .before .before .before .before .before .before .before .before .before .args .flags .now) (c .before .before .before .before .before .before .before .before .before .before .before .args .values .now)) _ (c .before .before .add-lea .result) (c .before .before .add-lea .ensures (c .before .before .before .before .before .before .before .before .before .before .before .args .fill) (c .before .before .before .before .before .before .before .before .before .before .before .args .flags .now) (c .before .before .before .before .before .before .before .before .before .before .before .args .xmms .now))
 
--- src/instruction.rt:47:1
 same-length-2 : tie.Need-same-length-2
 same-length-2 c = search needs
 
--- src/instruction.rt:47:1
 returns-2 : tie.Need-returns-2
 returns-2 c = let w = mul-stood (c .before .before .before .before .before .before .before .before .before .before .args .code .now) (c .before .before .before .before .before .before .before .before .before .before .args .at) (c .before .before .before .before .before .before .before .before .before .before .pre .0 .0) (c .before .before .before .before .before .before .before .before .before .before .pre .0 .1) (c .before .before .before .before .before .before .before .before .before .before .pre .0 .2) (c .before .before .before .before .match .keys2) in ran-stood (c .before .before .before .before .before .before .before .before .before .before .args .code .now) (c .before .before .before .before .before .before .before .before .before .before .args .at) _ _ _ w (environment (c .before .before .before .before .before .before .before .before .before .before .args .addresses .now) (c .before .before .before .before .before .before .before .before .before .before .args .tags .now) (c .before .before .before .before .before .before .before .before .before .before .args .fill)) (held (c .before .before .before .before .before .before .before .before .before .before .args .regs .now) (c .before .before .before .before .before .before .before .before .before .before .args .xmms .now) (c .before .before .before .before .before .before .before .before .before .before .args .flags .now) (c .before .before .before .before .before .before .before .before .before .before .args .values .now)) _ (c .multiply .result) (c .multiply .ensures (c .before .before .before .before .before .before .before .before .before .before .args .xmms .now))
 
--- src/instruction.rt:47:1
 same-length-3 : tie.Need-same-length-3
 same-length-3 c = search needs
 
--- src/instruction.rt:47:1
 returns-3 : tie.Need-returns-3
 returns-3 c = let w = mulx-stood (c .before .before .before .before .before .before .before .before .before .before .before .args .code .now) (c .before .before .before .before .before .before .before .before .before .before .before .args .at) (c .before .before .before .before .before .before .before .before .before .before .before .pre .0 .0) (c .before .before .before .before .before .before .before .before .before .before .before .pre .0 .1) (c .before .before .before .before .before .before .before .before .before .before .before .pre .0 .2) (c .before .before .before .before .before .match .keys3) in ran-stood (c .before .before .before .before .before .before .before .before .before .before .before .args .code .now) (c .before .before .before .before .before .before .before .before .before .before .before .args .at) _ _ _ w (environment (c .before .before .before .before .before .before .before .before .before .before .before .args .addresses .now) (c .before .before .before .before .before .before .before .before .before .before .before .args .tags .now) (c .before .before .before .before .before .before .before .before .before .before .before .args .fill)) (held (c .before .before .before .before .before .before .before .before .before .before .before .args .regs .now) (c .before .before .before .before .before .before .before .before .before .before .before .args .xmms .now) (c .before .before .before .before .before .before .before .before .before .before .before .args .flags .now) (c .before .before .before .before .before .before .before .before .before .before .before .args .values .now)) _ (c .before .before .multiply-into .result) (c .before .before .multiply-into .ensures (c .before .before .before .before .before .before .before .before .before .before .before .args .fill) (c .before .before .before .before .before .before .before .before .before .before .before .args .flags .now) (c .before .before .before .before .before .before .before .before .before .before .before .args .xmms .now))
 
--- src/instruction.rt:47:1
 same-length-4 : tie.Need-same-length-4
 same-length-4 c = search needs
 
--- src/instruction.rt:47:1
 returns-4 : tie.Need-returns-4
 returns-4 c = c .before .before .lane-instruction .ensures
 
--- src/instruction.rt:47:1
 same-length-5 : tie.Need-same-length-5
 same-length-5 c = search needs
 
--- src/instruction.rt:47:1
 returns-5 : tie.Need-returns-5
 returns-5 c = let m = ins-kinds (c .before .before .before .before .before .before .before .before .before .before .before .before .before .pre .0 .1) in let n : (getD (c .before .before .before .before .before .before .before .before .before .before .before .before .before .args .code .now) (c .before .before .before .before .before .before .before .before .before .before .before .before .before .args .at) 0) < 0x0f = ⊎-elim (λ w. w .taken) (λ w. absurd (omega (arith, w .1 .left, m .1))) (c .before .before .before .before .before .before .if1 .came) in let h = which-two (getD (c .before .before .before .before .before .before .before .before .before .before .before .before .before .args .code .now) (c .before .before .before .before .before .before .before .before .before .before .before .before .before .args .at) 0) (m .0) n (c .before .before .before .before .before .before .before .match .rest .0 .0 .1) (c .before .before .before .before .before .before .before .match .rest .0 .1) (c .before .before .before .before .before .before .before .match .rest .1) in let w = two-stood (c .before .before .before .before .before .before .before .before .before .before .before .before .before .args .code .now) (c .before .before .before .before .before .before .before .before .before .before .before .before .before .args .at) (c .before .before .before .before .before .before .before .before .before .before .before .before .before .pre .0 .0) (c .before .before .before .before .before .before .before .before .before .before .before .before .before .pre .0 .1) (c .before .before .before .before .before .before .before .before .before .before .before .before .before .pre .0 .2) (getD (c .before .before .before .before .before .before .before .before .before .before .before .before .before .args .code .now) (c .before .before .before .before .before .before .before .before .before .before .before .before .before .args .at) 0) (m .0) (omega arith) h refl in ran-stood (c .before .before .before .before .before .before .before .before .before .before .before .before .before .args .code .now) (c .before .before .before .before .before .before .before .before .before .before .before .before .before .args .at) _ _ _ w (environment (c .before .before .before .before .before .before .before .before .before .before .before .before .before .args .addresses .now) (c .before .before .before .before .before .before .before .before .before .before .before .before .before .args .tags .now) (c .before .before .before .before .before .before .before .before .before .before .before .before .before .args .fill)) (held (c .before .before .before .before .before .before .before .before .before .before .before .before .before .args .regs .now) (c .before .before .before .before .before .before .before .before .before .before .before .before .before .args .xmms .now) (c .before .before .before .before .before .before .before .before .before .before .before .before .before .args .flags .now) (c .before .before .before .before .before .before .before .before .before .before .before .before .before .args .values .now)) _ (c .before .before .two-operands .result) (c .before .before .two-operands .ensures (c .before .before .before .before .before .before .before .before .before .before .before .before .before .args .xmms .now))
 

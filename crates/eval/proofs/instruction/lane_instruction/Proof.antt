@@ -1,3 +1,4 @@
+-- Each arm runs the instruction that its kind says stands there.
 use borrow.Author.Needs.{needs}
 use mathlib.Core.Logic.{inl, inr, ⊎-elim}
 use mathlib.Core.Path.{refl}
@@ -16,63 +17,48 @@ use Rattle.eval.proofs.lanes.shift_words.Reads as shift-words-reads
 use Rattle.eval.proofs.lanes.shuffle.Reads as shuffle-reads
 use Rattle.eval.proofs.lanes.two_quads.Reads as two-quads-reads
 
--- src/instruction.rt:37:11
 shared-slice-read-match : tie.Need-shared-slice-read-match
 shared-slice-read-match c = omega (arith, ins-inside (c .before .before .before .before .before .pre .0 .1), c .before .before .before .before .before .pre .0 .2)
 
--- src/instruction.rt:39:17
 shuffle-requires : tie.Need-shuffle-requires
 shuffle-requires c κs = let w = shuffle-stood (c .before .before .before .before .before .before .before .args .code .now) (c .before .before .before .before .before .before .before .args .at) (c .before .before .before .before .before .before .before .pre .0 .0) (c .before .before .before .before .before .before .before .pre .0 .1) (c .before .before .before .before .before .before .before .pre .0 .2) (c .before .match .keys1) in (w .0 .stood .operands, (w .0 .first, w .1))
 
--- src/instruction.rt:40:17
 extract-requires : tie.Need-extract-requires
 extract-requires c κs = let w = extract-stood (c .before .before .before .before .before .before .before .before .before .args .code .now) (c .before .before .before .before .before .before .before .before .before .args .at) (c .before .before .before .before .before .before .before .before .before .pre .0 .0) (c .before .before .before .before .before .before .before .before .before .pre .0 .1) (c .before .before .before .before .before .before .before .before .before .pre .0 .2) (c .before .before .before .match .keys2) in (w .stood .operands, (w .first, c .before .before .before .before .before .before .before .before .before .pre .1 .1))
 
--- src/instruction.rt:42:17
 shift-by-word-requires : tie.Need-shift-by-word-requires
 shift-by-word-requires c κs = let w = word-shift-stood (c .before .before .before .before .before .before .before .args .code .now) (c .before .before .before .before .before .before .before .args .at) (c .before .before .before .before .before .before .before .pre .0 .0) (c .before .before .before .before .before .before .before .pre .0 .1) (c .before .before .before .before .before .before .before .pre .0 .2) (c .before .match .keys3) in (w .0 .stood .operands, (w .0 .first, w .1))
 
--- src/instruction.rt:38:24
 shift-words-requires : tie.Need-shift-words-requires
 shift-words-requires c κs = let w = shifts-stood (c .before .before .before .before .before .before .before .before .before .args .code .now) (c .before .before .before .before .before .before .before .before .before .args .at) (c .before .before .before .before .before .before .before .before .before .pre .0 .0) (c .before .before .before .before .before .before .before .before .before .pre .0 .1) (c .before .before .before .before .before .before .before .before .before .pre .0 .2) (getD (c .before .before .before .before .before .before .before .before .before .args .code .now) (c .before .before .before .before .before .before .before .before .before .args .at) 0) (c .before .before .if1 .left) (omega (arith, c .before .if2 .taken)) refl in (w .stood .operands, w .first)
 
--- src/instruction.rt:41:24
 insert-requires : tie.Need-insert-requires
 insert-requires c κs = let w = inserts-stood (c .before .before .before .before .before .before .before .before .before .before .before .before .before .args .code .now) (c .before .before .before .before .before .before .before .before .before .before .before .before .before .args .at) (c .before .before .before .before .before .before .before .before .before .before .before .before .before .pre .0 .0) (c .before .before .before .before .before .before .before .before .before .before .before .before .before .pre .0 .1) (c .before .before .before .before .before .before .before .before .before .before .before .before .before .pre .0 .2) (getD (c .before .before .before .before .before .before .before .before .before .before .before .before .before .args .code .now) (c .before .before .before .before .before .before .before .before .before .before .before .before .before .args .at) 0) (omega (arith, c .before .before .before .before .if3 .left, c .before .before .before .before .before .before .before .match .rest .0 .1)) (omega (arith, c .before .before .before .if4 .taken)) refl in (w .stood .operands, (w .first, c .before .before .before .before .before .before .before .before .before .before .before .before .before .pre .1 .1))
 
--- src/instruction.rt:43:14
 two-quads-requires : tie.Need-two-quads-requires
 two-quads-requires c κs = let w = quads-stood (c .before .before .before .before .before .before .before .before .before .args .code .now) (c .before .before .before .before .before .before .before .before .before .args .at) (c .before .before .before .before .before .before .before .before .before .pre .0 .0) (c .before .before .before .before .before .before .before .before .before .pre .0 .1) (c .before .before .before .before .before .before .before .before .before .pre .0 .2) (getD (c .before .before .before .before .before .before .before .before .before .args .code .now) (c .before .before .before .before .before .before .before .before .before .args .at) 0) refl (which-quads (getD (c .before .before .before .before .before .before .before .before .before .args .code .now) (c .before .before .before .before .before .before .before .before .before .args .at) 0) (c .before .before .before .before .before .before .before .before .before .pre .1 .0) (⊎-elim (λ w. inl (w .taken)) (λ v. ⊎-elim (λ w. inr (omega (arith, w .1 .left, w .2 .taken, c .before .before .before .match .rest .0 .0 .1))) (λ w. absurd (omega (arith, w .3 .left, c .before .before .before .match .rest .1, ins-kinds (c .before .before .before .before .before .before .before .before .before .pre .0 .1)))) v) (c .before .before .if1 .came))) in (w .0 .stood .operands, (w .0 .first, w .1))
 
--- src/instruction.rt:21:1
 returns : tie.Need-returns
 returns c = let w = shuffle-stood (c .before .before .before .before .before .before .before .before .args .code .now) (c .before .before .before .before .before .before .before .before .args .at) (c .before .before .before .before .before .before .before .before .pre .0 .0) (c .before .before .before .before .before .before .before .before .pre .0 .1) (c .before .before .before .before .before .before .before .before .pre .0 .2) (c .before .before .match .keys1) in ran-stood (c .before .before .before .before .before .before .before .before .args .code .now) (c .before .before .before .before .before .before .before .before .args .at) _ _ _ (w .0 .stood) (environment (c .before .before .before .before .before .before .before .before .args .addresses .now) (c .before .before .before .before .before .before .before .before .args .tags .now) (c .before .before .before .before .before .before .before .before .args .fill)) (held (c .before .before .before .before .before .before .before .before .args .regs .now) (c .before .before .before .before .before .before .before .before .args .xmms .now) (c .before .before .before .before .before .before .before .before .args .flags .now) (c .before .before .before .before .before .before .before .before .args .values .now)) _ (c .shuffle .result) (c .shuffle .ensures (environment (c .before .before .before .before .before .before .before .before .args .addresses .now) (c .before .before .before .before .before .before .before .before .args .tags .now) (c .before .before .before .before .before .before .before .before .args .fill)) (c .before .before .before .before .before .before .before .before .args .regs .now) (c .before .before .before .before .before .before .before .before .args .values .now) (c .before .before .before .before .before .before .before .before .args .flags .now))
 
--- src/instruction.rt:21:1
 same-length : tie.Need-same-length
 same-length c = search needs
 
--- src/instruction.rt:21:1
 returns-2 : tie.Need-returns-2
 returns-2 c = let w = extract-stood (c .before .before .before .before .before .before .before .before .before .before .before .before .args .code .now) (c .before .before .before .before .before .before .before .before .before .before .before .before .args .at) (c .before .before .before .before .before .before .before .before .before .before .before .before .pre .0 .0) (c .before .before .before .before .before .before .before .before .before .before .before .before .pre .0 .1) (c .before .before .before .before .before .before .before .before .before .before .before .before .pre .0 .2) (c .before .before .before .before .before .before .match .keys2) in ran-stood (c .before .before .before .before .before .before .before .before .before .before .before .before .args .code .now) (c .before .before .before .before .before .before .before .before .before .before .before .before .args .at) _ _ _ (w .stood) (environment (c .before .before .before .before .before .before .before .before .before .before .before .before .args .addresses .now) (c .before .before .before .before .before .before .before .before .before .before .before .before .args .tags .now) (c .before .before .before .before .before .before .before .before .before .before .before .before .args .fill)) (held (c .before .before .before .before .before .before .before .before .before .before .before .before .args .regs .now) (c .before .before .before .before .before .before .before .before .before .before .before .before .args .xmms .now) (c .before .before .before .before .before .before .before .before .before .before .before .before .args .flags .now) (c .before .before .before .before .before .before .before .before .before .before .before .before .args .values .now)) _ (c .before .before .extract .result) (c .before .before .extract .ensures (c .before .before .before .before .before .before .before .before .before .before .before .before .args .fill) (c .before .before .before .before .before .before .before .before .before .before .before .before .args .flags .now))
 
--- src/instruction.rt:21:1
 returns-3 : tie.Need-returns-3
 returns-3 c = let w = word-shift-stood (c .before .before .before .before .before .before .before .before .args .code .now) (c .before .before .before .before .before .before .before .before .args .at) (c .before .before .before .before .before .before .before .before .pre .0 .0) (c .before .before .before .before .before .before .before .before .pre .0 .1) (c .before .before .before .before .before .before .before .before .pre .0 .2) (c .before .before .match .keys3) in ran-stood (c .before .before .before .before .before .before .before .before .args .code .now) (c .before .before .before .before .before .before .before .before .args .at) _ _ _ (w .0 .stood) (environment (c .before .before .before .before .before .before .before .before .args .addresses .now) (c .before .before .before .before .before .before .before .before .args .tags .now) (c .before .before .before .before .before .before .before .before .args .fill)) (held (c .before .before .before .before .before .before .before .before .args .regs .now) (c .before .before .before .before .before .before .before .before .args .xmms .now) (c .before .before .before .before .before .before .before .before .args .flags .now) (c .before .before .before .before .before .before .before .before .args .values .now)) _ (c .shift-by-word .result) (c .shift-by-word .ensures (environment (c .before .before .before .before .before .before .before .before .args .addresses .now) (c .before .before .before .before .before .before .before .before .args .tags .now) (c .before .before .before .before .before .before .before .before .args .fill)) (c .before .before .before .before .before .before .before .before .args .regs .now) (c .before .before .before .before .before .before .before .before .args .values .now) (c .before .before .before .before .before .before .before .before .args .flags .now))
 
--- src/instruction.rt:21:1
 returns-4 : tie.Need-returns-4
 returns-4 c = let w = shifts-stood (c .before .before .before .before .before .before .before .before .before .before .args .code .now) (c .before .before .before .before .before .before .before .before .before .before .args .at) (c .before .before .before .before .before .before .before .before .before .before .pre .0 .0) (c .before .before .before .before .before .before .before .before .before .before .pre .0 .1) (c .before .before .before .before .before .before .before .before .before .before .pre .0 .2) (getD (c .before .before .before .before .before .before .before .before .before .before .args .code .now) (c .before .before .before .before .before .before .before .before .before .before .args .at) 0) (c .before .before .before .if1 .left) (omega (arith, c .before .before .if2 .taken)) refl in ran-stood (c .before .before .before .before .before .before .before .before .before .before .args .code .now) (c .before .before .before .before .before .before .before .before .before .before .args .at) _ _ _ (w .stood) (environment (c .before .before .before .before .before .before .before .before .before .before .args .addresses .now) (c .before .before .before .before .before .before .before .before .before .before .args .tags .now) (c .before .before .before .before .before .before .before .before .before .before .args .fill)) (held (c .before .before .before .before .before .before .before .before .before .before .args .regs .now) (c .before .before .before .before .before .before .before .before .before .before .args .xmms .now) (c .before .before .before .before .before .before .before .before .before .before .args .flags .now) (c .before .before .before .before .before .before .before .before .before .before .args .values .now)) _ (c .shift-words .result) (c .shift-words .ensures (environment (c .before .before .before .before .before .before .before .before .before .before .args .addresses .now) (c .before .before .before .before .before .before .before .before .before .before .args .tags .now) (c .before .before .before .before .before .before .before .before .before .before .args .fill)) (c .before .before .before .before .before .before .before .before .before .before .args .regs .now) (c .before .before .before .before .before .before .before .before .before .before .args .values .now) (c .before .before .before .before .before .before .before .before .before .before .args .flags .now))
 
--- src/instruction.rt:21:1
 same-length-2 : tie.Need-same-length-2
 same-length-2 c = search needs
 
--- src/instruction.rt:21:1
 returns-5 : tie.Need-returns-5
 returns-5 c = let w = inserts-stood (c .before .before .before .before .before .before .before .before .before .before .before .before .before .before .args .code .now) (c .before .before .before .before .before .before .before .before .before .before .before .before .before .before .args .at) (c .before .before .before .before .before .before .before .before .before .before .before .before .before .before .pre .0 .0) (c .before .before .before .before .before .before .before .before .before .before .before .before .before .before .pre .0 .1) (c .before .before .before .before .before .before .before .before .before .before .before .before .before .before .pre .0 .2) (getD (c .before .before .before .before .before .before .before .before .before .before .before .before .before .before .args .code .now) (c .before .before .before .before .before .before .before .before .before .before .before .before .before .before .args .at) 0) (omega (arith, c .before .before .before .before .before .if3 .left, c .before .before .before .before .before .before .before .before .match .rest .0 .1)) (omega (arith, c .before .before .before .before .if4 .taken)) refl in ran-stood (c .before .before .before .before .before .before .before .before .before .before .before .before .before .before .args .code .now) (c .before .before .before .before .before .before .before .before .before .before .before .before .before .before .args .at) _ _ _ (w .stood) (environment (c .before .before .before .before .before .before .before .before .before .before .before .before .before .before .args .addresses .now) (c .before .before .before .before .before .before .before .before .before .before .before .before .before .before .args .tags .now) (c .before .before .before .before .before .before .before .before .before .before .before .before .before .before .args .fill)) (held (c .before .before .before .before .before .before .before .before .before .before .before .before .before .before .args .regs .now) (c .before .before .before .before .before .before .before .before .before .before .before .before .before .before .args .xmms .now) (c .before .before .before .before .before .before .before .before .before .before .before .before .before .before .args .flags .now) (c .before .before .before .before .before .before .before .before .before .before .before .before .before .before .args .values .now)) _ (c .insert .result) (c .insert .ensures (c .before .before .before .before .before .before .before .before .before .before .before .before .before .before .args .fill) (c .before .before .before .before .before .before .before .before .before .before .before .before .before .before .args .flags .now))
 
--- src/instruction.rt:21:1
 returns-6 : tie.Need-returns-6
 returns-6 c = let w = quads-stood (c .before .before .before .before .before .before .before .before .before .before .args .code .now) (c .before .before .before .before .before .before .before .before .before .before .args .at) (c .before .before .before .before .before .before .before .before .before .before .pre .0 .0) (c .before .before .before .before .before .before .before .before .before .before .pre .0 .1) (c .before .before .before .before .before .before .before .before .before .before .pre .0 .2) (getD (c .before .before .before .before .before .before .before .before .before .before .args .code .now) (c .before .before .before .before .before .before .before .before .before .before .args .at) 0) refl (which-quads (getD (c .before .before .before .before .before .before .before .before .before .before .args .code .now) (c .before .before .before .before .before .before .before .before .before .before .args .at) 0) (c .before .before .before .before .before .before .before .before .before .before .pre .1 .0) (⊎-elim (λ w. inl (w .taken)) (λ v. ⊎-elim (λ w. inr (omega (arith, w .1 .left, w .2 .taken, c .before .before .before .before .match .rest .0 .0 .1))) (λ w. absurd (omega (arith, w .3 .left, c .before .before .before .before .match .rest .1, ins-kinds (c .before .before .before .before .before .before .before .before .before .before .pre .0 .1)))) v) (c .before .before .before .if1 .came))) in ran-stood (c .before .before .before .before .before .before .before .before .before .before .args .code .now) (c .before .before .before .before .before .before .before .before .before .before .args .at) _ _ _ (w .0 .stood) (environment (c .before .before .before .before .before .before .before .before .before .before .args .addresses .now) (c .before .before .before .before .before .before .before .before .before .before .args .tags .now) (c .before .before .before .before .before .before .before .before .before .before .args .fill)) (held (c .before .before .before .before .before .before .before .before .before .before .args .regs .now) (c .before .before .before .before .before .before .before .before .before .before .args .xmms .now) (c .before .before .before .before .before .before .before .before .before .before .args .flags .now) (c .before .before .before .before .before .before .before .before .before .before .args .values .now)) _ (c .two-quads .result) (c .two-quads .ensures (c .before .before .before .before .before .before .before .before .before .before .args .addresses .now) (c .before .before .before .before .before .before .before .before .before .before .args .tags .now) (c .before .before .before .before .before .before .before .before .before .before .args .regs .now) (c .before .before .before .before .before .before .before .before .before .before .args .values .now))
 

@@ -1,3 +1,4 @@
+-- The low bit of the index is 0 or 1, and names the low or the high pair.
 use native.Mathlib.Omega.{arith}
 use mathlib.Core.Path.{_≡_}
 use Rattle.eval.proofs.LaneLaws.{low-pair, high-pair}
@@ -6,11 +7,9 @@ use Rattle.eval.proofs.lanes.pair_of.Tie as tie
 use Rattle.eval.proofs.lanes.pair_of.Reads as reads
 use Rattle.eval.proofs.lanes.pair_of.Lts as lts
 
--- src/lanes.rt:173:1
 returns : tie.Need-returns
 returns c = low-pair (c .before .args .q) (c .before .args .index) (c .if1 .taken)
 
--- src/lanes.rt:173:1
 returns-2 : tie.Need-returns-2
 returns-2 c = high-pair (c .before .args .q) (c .before .args .index) (c .if1 .left)
 

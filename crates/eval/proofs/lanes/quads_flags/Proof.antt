@@ -1,14 +1,13 @@
+-- Only the kind of Paddd takes the fill word.
 use borrow.Author.Tests.{eq-eqb, ne-eqb}
 use Rattle.eval.proofs.lanes.quads_flags.Statement.{statement}
 use Rattle.eval.proofs.lanes.quads_flags.Tie as tie
 use Rattle.eval.proofs.lanes.quads_flags.Reads as reads
 use Rattle.eval.proofs.lanes.quads_flags.Lts as lts
 
--- src/lanes.rt:75:1
 returns : tie.Need-returns
 returns c = rw (eq-eqb (c .before .args .kind) 0x0f (c .if1 .taken))
 
--- src/lanes.rt:75:1
 returns-2 : tie.Need-returns-2
 returns-2 c = rw (ne-eqb (c .before .args .kind) 0x0f (c .if1 .left))
 

@@ -1,3 +1,4 @@
+-- The four words stand from four times the number of the xmm on.
 use Rattle.machine.specs.Registers.{set-xmm}
 use borrow.Author.Needs.{needs}
 use Rattle.eval.proofs.lanes.set_quad.Statement.{statement}
@@ -6,59 +7,45 @@ use Rattle.eval.proofs.lanes.set_quad.Reads as reads
 use Rattle.eval.proofs.lanes.set_quad.Lts as lts
 use Rattle.eval.proofs.lanes.wide.Reads as wide-reads
 
--- src/lanes.rt:56:17
 wide-requires : tie.Need-wide-requires
 wide-requires c κs = search needs
 
--- src/lanes.rt:56:13
 mul-i : tie.Need-mul-i
 mul-i c = search needs
 
--- src/lanes.rt:57:5
 mul-xmms : tie.Need-mul-xmms
 mul-xmms c = search needs
 
--- src/lanes.rt:57:5
 element-write-xmms : tie.Need-element-write-xmms
 element-write-xmms c = search needs
 
--- src/lanes.rt:58:10
 add-xmms : tie.Need-add-xmms
 add-xmms c = search needs
 
--- src/lanes.rt:58:5
 mul-xmms-2 : tie.Need-mul-xmms-2
 mul-xmms-2 c = search needs
 
--- src/lanes.rt:58:5
 element-write-xmms-2 : tie.Need-element-write-xmms-2
 element-write-xmms-2 c = search needs
 
--- src/lanes.rt:59:10
 add-xmms-2 : tie.Need-add-xmms-2
 add-xmms-2 c = search needs
 
--- src/lanes.rt:59:5
 mul-xmms-3 : tie.Need-mul-xmms-3
 mul-xmms-3 c = search needs
 
--- src/lanes.rt:59:5
 element-write-xmms-3 : tie.Need-element-write-xmms-3
 element-write-xmms-3 c = search needs
 
--- src/lanes.rt:60:10
 add-xmms-3 : tie.Need-add-xmms-3
 add-xmms-3 c = search needs
 
--- src/lanes.rt:60:5
 mul-xmms-4 : tie.Need-mul-xmms-4
 mul-xmms-4 c = search needs
 
--- src/lanes.rt:60:5
 element-write-xmms-4 : tie.Need-element-write-xmms-4
 element-write-xmms-4 c = search needs
 
--- src/lanes.rt:52:1
 returns : tie.Need-returns
 unfolding set-xmm
 returns c = rw (c .wide .ensures)

@@ -1,3 +1,4 @@
+-- A count other than 4 is the fault 35; else the shifted quad is written.
 use mathlib.Core.Path.{refl}
 use native.Mathlib.Omega.{arith}
 use Prim.Native.Nat.{_+_}
@@ -12,51 +13,39 @@ use Rattle.eval.proofs.lanes.quad.Reads as quad-reads
 use Rattle.eval.proofs.lanes.set_quad.Reads as set-quad-reads
 use Rattle.words.proofs.shift_quad.Reads as shift-quad-reads
 
--- src/lanes.rt:147:13
 add-if1 : tie.Need-add-if1
 add-if1 c = search needs
 
--- src/lanes.rt:147:8
 shared-slice-read-if1 : tie.Need-shared-slice-read-if1
 shared-slice-read-if1 c = search needs
 
--- src/lanes.rt:148:9
 returns : tie.Need-returns
 returns c = λ env regs values flags. record { ends = word-shift-fails env (c .before .before .before .args .at) regs (c .before .before .before .args .xmms .now) values flags (getD (c .before .before .before .args .code .now) (c .before .before .before .args .at + 1) 0) (getD (c .before .before .before .args .code .now) (c .before .before .before .args .at + 2) 0) (getD (c .before .before .before .args .code .now) (c .before .before .before .args .at + 3) 0) (c .if1 .taken); next = λ h. absurd (omega arith) }
 
--- src/lanes.rt:153:29
 add-quad : tie.Need-add-quad
 add-quad c = search needs
 
--- src/lanes.rt:153:24
 shared-slice-read-quad : tie.Need-shared-slice-read-quad
 shared-slice-read-quad c = search needs
 
--- src/lanes.rt:153:9
 quad-requires : tie.Need-quad-requires
 quad-requires c κs = search needs
 
--- src/lanes.rt:154:25
 add-set-quad : tie.Need-add-set-quad
 add-set-quad c = search needs
 
--- src/lanes.rt:154:20
 shared-slice-read-set-quad : tie.Need-shared-slice-read-set-quad
 shared-slice-read-set-quad c = search needs
 
--- src/lanes.rt:154:34
 shift-quad-requires : tie.Need-shift-quad-requires
 shift-quad-requires c κs = search needs
 
--- src/lanes.rt:154:5
 set-quad-requires : tie.Need-set-quad-requires
 set-quad-requires c κs = search needs
 
--- src/lanes.rt:157:16
 add-t5 : tie.Need-add-t5
 add-t5 c = search needs
 
--- src/lanes.rt:141:1
 returns-2 : tie.Need-returns-2
 returns-2 c = λ env regs values flags. record { ends = word-shift-done env (c .before .before .before .before .before .before .before .before .before .before .args .at) regs (c .before .before .before .before .before .before .before .before .before .before .args .xmms .now) values flags (getD (c .before .before .before .before .before .before .before .before .before .before .args .code .now) (c .before .before .before .before .before .before .before .before .before .before .args .at + 1) 0) (getD (c .before .before .before .before .before .before .before .before .before .before .args .code .now) (c .before .before .before .before .before .before .before .before .before .before .args .at + 2) 0) (getD (c .before .before .before .before .before .before .before .before .before .before .args .code .now) (c .before .before .before .before .before .before .before .before .before .before .args .at + 3) 0) (c .before .before .before .before .quad .result) (c .before .shift-quad .result) _ (c .before .before .before .before .before .before .before .if1 .left) (c .before .before .before .before .quad .ensures) (c .before .shift-quad .ensures) (c .set-quad .ensures); next = λ _. refl }
 

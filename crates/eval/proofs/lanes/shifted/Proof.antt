@@ -1,3 +1,4 @@
+-- Each arm is the shift of its kind.
 use borrow.Author.Tests.{eq-eqb, ne-eqb}
 use Rattle.eval.specs.Families.{shifts-word}
 use borrow.Author.Needs.{needs}
@@ -8,20 +9,16 @@ use Rattle.eval.proofs.lanes.shifted.Lts as lts
 use Rattle.words.proofs.shl_lanes.Reads as shl-lanes-reads
 use Rattle.words.proofs.shr_lanes.Reads as shr-lanes-reads
 
--- src/lanes.rt:109:9
 shl-lanes-requires : tie.Need-shl-lanes-requires
 shl-lanes-requires c κs = search needs
 
--- src/lanes.rt:111:9
 shr-lanes-requires : tie.Need-shr-lanes-requires
 shr-lanes-requires c κs = search needs
 
--- src/lanes.rt:105:1
 returns : tie.Need-returns
 unfolding shifts-word
 returns c = rw (eq-eqb (c .before .before .args .kind) 0x11 (c .before .if1 .taken)) (c .shl-lanes .ensures)
 
--- src/lanes.rt:105:1
 returns-2 : tie.Need-returns-2
 unfolding shifts-word
 returns-2 c = rw (ne-eqb (c .before .before .args .kind) 0x11 (c .before .if1 .left)) (c .shr-lanes .ensures)

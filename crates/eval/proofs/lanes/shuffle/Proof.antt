@@ -1,3 +1,4 @@
+-- The shuffled quad is written.
 use mathlib.Core.Path.{refl}
 use Prim.Native.Nat.{_+_}
 use lib.ListN.{getD}
@@ -11,47 +12,36 @@ use Rattle.eval.proofs.lanes.quad.Reads as quad-reads
 use Rattle.eval.proofs.lanes.set_quad.Reads as set-quad-reads
 use Rattle.words.proofs.shuffle_lanes.Reads as shuffle-lanes-reads
 
--- src/lanes.rt:132:29
 add-quad : tie.Need-add-quad
 add-quad c = search needs
 
--- src/lanes.rt:132:24
 shared-slice-read-quad : tie.Need-shared-slice-read-quad
 shared-slice-read-quad c = search needs
 
--- src/lanes.rt:132:9
 quad-requires : tie.Need-quad-requires
 quad-requires c κs = search needs
 
--- src/lanes.rt:133:25
 add-set-quad : tie.Need-add-set-quad
 add-set-quad c = search needs
 
--- src/lanes.rt:133:20
 shared-slice-read-set-quad : tie.Need-shared-slice-read-set-quad
 shared-slice-read-set-quad c = search needs
 
--- src/lanes.rt:133:56
 add-shuffle-lanes : tie.Need-add-shuffle-lanes
 add-shuffle-lanes c = search needs
 
--- src/lanes.rt:133:51
 shared-slice-read-shuffle-lanes : tie.Need-shared-slice-read-shuffle-lanes
 shared-slice-read-shuffle-lanes c = search needs
 
--- src/lanes.rt:133:34
 shuffle-lanes-requires : tie.Need-shuffle-lanes-requires
 shuffle-lanes-requires c κs = search needs
 
--- src/lanes.rt:133:5
 set-quad-requires : tie.Need-set-quad-requires
 set-quad-requires c κs = search needs
 
--- src/lanes.rt:136:16
 add-t6 : tie.Need-add-t6
 add-t6 c = search needs
 
--- src/lanes.rt:126:1
 returns : tie.Need-returns
 returns c = λ env regs values flags. record { ends = shuffle-done env (c .before .before .before .before .before .before .before .before .before .args .at) regs (c .before .before .before .before .before .before .before .before .before .args .xmms .now) values flags (getD (c .before .before .before .before .before .before .before .before .before .args .code .now) (c .before .before .before .before .before .before .before .before .before .args .at + 1) 0) (getD (c .before .before .before .before .before .before .before .before .before .args .code .now) (c .before .before .before .before .before .before .before .before .before .args .at + 2) 0) (getD (c .before .before .before .before .before .before .before .before .before .args .code .now) (c .before .before .before .before .before .before .before .before .before .args .at + 3) 0) (c .before .before .before .before .before .quad .result) (c .before .shuffle-lanes .result) _ (c .before .before .before .before .before .quad .ensures) (c .before .shuffle-lanes .ensures) (c .set-quad .ensures); next = λ _. refl }
 

@@ -1,3 +1,4 @@
+-- What is written is the quad of the two that were read, and the flags are those of the kind.
 use mathlib.Core.Path.{refl}
 use Rattle.eval.specs.Lent.{environment}
 use Rattle.eval.proofs.LaneLaws.{quads-done}
@@ -13,51 +14,39 @@ use Rattle.eval.proofs.lanes.quad.Reads as quad-reads
 use Rattle.eval.proofs.lanes.quads_flags.Reads as quads-flags-reads
 use Rattle.eval.proofs.lanes.set_quad.Reads as set-quad-reads
 
--- src/lanes.rt:94:16
 shared-slice-read-kind : tie.Need-shared-slice-read-kind
 shared-slice-read-kind c = search needs
 
--- src/lanes.rt:95:20
 add-dst : tie.Need-add-dst
 add-dst c = search needs
 
--- src/lanes.rt:95:15
 shared-slice-read-dst : tie.Need-shared-slice-read-dst
 shared-slice-read-dst c = search needs
 
--- src/lanes.rt:96:28
 quad-requires : tie.Need-quad-requires
 quad-requires c κs = search needs
 
--- src/lanes.rt:96:61
 add-quad : tie.Need-add-quad
 add-quad c = search needs
 
--- src/lanes.rt:96:56
 shared-slice-read-quad : tie.Need-shared-slice-read-quad
 shared-slice-read-quad c = search needs
 
--- src/lanes.rt:96:45
 quad-requires-2 : tie.Need-quad-requires-2
 quad-requires-2 c κs = search needs
 
--- src/lanes.rt:96:9
 combined-requires : tie.Need-combined-requires
 combined-requires c κs = search needs
 
--- src/lanes.rt:97:5
 set-quad-requires : tie.Need-set-quad-requires
 set-quad-requires c κs = search needs
 
--- src/lanes.rt:98:14
 quads-flags-requires : tie.Need-quads-flags-requires
 quads-flags-requires c κs = search needs
 
--- src/lanes.rt:101:16
 add-t11 : tie.Need-add-t11
 add-t11 c = search needs
 
--- src/lanes.rt:82:1
 returns : tie.Need-returns
 returns c = λ addresses tags regs values. record { ends = quads-done (environment addresses tags (c .before .before .before .before .before .before .before .before .before .before .before .before .before .args .fill)) (c .before .before .before .before .before .before .before .before .before .before .before .before .before .args .at) regs (c .before .before .before .before .before .before .before .before .before .before .before .before .before .args .xmms .now) values (c .before .before .before .before .before .before .before .before .before .before .before .before .before .args .flags .now) (getD (c .before .before .before .before .before .before .before .before .before .before .before .before .before .args .code .now) (c .before .before .before .before .before .before .before .before .before .before .before .before .before .args .at + 1) 0) (getD (c .before .before .before .before .before .before .before .before .before .before .before .before .before .args .code .now) (c .before .before .before .before .before .before .before .before .before .before .before .before .before .args .at + 2) 0) (getD (c .before .before .before .before .before .before .before .before .before .before .before .before .before .args .code .now) (c .before .before .before .before .before .before .before .before .before .before .before .before .before .args .at) 0) (c .before .before .before .before .before .before .before .before .quad .result) (c .before .before .before .before .before .quad2 .result) (c .before .before .before .before .combined .result) _ _ (c .before .before .before .before .before .before .before .before .quad .ensures) (c .before .before .before .before .before .quad2 .ensures) (c .before .before .before .before .combined .ensures) (c .before .before .set-quad .ensures) (c .quads-flags .ensures); next = λ _. refl }
 

@@ -1,3 +1,4 @@
+-- A slot is a register or a cell, and its index is in bounds of either.
 use native.Mathlib.Omega.{arith}
 use borrow.Author.Needs.{needs}
 use Rattle.eval.proofs.operand.put.Statement.{statement}
@@ -5,31 +6,24 @@ use Rattle.eval.proofs.operand.put.Tie as tie
 use Rattle.eval.proofs.operand.put.Reads as reads
 use Rattle.eval.proofs.operand.put.Lts as lts
 
--- src/operand.rt:208:9
 mul-regs : tie.Need-mul-regs
 mul-regs c = omega (arith, c .before .pre .register (c .if1 .taken))
 
--- src/operand.rt:208:9
 element-write-regs : tie.Need-element-write-regs
 element-write-regs c = c .before .pre .register (c .if1 .taken)
 
--- src/operand.rt:210:9
 mul-values : tie.Need-mul-values
 mul-values c = omega (arith, c .before .pre .cell (c .if1 .left))
 
--- src/operand.rt:210:9
 slice-write-values : tie.Need-slice-write-values
 slice-write-values c = c .before .pre .cell (c .if1 .left)
 
--- src/operand.rt:201:1
 returns : tie.Need-returns
 returns c = (rw (c .if1 .taken), rw (c .if1 .taken))
 
--- src/operand.rt:201:1
 same-length : tie.Need-same-length
 same-length c = search needs
 
--- src/operand.rt:201:1
 returns-2 : tie.Need-returns-2
 returns-2 c = (rw (c .if1 .left), rw (c .if1 .left))
 

@@ -1,3 +1,4 @@
+-- A constant and a register are read in place; memory is read where the search found its cell.
 use native.Mathlib.Omega.{arith}
 use Rattle.eval.proofs.OperandLaws.{frame, memory-there, source-register, source-constant, source-cell, source-none}
 use borrow.Author.Needs.{needs}
@@ -10,75 +11,57 @@ use Rattle.eval.proofs.operand.behind.Reads as behind-reads
 use Rattle.eval.proofs.operand.cell_at.Reads as cell-at-reads
 use Rattle.eval.proofs.operand.wide.Reads as wide-reads
 
--- src/operand.rt:108:16
 shared-slice-read-kind : tie.Need-shared-slice-read-kind
 shared-slice-read-kind c = let w = frame (c .before .before .before .before .before .pre .0) in omega arith
 
--- src/operand.rt:112:34
 add-wide : tie.Need-add-wide
 add-wide c = let w = frame (c .before .before .before .before .before .before .pre .0) in omega arith
 
--- src/operand.rt:112:29
 shared-slice-read-wide : tie.Need-shared-slice-read-wide
 shared-slice-read-wide c = let w = frame (c .before .before .before .before .before .before .before .pre .0) in omega arith
 
--- src/operand.rt:112:24
 wide-requires : tie.Need-wide-requires
 wide-requires c κs = search needs
 
--- src/operand.rt:112:19
 mul-t17 : tie.Need-mul-t17
 mul-t17 c = let w = frame (c .before .before .before .before .before .before .before .before .pre .0) in let k = w .register (c .before .before .if1 .taken) in omega (arith, c .wide .ensures)
 
--- src/operand.rt:112:19
 element-copy-out-t20 : tie.Need-element-copy-out-t20
 element-copy-out-t20 c = let w = frame (c .before .before .before .before .before .before .before .before .pre .0) in let k = w .register (c .before .before .if1 .taken) in omega (arith, c .wide .ensures)
 
--- src/operand.rt:113:19
 add-t21 : tie.Need-add-t21
 add-t21 c = let w = frame (c .before .before .before .before .before .before .before .before .before .pre .0) in let k = w .register (c .before .before .before .if1 .taken) in omega arith
 
--- src/operand.rt:110:9
 returns : tie.Need-returns
 returns c = let w = frame (c .before .before .before .before .before .before .before .before .before .pre .0) in let k = w .register (c .before .before .before .if1 .taken) in λ fill flags xmms. source-register (c .before .before .before .before .before .before .before .before .before .args .addresses .now) (c .before .before .before .before .before .before .before .before .before .args .tags .now) (c .before .before .before .before .before .before .before .before .before .args .regs .now) (c .before .before .before .before .before .before .before .before .before .args .values .now) (c .before .before .before .before .before .before .before .before .before .args .code .now) (c .before .before .before .before .before .before .before .before .before .args .at) fill flags xmms (c .before .before .before .if1 .taken) (c .before .wide .result) _ (c .before .wide .ensures) (omega arith)
 
--- src/operand.rt:119:33
 add-number8 : tie.Need-add-number8
 add-number8 c = let w = frame (c .before .before .before .before .before .before .before .pre .0) in let k = w .constant (c .if2 .taken) in omega arith
 
--- src/operand.rt:119:19
 number8-requires : tie.Need-number8-requires
 number8-requires c κs = let w = frame (c .before .before .before .before .before .before .before .pre .0) in let k = w .constant (c .if2 .taken) in omega arith
 
--- src/operand.rt:120:19
 add-t24 : tie.Need-add-t24
 add-t24 c = let w = frame (c .before .before .before .before .before .before .before .before .pre .0) in let k = w .constant (c .before .if2 .taken) in omega arith
 
--- src/operand.rt:117:9
 returns-2 : tie.Need-returns-2
 returns-2 c = let w = frame (c .before .before .before .before .before .before .before .before .pre .0) in let k = w .constant (c .before .if2 .taken) in λ fill flags xmms. source-constant (c .before .before .before .before .before .before .before .before .args .addresses .now) (c .before .before .before .before .before .before .before .before .args .tags .now) (c .before .before .before .before .before .before .before .before .args .regs .now) (c .before .before .before .before .before .before .before .before .args .values .now) (c .before .before .before .before .before .before .before .before .args .code .now) (c .before .before .before .before .before .before .before .before .args .at) fill flags xmms (c .before .if2 .taken) (c .number8 .result) _ (c .number8 .ensures) (omega arith)
 
--- src/operand.rt:123:9
 behind-requires : tie.Need-behind-requires
 behind-requires c κs = search needs
 
--- src/operand.rt:124:9
 cell-at-requires : tie.Need-cell-at-requires
 cell-at-requires c κs = let w = frame (c .before .before .before .before .before .before .before .before .pre .0) in (c .before .before .before .before .before .before .before .before .pre .0, (omega (arith, c .before .before .if1 .left, c .before .if2 .left), c .before .before .before .before .before .before .before .before .pre .1 .searchable))
 
--- src/operand.rt:128:19
 mul-t27 : tie.Need-mul-t27
 mul-t27 c = search needs
 
--- src/operand.rt:128:19
 shared-slice-read-t29 : tie.Need-shared-slice-read-t29
 shared-slice-read-t29 c = search needs
 
--- src/operand.rt:96:1
 returns-3 : tie.Need-returns-3
 returns-3 c = let w = frame (c .before .before .before .before .before .before .before .before .before .before .before .pre .0) in let n = memory-there (c .before .before .before .before .before .before .before .before .before .before .before .pre .0) (omega (arith, c .before .before .before .before .before .if1 .left, c .before .before .before .before .if2 .left)) in λ fill flags xmms. source-cell (c .before .before .before .before .before .before .before .before .before .before .before .args .addresses .now) (c .before .before .before .before .before .before .before .before .before .before .before .args .tags .now) (c .before .before .before .before .before .before .before .before .before .before .before .args .regs .now) (c .before .before .before .before .before .before .before .before .before .before .before .args .values .now) (c .before .before .before .before .before .before .before .before .before .before .before .args .code .now) (c .before .before .before .before .before .before .before .before .before .before .before .args .at) fill flags xmms (n .0) (n .1) (c .before .before .before .before .before .before .before .before .before .before .before .pre .1) (c .before .before .cell-at .result) (c .before .before .cell-at .ensures (n .0) (n .1)) (c .before .before .before .behind .result) (c .before .before .before .behind .ensures) (c .before .if3 .taken)
 
--- src/operand.rt:96:1
 returns-4 : tie.Need-returns-4
 returns-4 c = let w = frame (c .before .before .before .before .before .before .before .before .before .before .pre .0) in let n = memory-there (c .before .before .before .before .before .before .before .before .before .before .pre .0) (omega (arith, c .before .before .before .before .if1 .left, c .before .before .before .if2 .left)) in λ fill flags xmms. source-none (c .before .before .before .before .before .before .before .before .before .before .args .addresses .now) (c .before .before .before .before .before .before .before .before .before .before .args .tags .now) (c .before .before .before .before .before .before .before .before .before .before .args .regs .now) (c .before .before .before .before .before .before .before .before .before .before .args .values .now) (c .before .before .before .before .before .before .before .before .before .before .args .code .now) (c .before .before .before .before .before .before .before .before .before .before .args .at) fill flags xmms (n .0) (n .1) (c .before .before .before .before .before .before .before .before .before .before .pre .1) (c .before .cell-at .result) (c .before .cell-at .ensures (n .0) (n .1)) (c .before .before .behind .result) (c .before .before .behind .ensures) (c .if3 .left)
 

@@ -1,3 +1,4 @@
+-- A constant and Rsp are no destination; memory is one where the search found its cell.
 use native.Mathlib.Omega.{arith}
 use Rattle.eval.proofs.OperandLaws.{frame, memory-there, target-constant, target-rsp, target-register, target-cell, target-none}
 use borrow.Author.Needs.{needs}
@@ -11,87 +12,66 @@ use Rattle.eval.proofs.operand.nowhere.Reads as nowhere-reads
 use Rattle.eval.proofs.operand.wide.Reads as wide-reads
 use Rattle.machine.proofs.reg.Reg.is_rsp.Reads as is-rsp-reads
 
--- src/operand.rt:165:16
 shared-slice-read-kind : tie.Need-shared-slice-read-kind
 shared-slice-read-kind c = let w = frame (c .before .before .before .before .before .pre .0) in omega arith
 
--- src/operand.rt:166:9
 behind-requires : tie.Need-behind-requires
 behind-requires c κs = search needs
 
--- src/operand.rt:168:9
 nowhere-requires : tie.Need-nowhere-requires
 nowhere-requires c κs = search needs
 
--- src/operand.rt:168:9
 returns : tie.Need-returns
 returns c = λ fill flags xmms. target-constant (c .before .before .before .before .before .before .before .before .args .addresses .now) (c .before .before .before .before .before .before .before .before .args .tags .now) (c .before .before .before .before .before .before .before .before .args .regs .now) (c .before .before .before .before .before .before .before .before .args .values .now) (c .before .before .before .before .before .before .before .before .args .code .now) (c .before .before .before .before .before .before .before .before .args .at) fill flags xmms (c .before .if1 .taken) (c .before .before .behind .result) (c .before .before .behind .ensures) (c .nowhere .result) (c .nowhere .ensures)
 
--- src/operand.rt:172:26
 add-wide : tie.Need-add-wide
 add-wide c = let w = frame (c .before .before .before .before .before .before .before .before .pre .0) in omega arith
 
--- src/operand.rt:172:21
 shared-slice-read-wide : tie.Need-shared-slice-read-wide
 shared-slice-read-wide c = let w = frame (c .before .before .before .before .before .before .before .before .before .pre .0) in omega arith
 
--- src/operand.rt:174:12
 is-rsp-requires : tie.Need-is-rsp-requires
 is-rsp-requires c κs = search needs
 
--- src/operand.rt:175:13
 nowhere-requires-2 : tie.Need-nowhere-requires-2
 nowhere-requires-2 c κs = search needs
 
--- src/operand.rt:175:13
 returns-2 : tie.Need-returns-2
 returns-2 c = λ fill flags xmms. target-rsp (c .before .before .before .before .before .before .before .before .before .before .before .before .args .addresses .now) (c .before .before .before .before .before .before .before .before .before .before .before .before .args .tags .now) (c .before .before .before .before .before .before .before .before .before .before .before .before .args .regs .now) (c .before .before .before .before .before .before .before .before .before .before .before .before .args .values .now) (c .before .before .before .before .before .before .before .before .before .before .before .before .args .code .now) (c .before .before .before .before .before .before .before .before .before .before .before .before .args .at) fill flags xmms (c .before .before .before .before .if2 .taken) (c .before .before .is-rsp .result) (c .before .before .is-rsp .ensures) (c .before .if3 .taken) (c .before .before .before .before .before .before .behind .result) (c .before .before .before .before .before .before .behind .ensures) (c .nowhere2 .result) (c .nowhere2 .ensures)
 
--- src/operand.rt:177:31
 add-wide-2 : tie.Need-add-wide-2
 add-wide-2 c = let w = frame (c .before .before .before .before .before .before .before .before .before .before .before .pre .0) in omega arith
 
--- src/operand.rt:177:26
 shared-slice-read-wide-2 : tie.Need-shared-slice-read-wide-2
 shared-slice-read-wide-2 c = let w = frame (c .before .before .before .before .before .before .before .before .before .before .before .before .pre .0) in omega arith
 
--- src/operand.rt:177:13
 wide-requires : tie.Need-wide-requires
 wide-requires c κs = search needs
 
--- src/operand.rt:182:19
 mul-t15 : tie.Need-mul-t15
 mul-t15 c = let w = frame (c .before .before .before .before .before .before .before .before .before .before .before .before .before .pre .0) in let k = w .register (c .before .before .before .before .before .if2 .taken) in omega (arith, c .wide .ensures)
 
--- src/operand.rt:182:19
 element-copy-out-t22 : tie.Need-element-copy-out-t22
 element-copy-out-t22 c = let w = frame (c .before .before .before .before .before .before .before .before .before .before .before .before .before .pre .0) in let k = w .register (c .before .before .before .before .before .if2 .taken) in omega (arith, c .wide .ensures)
 
--- src/operand.rt:178:9
 returns-3 : tie.Need-returns-3
 returns-3 c = let w = frame (c .before .before .before .before .before .before .before .before .before .before .before .before .before .before .pre .0) in let k = w .register (c .before .before .before .before .before .before .if2 .taken) in λ fill flags xmms. target-register (c .before .before .before .before .before .before .before .before .before .before .before .before .before .before .args .addresses .now) (c .before .before .before .before .before .before .before .before .before .before .before .before .before .before .args .tags .now) (c .before .before .before .before .before .before .before .before .before .before .before .before .before .before .args .regs .now) (c .before .before .before .before .before .before .before .before .before .before .before .before .before .before .args .values .now) (c .before .before .before .before .before .before .before .before .before .before .before .before .before .before .args .code .now) (c .before .before .before .before .before .before .before .before .before .before .before .before .before .before .args .at) fill flags xmms (c .before .before .before .before .before .before .if2 .taken) (k .1) (c .before .before .before .before .is-rsp .result) (c .before .before .before .before .is-rsp .ensures) (c .before .before .before .if3 .left) (c .before .wide .result) (c .before .before .before .before .before .before .before .before .behind .result) (c .before .wide .ensures) (c .before .before .before .before .before .before .before .before .behind .ensures)
 
--- src/operand.rt:186:9
 cell-at-requires : tie.Need-cell-at-requires
 cell-at-requires c κs = let w = frame (c .before .before .before .before .before .before .before .before .pre .0) in (c .before .before .before .before .before .before .before .before .pre .0, (omega (arith, c .before .if1 .left, c .if2 .left), c .before .before .before .before .before .before .before .before .pre .1 .searchable))
 
--- src/operand.rt:192:19
 mul-t25 : tie.Need-mul-t25
 mul-t25 c = search needs
 
--- src/operand.rt:192:19
 shared-slice-read-t27 : tie.Need-shared-slice-read-t27
 shared-slice-read-t27 c = search needs
 
--- src/operand.rt:196:9
 nowhere-requires-3 : tie.Need-nowhere-requires-3
 nowhere-requires-3 c κs = search needs
 
--- src/operand.rt:153:1
 returns-4 : tie.Need-returns-4
 returns-4 c = let w = frame (c .before .before .before .before .before .before .before .before .before .before .before .pre .0) in let n = memory-there (c .before .before .before .before .before .before .before .before .before .before .before .pre .0) (omega (arith, c .before .before .before .before .if1 .left, c .before .before .before .if2 .left)) in λ fill flags xmms. target-cell (c .before .before .before .before .before .before .before .before .before .before .before .args .addresses .now) (c .before .before .before .before .before .before .before .before .before .before .before .args .tags .now) (c .before .before .before .before .before .before .before .before .before .before .before .args .regs .now) (c .before .before .before .before .before .before .before .before .before .before .before .args .values .now) (c .before .before .before .before .before .before .before .before .before .before .before .args .code .now) (c .before .before .before .before .before .before .before .before .before .before .before .args .at) fill flags xmms (n .0) (n .1) (c .before .before .before .before .before .before .before .before .before .before .before .pre .1) (c .before .before .cell-at .result) (c .before .before .cell-at .ensures (n .0) (n .1)) (c .before .before .before .before .before .behind .result) (c .before .before .before .before .before .behind .ensures) (c .before .if4 .taken)
 
--- src/operand.rt:153:1
 returns-5 : tie.Need-returns-5
 returns-5 c = let w = frame (c .before .before .before .before .before .before .before .before .before .before .before .pre .0) in let n = memory-there (c .before .before .before .before .before .before .before .before .before .before .before .pre .0) (omega (arith, c .before .before .before .before .if1 .left, c .before .before .before .if2 .left)) in λ fill flags xmms. target-none (c .before .before .before .before .before .before .before .before .before .before .before .args .addresses .now) (c .before .before .before .before .before .before .before .before .before .before .before .args .tags .now) (c .before .before .before .before .before .before .before .before .before .before .before .args .regs .now) (c .before .before .before .before .before .before .before .before .before .before .before .args .values .now) (c .before .before .before .before .before .before .before .before .before .before .before .args .code .now) (c .before .before .before .before .before .before .before .before .before .before .before .args .at) fill flags xmms (n .0) (n .1) (c .before .before .before .before .before .before .before .before .before .before .before .pre .1) (c .before .before .cell-at .result) (c .before .before .cell-at .ensures (n .0) (n .1)) (c .before .before .before .before .before .behind .result) (c .before .before .before .before .before .behind .ensures) (c .before .if4 .left) (c .nowhere3 .result) (c .nowhere3 .ensures)
 

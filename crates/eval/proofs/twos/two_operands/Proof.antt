@@ -1,3 +1,4 @@
+-- Each check that fails is the fault of the definition; where all pass, what is put is the word and the flags of the kind.
 use Prim.Native.Nat.{_+_}
 use mathlib.Core.Path.{sym, _∙_}
 use mathlib.Core.List.{[]}
@@ -19,63 +20,48 @@ use Rattle.eval.proofs.operand.source.Reads as source-reads
 use Rattle.eval.proofs.operand.target.Reads as target-reads
 use Rattle.eval.proofs.twos.too_far.Reads as too-far-reads
 
--- src/twos.rt:46:16
 shared-slice-read-kind : tie.Need-shared-slice-read-kind
 shared-slice-read-kind c = let w = frame (c .before .before .before .before .before .pre .0 .0) in omega arith
 
--- src/twos.rt:47:28
 add-target : tie.Need-add-target
 add-target c = let w = frame (c .before .before .before .before .before .pre .0 .0) in omega arith
 
--- src/twos.rt:47:9
 target-requires : tie.Need-target-requires
 target-requires c κs = search needs
 
--- src/twos.rt:48:9
 source-requires : tie.Need-source-requires
 source-requires c κs = (rw (c .before .before .target .ensures 0 0 [] .next) (c .before .before .before .before .before .before .before .before .before .before .pre .0 .1 .0), c .before .before .before .before .before .before .before .before .before .before .pre .1 .1)
 
--- src/twos.rt:50:9
 same-length : tie.Need-same-length
 same-length c = search needs
 
--- src/twos.rt:50:9
 returns : tie.Need-returns
 returns c = λ xmms. let T = c .before .before .before .before .before .target .ensures (c .before .before .before .before .before .before .before .before .before .before .before .before .before .args .fill) (c .before .before .before .before .before .before .before .before .before .before .before .before .before .args .flags .now) xmms in let R = read-at (environment (c .before .before .before .before .before .before .before .before .before .before .before .before .before .args .addresses .now) (c .before .before .before .before .before .before .before .before .before .before .before .before .before .args .tags .now) (c .before .before .before .before .before .before .before .before .before .before .before .before .before .args .fill)) (held (c .before .before .before .before .before .before .before .before .before .before .before .before .before .args .regs .now) xmms (c .before .before .before .before .before .before .before .before .before .before .before .before .before .args .flags .now) (c .before .before .before .before .before .before .before .before .before .before .before .before .before .args .values .now)) (c .before .before .before .before .before .before .before .before .before .before .before .before .before .args .code .now) (c .before .before .before .before .before .target .result .next) (behind (c .before .before .before .before .before .before .before .before .before .before .before .before .before .args .code .now) (c .before .before .before .before .before .before .before .before .before .before .before .before .before .args .at + 1)) (T .next) (c .before .before .source .result) (c .before .before .source .ensures (c .before .before .before .before .before .before .before .before .before .before .before .before .before .args .fill) (c .before .before .before .before .before .before .before .before .before .before .before .before .before .args .flags .now) xmms) in record { ends = two-unread (c .before .before .before .before .before .before .before .before .before .before .before .before .before .args .addresses .now) (c .before .before .before .before .before .before .before .before .before .before .before .before .before .args .tags .now) (c .before .before .before .before .before .before .before .before .before .before .before .before .before .args .regs .now) xmms (c .before .before .before .before .before .before .before .before .before .before .before .before .before .args .values .now) (c .before .before .before .before .before .before .before .before .before .before .before .before .before .args .fill) (c .before .before .before .before .before .before .before .before .before .before .before .before .before .args .flags .now) (c .before .before .before .before .before .before .before .before .before .before .before .before .before .args .at) (getD (c .before .before .before .before .before .before .before .before .before .before .before .before .before .args .code .now) (c .before .before .before .before .before .before .before .before .before .before .before .before .before .args .at) 0) (c .before .before .before .before .before .before .before .before .before .before .before .before .before .pre .1 .0) (operand-at (c .before .before .before .before .before .before .before .before .before .before .before .before .before .args .code .now) (c .before .before .before .before .before .before .before .before .before .before .before .before .before .args .at + 1)) (operand-at (c .before .before .before .before .before .before .before .before .before .before .before .before .before .args .code .now) (behind (c .before .before .before .before .before .before .before .before .before .before .before .before .before .args .code .now) (c .before .before .before .before .before .before .before .before .before .before .before .before .before .args .at + 1))) (behind (c .before .before .before .before .before .before .before .before .before .before .before .before .before .args .code .now) (c .before .before .before .before .before .before .before .before .before .before .before .before .before .args .at + 1)) (behind (c .before .before .before .before .before .before .before .before .before .before .before .before .before .args .code .now) (behind (c .before .before .before .before .before .before .before .before .before .before .before .before .before .args .code .now) (c .before .before .before .before .before .before .before .before .before .before .before .before .before .args .at + 1))) (c .before .before .before .before .before .target .result) (c .before .before .source .result) T R (not-true _ (c .if1 .taken)); next = λ h. absurd (omega arith) }
 
--- src/twos.rt:55:8
 too-far-requires : tie.Need-too-far-requires
 too-far-requires c κs = search needs
 
--- src/twos.rt:56:9
 same-length-2 : tie.Need-same-length-2
 same-length-2 c = search needs
 
--- src/twos.rt:56:9
 returns-2 : tie.Need-returns-2
 returns-2 c = λ xmms. let T = c .before .before .before .before .before .before .before .target .ensures (c .before .before .before .before .before .before .before .before .before .before .before .before .before .before .before .args .fill) (c .before .before .before .before .before .before .before .before .before .before .before .before .before .before .before .args .flags .now) xmms in let R = read-at (environment (c .before .before .before .before .before .before .before .before .before .before .before .before .before .before .before .args .addresses .now) (c .before .before .before .before .before .before .before .before .before .before .before .before .before .before .before .args .tags .now) (c .before .before .before .before .before .before .before .before .before .before .before .before .before .before .before .args .fill)) (held (c .before .before .before .before .before .before .before .before .before .before .before .before .before .before .before .args .regs .now) xmms (c .before .before .before .before .before .before .before .before .before .before .before .before .before .before .before .args .flags .now) (c .before .before .before .before .before .before .before .before .before .before .before .before .before .before .before .args .values .now)) (c .before .before .before .before .before .before .before .before .before .before .before .before .before .before .before .args .code .now) (c .before .before .before .before .before .before .before .target .result .next) (behind (c .before .before .before .before .before .before .before .before .before .before .before .before .before .before .before .args .code .now) (c .before .before .before .before .before .before .before .before .before .before .before .before .before .before .before .args .at + 1)) (T .next) (c .before .before .before .before .source .result) (c .before .before .before .before .source .ensures (c .before .before .before .before .before .before .before .before .before .before .before .before .before .before .before .args .fill) (c .before .before .before .before .before .before .before .before .before .before .before .before .before .before .before .args .flags .now) xmms) in record { ends = two-amount (c .before .before .before .before .before .before .before .before .before .before .before .before .before .before .before .args .addresses .now) (c .before .before .before .before .before .before .before .before .before .before .before .before .before .before .before .args .tags .now) (c .before .before .before .before .before .before .before .before .before .before .before .before .before .before .before .args .regs .now) xmms (c .before .before .before .before .before .before .before .before .before .before .before .before .before .before .before .args .values .now) (c .before .before .before .before .before .before .before .before .before .before .before .before .before .before .before .args .fill) (c .before .before .before .before .before .before .before .before .before .before .before .before .before .before .before .args .flags .now) (c .before .before .before .before .before .before .before .before .before .before .before .before .before .before .before .args .at) (getD (c .before .before .before .before .before .before .before .before .before .before .before .before .before .before .before .args .code .now) (c .before .before .before .before .before .before .before .before .before .before .before .before .before .before .before .args .at) 0) (c .before .before .before .before .before .before .before .before .before .before .before .before .before .before .before .pre .1 .0) (operand-at (c .before .before .before .before .before .before .before .before .before .before .before .before .before .before .before .args .code .now) (c .before .before .before .before .before .before .before .before .before .before .before .before .before .before .before .args .at + 1)) (operand-at (c .before .before .before .before .before .before .before .before .before .before .before .before .before .before .before .args .code .now) (behind (c .before .before .before .before .before .before .before .before .before .before .before .before .before .before .before .args .code .now) (c .before .before .before .before .before .before .before .before .before .before .before .before .before .before .before .args .at + 1))) (behind (c .before .before .before .before .before .before .before .before .before .before .before .before .before .before .before .args .code .now) (c .before .before .before .before .before .before .before .before .before .before .before .before .before .before .before .args .at + 1)) (behind (c .before .before .before .before .before .before .before .before .before .before .before .before .before .before .before .args .code .now) (behind (c .before .before .before .before .before .before .before .before .before .before .before .before .before .before .before .args .code .now) (c .before .before .before .before .before .before .before .before .before .before .before .before .before .before .before .args .at + 1))) (c .before .before .before .before .before .before .before .target .result) (c .before .before .before .before .source .result) T R (not-false _ (c .before .before .if1 .left)) (sym (c .before .too-far .ensures) ∙ c .if2 .taken); next = λ h. absurd (omega arith) }
 
--- src/twos.rt:62:9
 same-length-3 : tie.Need-same-length-3
 same-length-3 c = search needs
 
--- src/twos.rt:62:9
 returns-3 : tie.Need-returns-3
 returns-3 c = λ xmms. let T = c .before .before .before .before .before .before .before .before .before .target .ensures (c .before .before .before .before .before .before .before .before .before .before .before .before .before .before .before .before .before .args .fill) (c .before .before .before .before .before .before .before .before .before .before .before .before .before .before .before .before .before .args .flags .now) xmms in let R = read-at (environment (c .before .before .before .before .before .before .before .before .before .before .before .before .before .before .before .before .before .args .addresses .now) (c .before .before .before .before .before .before .before .before .before .before .before .before .before .before .before .before .before .args .tags .now) (c .before .before .before .before .before .before .before .before .before .before .before .before .before .before .before .before .before .args .fill)) (held (c .before .before .before .before .before .before .before .before .before .before .before .before .before .before .before .before .before .args .regs .now) xmms (c .before .before .before .before .before .before .before .before .before .before .before .before .before .before .before .before .before .args .flags .now) (c .before .before .before .before .before .before .before .before .before .before .before .before .before .before .before .before .before .args .values .now)) (c .before .before .before .before .before .before .before .before .before .before .before .before .before .before .before .before .before .args .code .now) (c .before .before .before .before .before .before .before .before .before .target .result .next) (behind (c .before .before .before .before .before .before .before .before .before .before .before .before .before .before .before .before .before .args .code .now) (c .before .before .before .before .before .before .before .before .before .before .before .before .before .before .before .before .before .args .at + 1)) (T .next) (c .before .before .before .before .before .before .source .result) (c .before .before .before .before .before .before .source .ensures (c .before .before .before .before .before .before .before .before .before .before .before .before .before .before .before .before .before .args .fill) (c .before .before .before .before .before .before .before .before .before .before .before .before .before .before .before .before .before .args .flags .now) xmms) in record { ends = two-unwritten (c .before .before .before .before .before .before .before .before .before .before .before .before .before .before .before .before .before .args .addresses .now) (c .before .before .before .before .before .before .before .before .before .before .before .before .before .before .before .before .before .args .tags .now) (c .before .before .before .before .before .before .before .before .before .before .before .before .before .before .before .before .before .args .regs .now) xmms (c .before .before .before .before .before .before .before .before .before .before .before .before .before .before .before .before .before .args .values .now) (c .before .before .before .before .before .before .before .before .before .before .before .before .before .before .before .before .before .args .fill) (c .before .before .before .before .before .before .before .before .before .before .before .before .before .before .before .before .before .args .flags .now) (c .before .before .before .before .before .before .before .before .before .before .before .before .before .before .before .before .before .args .at) (getD (c .before .before .before .before .before .before .before .before .before .before .before .before .before .before .before .before .before .args .code .now) (c .before .before .before .before .before .before .before .before .before .before .before .before .before .before .before .before .before .args .at) 0) (c .before .before .before .before .before .before .before .before .before .before .before .before .before .before .before .before .before .pre .1 .0) (operand-at (c .before .before .before .before .before .before .before .before .before .before .before .before .before .before .before .before .before .args .code .now) (c .before .before .before .before .before .before .before .before .before .before .before .before .before .before .before .before .before .args .at + 1)) (operand-at (c .before .before .before .before .before .before .before .before .before .before .before .before .before .before .before .before .before .args .code .now) (behind (c .before .before .before .before .before .before .before .before .before .before .before .before .before .before .before .before .before .args .code .now) (c .before .before .before .before .before .before .before .before .before .before .before .before .before .before .before .before .before .args .at + 1))) (behind (c .before .before .before .before .before .before .before .before .before .before .before .before .before .before .before .before .before .args .code .now) (c .before .before .before .before .before .before .before .before .before .before .before .before .before .before .before .before .before .args .at + 1)) (behind (c .before .before .before .before .before .before .before .before .before .before .before .before .before .before .before .before .before .args .code .now) (behind (c .before .before .before .before .before .before .before .before .before .before .before .before .before .before .before .before .before .args .code .now) (c .before .before .before .before .before .before .before .before .before .before .before .before .before .before .before .before .before .args .at + 1))) (c .before .before .before .before .before .before .before .before .before .target .result) (c .before .before .before .before .before .before .source .result) T R (not-false _ (c .before .before .before .before .if1 .left)) (sym (c .before .before .before .too-far .ensures) ∙ c .before .before .if2 .left) (not-true _ (c .if3 .taken)); next = λ h. absurd (omega arith) }
 
--- src/twos.rt:67:9
 effect-of-requires : tie.Need-effect-of-requires
 effect-of-requires c κs = search needs
 
--- src/twos.rt:68:5
 put-requires : tie.Need-put-requires
 put-requires c κs = c .before .before .before .before .before .before .before .before .before .before .before .before .before .target .ensures 0 0 [] .bounds (not-false _ (c .before .before .before .before .if3 .left))
 
--- src/twos.rt:31:1
 same-length-4 : tie.Need-same-length-4
 same-length-4 c = search needs
 
--- src/twos.rt:31:1
 returns-4 : tie.Need-returns-4
 returns-4 c = λ xmms. let T = c .before .before .before .before .before .before .before .before .before .before .before .before .before .before .before .before .target .ensures (c .before .before .before .before .before .before .before .before .before .before .before .before .before .before .before .before .before .before .before .before .before .before .before .before .args .fill) (c .before .before .before .before .before .before .before .before .before .before .before .before .before .before .before .before .before .before .before .before .before .before .before .before .args .flags .now) xmms in let R = read-at (environment (c .before .before .before .before .before .before .before .before .before .before .before .before .before .before .before .before .before .before .before .before .before .before .before .before .args .addresses .now) (c .before .before .before .before .before .before .before .before .before .before .before .before .before .before .before .before .before .before .before .before .before .before .before .before .args .tags .now) (c .before .before .before .before .before .before .before .before .before .before .before .before .before .before .before .before .before .before .before .before .before .before .before .before .args .fill)) (held (c .before .before .before .before .before .before .before .before .before .before .before .before .before .before .before .before .before .before .before .before .before .before .before .before .args .regs .now) xmms (c .before .before .before .before .before .before .before .before .before .before .before .before .before .before .before .before .before .before .before .before .before .before .before .before .args .flags .now) (c .before .before .before .before .before .before .before .before .before .before .before .before .before .before .before .before .before .before .before .before .before .before .before .before .args .values .now)) (c .before .before .before .before .before .before .before .before .before .before .before .before .before .before .before .before .before .before .before .before .before .before .before .before .args .code .now) (c .before .before .before .before .before .before .before .before .before .before .before .before .before .before .before .before .target .result .next) (behind (c .before .before .before .before .before .before .before .before .before .before .before .before .before .before .before .before .before .before .before .before .before .before .before .before .args .code .now) (c .before .before .before .before .before .before .before .before .before .before .before .before .before .before .before .before .before .before .before .before .before .before .before .before .args .at + 1)) (T .next) (c .before .before .before .before .before .before .before .before .before .before .before .before .before .source .result) (c .before .before .before .before .before .before .before .before .before .before .before .before .before .source .ensures (c .before .before .before .before .before .before .before .before .before .before .before .before .before .before .before .before .before .before .before .before .before .before .before .before .args .fill) (c .before .before .before .before .before .before .before .before .before .before .before .before .before .before .before .before .before .before .before .before .before .before .before .before .args .flags .now) xmms) in record { ends = two-done (c .before .before .before .before .before .before .before .before .before .before .before .before .before .before .before .before .before .before .before .before .before .before .before .before .args .addresses .now) (c .before .before .before .before .before .before .before .before .before .before .before .before .before .before .before .before .before .before .before .before .before .before .before .before .args .tags .now) (c .before .before .before .before .before .before .before .before .before .before .before .before .before .before .before .before .before .before .before .before .before .before .before .before .args .regs .now) xmms (c .before .before .before .before .before .before .before .before .before .before .before .before .before .before .before .before .before .before .before .before .before .before .before .before .args .values .now) (c .before .before .before .before .before .before .before .before .before .before .before .before .before .before .before .before .before .before .before .before .before .before .before .before .args .fill) (c .before .before .before .before .before .before .before .before .before .before .before .before .before .before .before .before .before .before .before .before .before .before .before .before .args .flags .now) (c .before .before .before .before .before .before .before .before .before .before .before .before .before .before .before .before .before .before .before .before .before .before .before .before .args .at) (getD (c .before .before .before .before .before .before .before .before .before .before .before .before .before .before .before .before .before .before .before .before .before .before .before .before .args .code .now) (c .before .before .before .before .before .before .before .before .before .before .before .before .before .before .before .before .before .before .before .before .before .before .before .before .args .at) 0) (c .before .before .before .before .before .before .before .before .before .before .before .before .before .before .before .before .before .before .before .before .before .before .before .before .pre .1 .0) (operand-at (c .before .before .before .before .before .before .before .before .before .before .before .before .before .before .before .before .before .before .before .before .before .before .before .before .args .code .now) (c .before .before .before .before .before .before .before .before .before .before .before .before .before .before .before .before .before .before .before .before .before .before .before .before .args .at + 1)) (operand-at (c .before .before .before .before .before .before .before .before .before .before .before .before .before .before .before .before .before .before .before .before .before .before .before .before .args .code .now) (behind (c .before .before .before .before .before .before .before .before .before .before .before .before .before .before .before .before .before .before .before .before .before .before .before .before .args .code .now) (c .before .before .before .before .before .before .before .before .before .before .before .before .before .before .before .before .before .before .before .before .before .before .before .before .args .at + 1))) (behind (c .before .before .before .before .before .before .before .before .before .before .before .before .before .before .before .before .before .before .before .before .before .before .before .before .args .code .now) (c .before .before .before .before .before .before .before .before .before .before .before .before .before .before .before .before .before .before .before .before .before .before .before .before .args .at + 1)) (behind (c .before .before .before .before .before .before .before .before .before .before .before .before .before .before .before .before .before .before .before .before .before .before .before .before .args .code .now) (behind (c .before .before .before .before .before .before .before .before .before .before .before .before .before .before .before .before .before .before .before .before .before .before .before .before .args .code .now) (c .before .before .before .before .before .before .before .before .before .before .before .before .before .before .before .before .before .before .before .before .before .before .before .before .args .at + 1))) (c .before .before .before .before .before .before .before .before .before .before .before .before .before .before .before .before .target .result) (c .before .before .before .before .before .before .before .before .before .before .before .before .before .source .result) T R (not-false _ (c .before .before .before .before .before .before .before .before .before .before .before .if1 .left)) (sym (c .before .before .before .before .before .before .before .before .before .before .too-far .ensures) ∙ c .before .before .before .before .before .before .before .before .before .if2 .left) (not-false _ (c .before .before .before .before .before .before .before .if3 .left)) _ _ (c .before .before .before .before .before .effect-of .result .word) (c .before .before .before .before .before .effect-of .result .flags) (c .before .before .put .ensures .0) (c .before .before .put .ensures .1) (c .before .before .before .before .before .effect-of .ensures .word-is) (c .before .before .before .before .before .effect-of .ensures .flags-is); next = λ _. R .next }
 
