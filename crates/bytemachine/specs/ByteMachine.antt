@@ -24,15 +24,19 @@ pub record BState : Type 0 where
   pub flags : ℕ
   pub bytes : ByteMemory
 
+-- a state with other registers
 abbrev pub with-regs : List ℕ → BState → BState
 with-regs regs s = record { regs = regs; xmms = s .xmms; flags = s .flags; bytes = s .bytes }
 
+-- with other xmm words
 abbrev pub with-xmms : List ℕ → BState → BState
 with-xmms xmms s = record { regs = s .regs; xmms = xmms; flags = s .flags; bytes = s .bytes }
 
+-- with other flags
 abbrev pub with-flags : ℕ → BState → BState
 with-flags flags s = record { regs = s .regs; xmms = s .xmms; flags = flags; bytes = s .bytes }
 
+-- with other bytes
 abbrev pub with-bytes : ByteMemory → BState → BState
 with-bytes bytes s = record { regs = s .regs; xmms = s .xmms; flags = s .flags; bytes = bytes }
 

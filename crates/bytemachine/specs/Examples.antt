@@ -32,9 +32,11 @@ seen (some b) =
     some (getD (b .regs) 0 0 ∷ getD (b .regs) 7 0 ∷ getD (b .xmms) 0 0 ∷ getD (b .xmms) 1 0 ∷ getD (b .xmms) 2 0 ∷ getD (b .xmms) 3 0
     ∷ b .bytes 18446744073709551613 ∷ b .bytes 4 ∷ [])
 
+-- a row of the table
 abbrev example : Code → ℕ → Option (List ℕ) → Example
 example code fuel shown = record { code = code; fuel = fuel; shown = shown }
 
+-- the table
 pub examples : List Example
 examples =
     -- a While met at fuel 0 halts the machine, whatever its condition

@@ -130,6 +130,7 @@ pub code-is : parse (0x02 ∷ 0x41 ∷ 0x00 ∷ 0x40 ∷ 0x01 ∷ 0x00 ∷ 0x00 
 unfolding ran
 code-is = refl
 
+-- the first eleven bytes alone
 pub code-cut : check-code (0x02 ∷ 0x41 ∷ 0x00 ∷ 0x40 ∷ 0x01 ∷ 0x00 ∷ 0x00 ∷ 0x00 ∷ 0x00 ∷ 0x00 ∷ 0x00 ∷ []) ≡ refused 3 3
 unfolding ran
 code-cut = refl
@@ -174,6 +175,7 @@ job-text =
     ++ 82 ∷ 97 ∷ 120 ∷ 32 ∷ 53 ∷ 10 ∷ []
     ++ 99 ∷ 101 ∷ 108 ∷ 108 ∷ 32 ∷ 52 ∷ 48 ∷ 57 ∷ 54 ∷ 32 ∷ 54 ∷ 52 ∷ 32 ∷ 49 ∷ 50 ∷ 10 ∷ []
 
+-- the four lines
 pub job-prints : output job-bytes ≡ job-text
 unfolding ran job-bytes job-text output check-job end-checked numbers render first-line reg-lines xmm-lines cell-lines name-of digits
 job-prints = refl

@@ -32,11 +32,13 @@ pub record Stands (allowed : ℕ → Bool) (bs : List ℕ) (at e : ℕ) : Type 0
   pub head : IsRecord allowed bs at e
   pub operands : Operands (operand-count (byte-at bs at)) bs (behind bs at) e
 
+-- an instruction at p stands from `at` to e
 pub record IsIns (p : ℕ) (i : Instruction) (bs : List ℕ) (at e : ℕ) : Type 0 where
   pub place : p ≡ at
   pub says : i ≡ ins-at bs at
   pub stands : Stands is-ins bs at e
 
+-- a Block at p, up to its codes
 pub record IsBlock (p : ℕ) (bs : List ℕ) (at e : ℕ) : Type 0 where
   pub place : p ≡ at
   pub kind : byte-at bs at ≡ 0x20
@@ -48,11 +50,13 @@ pub record IsOcmp (q : ℕ) (c : Ocmp) (bs : List ℕ) (at m : ℕ) : Type 0 whe
   pub says : c ≡ ocmp-at bs at
   pub stands : Stands is-ocmp bs at m
 
+-- an IfElse at p whose parts begin at m
 pub record IsIfElse (p : ℕ) (bs : List ℕ) (at m e : ℕ) : Type 0 where
   pub place : p ≡ at
   pub kind : byte-at bs at ≡ 0x21
   pub ends : e ≡ m + number-at 4 bs (at + 1) + number-at 4 bs (at + 5)
 
+-- a While at p whose part begins at m
 pub record IsWhile (p : ℕ) (bs : List ℕ) (at m e : ℕ) : Type 0 where
   pub place : p ≡ at
   pub kind : byte-at bs at ≡ 0x22

@@ -27,14 +27,17 @@ Number n = n < 16
 abbrev pub Imm8 : ℕ → Type 0
 Imm8 n = n < 256
 
+-- a register
 abbrev pub WfReg : Reg → Type 0
 WfReg r = Number (r .number)
 
+-- a memory operand
 abbrev pub WfMaddr : Maddr → Type 0
 WfMaddr (MConst n) = n < 2 ^ 64
 WfMaddr (MReg r offset) = WfReg r × Signed 64 offset
 WfMaddr (MIndex base scale index offset) = WfReg base × Signed 16 scale × WfReg index × Signed 64 offset
 
+-- an operand
 abbrev pub WfOperand : Operand → Type 0
 WfOperand (OConst n) = n < 2 ^ 64
 WfOperand (OReg r) = WfReg r
@@ -44,6 +47,7 @@ WfOperand (OMem m) = WfMaddr m
 abbrev pub WfTwo : Operand → Operand → Type 0
 WfTwo a b = WfOperand a × WfOperand b
 
+-- an instruction
 unfoldable pub WfIns : Instruction → Type 0
 WfIns (Mov64 dst src) = WfTwo dst src
 WfIns (Add64 dst src) = WfTwo dst src
@@ -70,6 +74,7 @@ WfIns (Pinsrd dst src index) = Number dst × WfOperand src × Imm8 index
 WfIns (Pinsrq dst src index) = Number dst × WfOperand src × Imm8 index
 WfIns (VPSLLDQ dst src count) = Number dst × Number src × Imm8 count
 
+-- a comparison
 unfoldable pub WfOcmp : Ocmp → Type 0
 WfOcmp (OEq a b) = WfTwo a b
 WfOcmp (ONe a b) = WfTwo a b

@@ -24,15 +24,19 @@ pub record Config : Type 0 where
 abbrev pub config : State → List ℕ → Config
 config s values = record { regs = s .regs; xmms = s .xmms; flags = s .flags; values = values }
 
+-- a configuration with other registers
 abbrev pub with-regs : List ℕ → Config → Config
 with-regs regs s = record { regs = regs; xmms = s .xmms; flags = s .flags; values = s .values }
 
+-- with other xmm words
 abbrev pub with-xmms : List ℕ → Config → Config
 with-xmms xmms s = record { regs = s .regs; xmms = xmms; flags = s .flags; values = s .values }
 
+-- with other flags
 abbrev pub with-flags : ℕ → Config → Config
 with-flags flags s = record { regs = s .regs; xmms = s .xmms; flags = flags; values = s .values }
 
+-- with other cell values
 abbrev pub with-values : List ℕ → Config → Config
 with-values values s = record { regs = s .regs; xmms = s .xmms; flags = s .flags; values = values }
 
@@ -55,6 +59,7 @@ pub record End : Type 0 where
   pub how : Outcome
   pub config : Config
 
+-- the end of an outcome that leaves s
 abbrev pub ends : Outcome → Config → End
 ends o s = record { how = o; config = s }
 
@@ -69,6 +74,7 @@ continue (fault n p) s k = ends (fault n p) s
 continue (spent p) s k = ends (spent p) s
 continue (refused n p) s k = ends (refused n p) s
 
+-- goes on behind an end that is done
 abbrev pub and-then : End → (Config → End) → End
 and-then e k = continue (e .how) (e .config) k
 

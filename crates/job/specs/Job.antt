@@ -17,13 +17,15 @@ unfoldable pub numbers : ℕ → ℕ → ℕ → List ℕ → ℕ → List ℕ
 numbers size step zero bs at = []
 numbers size step (suc n) bs at = number-at size bs at ∷ numbers size step n bs (at + step)
 
--- where the fields of a job stand: fuel, fill, flags, registers, xmm words, cell count, cells
+-- the fuel
 abbrev pub fuel-of : List ℕ → ℕ
 fuel-of bs = number-at 4 bs 0
 
+-- the fill word
 abbrev pub fill-of : List ℕ → ℕ
 fill-of bs = number-at 8 bs 4
 
+-- the number of cells
 abbrev pub count-of : List ℕ → ℕ
 count-of bs = number-at 2 bs 404
 
@@ -36,6 +38,7 @@ env-of bs =
       fill = fill-of bs;
     }
 
+-- the start, with the cells' values
 abbrev pub start-of : List ℕ → Config
 start-of bs =
     record {

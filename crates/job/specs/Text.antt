@@ -23,28 +23,35 @@ field n = 32 ∷ decimal n
 abbrev pub newline : List ℕ
 newline = 10 ∷ []
 
--- "done", "fault", "spent", "refused", " at", "flags", "xmm", "cell"
+-- "done"
 abbrev pub word-done : List ℕ
 word-done = 100 ∷ 111 ∷ 110 ∷ 101 ∷ []
 
+-- "fault"
 abbrev pub word-fault : List ℕ
 word-fault = 102 ∷ 97 ∷ 117 ∷ 108 ∷ 116 ∷ []
 
+-- "spent"
 abbrev pub word-spent : List ℕ
 word-spent = 115 ∷ 112 ∷ 101 ∷ 110 ∷ 116 ∷ []
 
+-- "refused"
 abbrev pub word-refused : List ℕ
 word-refused = 114 ∷ 101 ∷ 102 ∷ 117 ∷ 115 ∷ 101 ∷ 100 ∷ []
 
+-- " at"
 abbrev pub word-at : List ℕ
 word-at = 32 ∷ 97 ∷ 116 ∷ []
 
+-- "flags"
 abbrev pub word-flags : List ℕ
 word-flags = 102 ∷ 108 ∷ 97 ∷ 103 ∷ 115 ∷ []
 
+-- "xmm"
 abbrev pub word-xmm : List ℕ
 word-xmm = 120 ∷ 109 ∷ 109 ∷ []
 
+-- "cell"
 abbrev pub word-cell : List ℕ
 word-cell = 99 ∷ 101 ∷ 108 ∷ 108 ∷ []
 

@@ -11,13 +11,15 @@ use Rattle.machine.specs.declared.State.{State}
 abbrev pub reg : ℕ → Reg
 reg n = record { number = n }
 
--- the registers that an instruction names by itself, and the one that is no destination
+-- the factor and the low half of Mul64
 abbrev pub Rax : Reg
 Rax = reg 0
 
+-- the second factor of Mulx64, and the high half of Mul64
 abbrev pub Rdx : Reg
 Rdx = reg 3
 
+-- no destination
 abbrev pub Rsp : Reg
 Rsp = reg 7
 

@@ -50,6 +50,7 @@ module _ (load-mem64 : ℤ → Memory → ℕ) (int-to-nat64 : ℤ → ℕ) (env
     pub spent-log : (p : ℕ) (t : Config) → r ≡ ends (spent p) t → bad-event f ≡ some (starved p (state-of env t))
     pub log-spent : (p : ℕ) (u : State) → bad-event f ≡ some (starved p u) → (t : Config) × (r ≡ ends (spent p) t) × (u ≡ state-of env t)
 
+-- all that the second demand says of run and source
 pub record Correspondence : Type 0 where
   -- the log without its events is the source
   pub erased : (load-mem64 : ℤ → Memory → ℕ) (int-to-nat64 : ℤ → ℕ) (fill : ℕ) (c : Code) (f : ℕ) (s : State)

@@ -109,12 +109,15 @@ abbrev pub returned : State → Logged
 returned s = ([], some s)
 
 module _ (load-mem64 : ℤ → Memory → ℕ) (int-to-nat64 : ℤ → ℕ) (fill : ℕ) where
+  -- what the text names, over the open places
   abbrev havoc : {A : Type 0} → State → A → ℕ
   havoc = Source.havoc load-mem64 int-to-nat64 fill
 
+  -- `eval_operand`
   abbrev eval-operand : Operand → State → ℕ
   eval-operand = Source.eval-operand load-mem64 int-to-nat64 fill
 
+  -- `valid_shift_operand`
   abbrev valid-shift-operand : Operand → State → Bool
   valid-shift-operand = Source.valid-shift-operand load-mem64 int-to-nat64 fill
 

@@ -31,25 +31,31 @@ pub record State : Type 0 where
   pub flags : ℕ
   pub mem : Memory
 
+-- `{s with ok = ..}`
 abbrev pub with-ok : Bool → State → State
 with-ok ok s = record { ok = ok; regs = s .regs; xmms = s .xmms; flags = s .flags; mem = s .mem }
 
+-- `{s with regs = ..}`
 abbrev pub with-regs : List ℕ → State → State
 with-regs regs s = record { ok = s .ok; regs = regs; xmms = s .xmms; flags = s .flags; mem = s .mem }
 
+-- `{s with xmms = ..}`
 abbrev pub with-xmms : List ℕ → State → State
 with-xmms xmms s = record { ok = s .ok; regs = s .regs; xmms = xmms; flags = s .flags; mem = s .mem }
 
+-- `{s with flags = ..}`
 abbrev pub with-flags : ℕ → State → State
 with-flags flags s = record { ok = s .ok; regs = s .regs; xmms = s .xmms; flags = flags; mem = s .mem }
 
+-- `{s with mem = ..}`
 abbrev pub with-mem : Memory → State → State
 with-mem mem s = record { ok = s .ok; regs = s .regs; xmms = s .xmms; flags = s .flags; mem = mem }
 
--- `pow2_32` and `pow2_64`
+-- `pow2_32`
 abbrev pub pow2-32 : ℕ
 pow2-32 = 2 ^ 32
 
+-- `pow2_64`
 abbrev pub pow2-64 : ℕ
 pow2-64 = 2 ^ 64
 

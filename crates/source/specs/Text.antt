@@ -18,27 +18,35 @@ use Rattle.source.specs.Source as Source
 use Rattle.source.specs.Source.{State, St, pow2-64, _>>=_, _>>_, get, check, valid-operand, update-flags, run, if-some}
 
 module _ (load-mem64 : ℤ → Memory → ℕ) (int-to-nat64 : ℤ → ℕ) (fill : ℕ) where
+  -- what the text names, over the open places
   abbrev eval-ins : Instruction → St (Unit {0})
   eval-ins = Source.eval-ins load-mem64 int-to-nat64 fill
 
+  -- `eval_operand`
   abbrev eval-operand : Operand → State → ℕ
   eval-operand = Source.eval-operand load-mem64 int-to-nat64 fill
 
+  -- `update_operand`
   abbrev update-operand : Operand → Instruction → ℕ → St (Unit {0})
   update-operand = Source.update-operand load-mem64 int-to-nat64 fill
 
+  -- `havoc`
   abbrev havoc : State → Instruction → ℕ
   havoc = Source.havoc load-mem64 int-to-nat64 fill
 
+  -- `eval_code`
   abbrev eval-code : Code → ℕ → State → Option State
   eval-code = Source.eval-code load-mem64 int-to-nat64 fill
 
+  -- `eval_codes`
   abbrev eval-codes : Codes → ℕ → State → Option State
   eval-codes = Source.eval-codes load-mem64 int-to-nat64 fill
 
+  -- `eval_while b c`
   abbrev eval-while : Ocmp → Code → ℕ → State → Option State
   eval-while b c = Source.eval-while load-mem64 int-to-nat64 fill b (Source.eval-code load-mem64 int-to-nat64 fill c)
 
+  -- `run_ocmp`
   abbrev run-ocmp : State → Ocmp → State × Bool
   run-ocmp = Source.run-ocmp load-mem64 int-to-nat64 fill
 
