@@ -1,0 +1,46 @@
+-- What the C interface says of an answer, in numbers.
+use Prim.Native.Nat.{ℕ}
+use Rattle.machine.specs.Cells.{Verdict}
+use Rattle.machine.specs.Cells.{accepted as check-accepted, refused as check-refused}
+use Rattle.eval.specs.Config.{Config, Outcome, done, fault, spent, refused, End}
+
+-- a number with a place or an index
+pub record Refusal : Type 0 where
+  pub number : ℕ
+  pub place : ℕ
+
+abbrev pub refusal : ℕ → ℕ → Refusal
+refusal n p = record { number = n; place = p }
+
+-- the number and place of what a check says: accepted is 0 at 0
+abbrev pub refusal-of : Verdict → Refusal
+refusal-of check-accepted = refusal 0 0
+refusal-of (check-refused n p) = refusal n p
+
+-- a kind of outcome, with a number and a place
+pub record Told : Type 0 where
+  pub kind : ℕ
+  pub number : ℕ
+  pub place : ℕ
+
+abbrev pub told : ℕ → ℕ → ℕ → Told
+told kind n p = record { kind = kind; number = n; place = p }
+
+-- the kind, number and place of each outcome: Done 0, Fault 1, Spent 2, Refused 3; what a kind lacks is 0
+abbrev pub told-of : Outcome → Told
+told-of done = told 0 0 0
+told-of (fault n p) = told 1 n p
+told-of (spent p) = told 2 0 p
+told-of (refused n p) = told 3 n p
+
+-- an end in numbers, and what it leaves
+pub record Ending : Type 0 where
+  pub how : Told
+  pub config : Config
+
+abbrev pub ending : Told → Config → Ending
+ending t s = record { how = t; config = s }
+
+-- the numbers of an end
+abbrev pub ending-of : End → Ending
+ending-of e = ending (told-of (e .how)) (e .config)

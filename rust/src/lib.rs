@@ -1,0 +1,137 @@
+//! A proved evaluator of x64 kernels, called safely from Rust.
+//!
+//! The functions of the static library ask nothing of the contents of what they are lent, and slices and references
+//! of Rust meet what C asks of pointers. So each wrapper is safe for every argument.
+
+#![deny(unsafe_op_in_unsafe_fn)]
+
+mod raw;
+
+/// Why code or cells were not accepted: document 01's number, with a place (code) or an index (cells).
+#[derive(Clone, Copy, Debug, PartialEq, Eq)]
+pub struct Refusal {
+    pub number: u8,
+    pub place: usize,
+}
+
+/// How a run ended.
+#[derive(Clone, Copy, Debug, PartialEq, Eq)]
+pub enum Answer {
+    /// After the last code.
+    Done,
+    /// A check failed: its number, and the place of the instruction or comparison.
+    Fault { number: u8, place: usize },
+    /// A While at this place was met without fuel.
+    Spent { place: usize },
+    /// Code or cells were not accepted.
+    Refused(Refusal),
+}
+
+/// Registers in state order (Rax, Rbx, Rcx, Rdx, Rsi, Rdi, Rbp, Rsp, R8 to R15), xmm words (word j of xmm i at
+/// 4 * i + j) and flags.
+#[derive(Clone, Debug, PartialEq, Eq)]
+pub struct State {
+    pub regs: [u64; 16],
+    pub xmms: [u32; 64],
+    pub flags: u64,
+}
+
+impl Default for State {
+    fn default() -> State {
+        State {
+            regs: [0; 16],
+            xmms: [0; 64],
+            flags: 0,
+        }
+    }
+}
+
+/// Cells, lent: their values are written.
+pub struct Cells<'a> {
+    pub addresses: &'a [u64],
+    pub tags: &'a [u8],
+    pub values: &'a mut [u64],
+}
+
+/// What a caller names for a run beside code, cells and start.
+#[derive(Clone, Copy, Debug, Default, PartialEq, Eq)]
+pub struct Setting {
+    pub fill: u64,
+    pub fuel: u32,
+}
+
+/// Checks code.
+pub fn check_code(code: &[u8]) -> Result<(), Refusal> {
+    let mut place = 0;
+    // SAFETY: the slice and the reference live through the call, which keeps neither.
+    let number = unsafe { raw::pokchrei_check_code(code.as_ptr(), code.len(), &mut place) };
+    accepted(number, place)
+}
+
+/// Checks cells.
+pub fn check_cells(addresses: &[u64], tags: &[u8], values: &[u64]) -> Result<(), Refusal> {
+    let mut index = 0;
+    // SAFETY: the slices and the reference live through the call, which keeps none of them.
+    let number = unsafe {
+        raw::pokchrei_check_cells(
+            addresses.as_ptr(),
+            addresses.len(),
+            tags.as_ptr(),
+            tags.len(),
+            values.as_ptr(),
+            values.len(),
+            &mut index,
+        )
+    };
+    accepted(number, index)
+}
+
+/// Runs code over lent cells, from a start to its exact end, both in `state` and the cells' values. A refused run
+/// leaves both as they were.
+pub fn run(code: &[u8], cells: Cells<'_>, state: &mut State, setting: Setting) -> Answer {
+    let (mut number, mut place) = (0, 0);
+    // SAFETY: what is lent lives through the call, which keeps none of it; what is written is borrowed apart from
+    // all else.
+    let kind = unsafe {
+        raw::pokchrei_run(
+            code.as_ptr(),
+            code.len(),
+            cells.addresses.as_ptr(),
+            cells.addresses.len(),
+            cells.tags.as_ptr(),
+            cells.tags.len(),
+            cells.values.as_mut_ptr(),
+            cells.values.len(),
+            &mut state.regs,
+            &mut state.xmms,
+            &mut state.flags,
+            setting.fill,
+            setting.fuel,
+            &mut number,
+            &mut place,
+        )
+    };
+    match kind {
+        0 => Answer::Done,
+        1 => Answer::Fault { number, place },
+        2 => Answer::Spent { place },
+        _ => Answer::Refused(Refusal { number, place }),
+    }
+}
+
+/// The room that the text of a job is given; it needs no more.
+pub const JOB_ROOM: usize = 65_536;
+
+/// What the job program prints of a job's bytes.
+pub fn job<'a>(input: &[u8], out: &'a mut [u8; JOB_ROOM]) -> &'a [u8] {
+    // SAFETY: the slice and the array live through the call, which keeps neither.
+    let length = unsafe { raw::pokchrei_job(input.as_ptr(), input.len(), out) };
+    &out[..length]
+}
+
+fn accepted(number: u8, place: usize) -> Result<(), Refusal> {
+    match number {
+        0 => Ok(()),
+        _ => Err(Refusal { number, place }),
+    }
+}

@@ -1,0 +1,132 @@
+//! Cases of document 01 through the wrapper.
+
+use pokchrei::{check_cells, check_code, job, run};
+use pokchrei::{Answer, Cells, Refusal, Setting, State, JOB_ROOM};
+
+const ADD_RAX_1: [u8; 12] = [0x02, 0x41, 0x00, 0x40, 1, 0, 0, 0, 0, 0, 0, 0];
+const SUB_RAX_1: [u8; 12] = [0x07, 0x41, 0x00, 0x40, 1, 0, 0, 0, 0, 0, 0, 0];
+
+/// Runs code with no cells from Rax and flags.
+fn run_alone(code: &[u8], rax: u64, flags: u64, setting: Setting) -> (Answer, State) {
+    let mut state = State {
+        flags,
+        ..State::default()
+    };
+    state.regs[0] = rax;
+    let cells = Cells {
+        addresses: &[],
+        tags: &[],
+        values: &mut [],
+    };
+    let answer = run(code, cells, &mut state, setting);
+    (answer, state)
+}
+
+#[test]
+fn p1_add_wraps_and_sets_carry() {
+    let (answer, state) = run_alone(&ADD_RAX_1, u64::MAX, 0, Setting::default());
+    assert_eq!((answer, state.regs[0], state.flags), (Answer::Done, 0, 1));
+}
+
+#[test]
+fn p2_add_keeps_overflow() {
+    let (answer, state) = run_alone(&ADD_RAX_1, 1, 2048, Setting::default());
+    assert_eq!(
+        (answer, state.regs[0], state.flags),
+        (Answer::Done, 2, 2048)
+    );
+}
+
+#[test]
+fn p3_sub_sets_flags_to_fill() {
+    let setting = Setting { fill: 9, fuel: 0 };
+    let (answer, state) = run_alone(&SUB_RAX_1, 0, 0, setting);
+    assert_eq!(
+        (answer, state.regs[0], state.flags),
+        (Answer::Done, u64::MAX, 9)
+    );
+}
+
+#[test]
+fn p10_fuel_is_tested_before_a_false_condition() {
+    // While Rax differs from 0, Sub64 Rax 1
+    let mut code = vec![
+        0x22, 12, 0, 0, 0, 0x31, 0x41, 0, 0x40, 0, 0, 0, 0, 0, 0, 0, 0,
+    ];
+    code.extend(SUB_RAX_1);
+    let (answer, _) = run_alone(&code, 0, 0, Setting::default());
+    assert_eq!(answer, Answer::Spent { place: 0 });
+    let (answer, _) = run_alone(&code, 0, 0, Setting { fill: 0, fuel: 1 });
+    assert_eq!(answer, Answer::Done);
+}
+
+#[test]
+fn p12_rsp_takes_nothing() {
+    let mut code = ADD_RAX_1;
+    code[0] = 0x01;
+    code[2] = 7;
+    let (answer, state) = run_alone(&code, 3, 5, Setting::default());
+    let fault = Answer::Fault {
+        number: 32,
+        place: 0,
+    };
+    assert_eq!((answer, state.regs[7], state.flags), (fault, 0, 5));
+}
+
+#[test]
+fn cut_code_is_refused_and_the_start_comes_back() {
+    let refusal = Refusal {
+        number: 3,
+        place: 3,
+    };
+    assert_eq!(check_code(&ADD_RAX_1), Ok(()));
+    assert_eq!(check_code(&ADD_RAX_1[..11]), Err(refusal));
+    let (answer, state) = run_alone(&ADD_RAX_1[..11], 8, 1, Setting::default());
+    assert_eq!(
+        (answer, state.regs[0], state.flags),
+        (Answer::Refused(refusal), 8, 1)
+    );
+}
+
+#[test]
+fn cells_that_overlap_are_refused() {
+    let refusal = Refusal {
+        number: 15,
+        place: 1,
+    };
+    assert_eq!(check_cells(&[0, 7], &[64, 64], &[0, 0]), Err(refusal));
+    assert_eq!(check_cells(&[0, 8], &[64, 64], &[0, 0]), Ok(()));
+    assert_eq!(check_cells(&[], &[], &[]), Ok(()));
+}
+
+#[test]
+fn the_job_of_document_01() {
+    let code = [0x02, 0x42, 0x00, 0x10, 0, 0, 0, 0, 0, 0, 0x41, 0x00];
+    let mut values = [7];
+    let mut state = State::default();
+    state.regs[0] = 5;
+    let cells = Cells {
+        addresses: &[4096],
+        tags: &[64],
+        values: &mut values,
+    };
+    let answer = run(&code, cells, &mut state, Setting::default());
+    let mut end = State::default();
+    end.regs[0] = 5;
+    assert_eq!((answer, state, values), (Answer::Done, end, [12]));
+}
+
+#[test]
+fn the_bytes_of_that_job() {
+    let mut input = vec![0; 435];
+    input[20] = 5;
+    input[404] = 1;
+    input[407] = 0x10;
+    input[414] = 64;
+    input[415] = 7;
+    input[423..].copy_from_slice(&[0x02, 0x42, 0x00, 0x10, 0, 0, 0, 0, 0, 0, 0x41, 0x00]);
+    let mut out = [0; JOB_ROOM];
+    let text = job(&input, &mut out);
+    assert_eq!(text, b"done\nflags 0\nRax 5\ncell 4096 64 12\n");
+    assert_eq!(job(&input[..405], &mut out), b"refused 41 at 0\n");
+}
