@@ -1,8 +1,7 @@
 //! An evaluator written apart from the port, from document 01 and the F* text
 //! alone, and the comparison of the two.
 
-#![cfg_attr(not(feature = "c_target"), forbid(unsafe_code))]
-#![cfg_attr(feature = "c_target", deny(unsafe_code))]
+#![forbid(unsafe_code)]
 
 mod batch;
 mod bytes;
@@ -43,7 +42,8 @@ compare selfcheck                the examples of document 01
 compare store N SEED DIR         write a stored set of N jobs to DIR/jobs.txt
 compare check FILE PROGRAM       run a stored set through a program
 compare make SEED INDEX JOBFILE  write one generated job
-PROGRAM is a path with arguments, or `self` for this evaluator.";
+PROGRAM is a path with arguments, or `self` for this evaluator, or (built
+with the feature c_target) `c` for the port linked in.";
 
 fn main() -> ExitCode {
     let words: Vec<String> = std::env::args().skip(1).collect();
