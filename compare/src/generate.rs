@@ -1,8 +1,8 @@
 //! Jobs from a seed. A job depends on the seed and its index alone; the index
 //! also chooses the family, so that every answer and number comes up early.
 
+use crate::build::block;
 use crate::damage;
-use crate::generate_code::block;
 use crate::job::Job;
 use crate::large;
 use crate::nest;

@@ -1,15 +1,12 @@
 //! Codes for generated jobs: every instruction, comparison and structure.
 
+use crate::build::block;
 use crate::scene::Scene;
 use crate::tree::Instruction::*;
 use crate::tree::*;
 
 fn ins(instruction: Instruction) -> Code {
     Code::unplaced(Node::Ins(instruction))
-}
-
-pub fn block(codes: Vec<Code>) -> Code {
-    Code::unplaced(Node::Block(codes))
 }
 
 // Instructions.

@@ -1,9 +1,9 @@
 //! Jobs at the limits of size: 1,024 cells, 16,384 bytes of code, 34,198
 //! bytes in all, and one more of each.
 
+use crate::build::block;
 use crate::cells::{Cell, MOST};
 use crate::generate::{job_of, settled};
-use crate::generate_code::block;
 use crate::job::Job;
 use crate::reader::LONGEST;
 use crate::rng::Rng;

@@ -4,6 +4,7 @@
 #![forbid(unsafe_code)]
 
 mod batch;
+mod build;
 mod bytes;
 mod cells;
 mod checks;
@@ -24,6 +25,7 @@ mod source;
 mod state;
 mod store;
 mod sweep;
+mod systematic;
 mod tally;
 mod target;
 #[cfg(feature = "c_target")]
@@ -40,6 +42,8 @@ compare run JOBFILE              answer one job by this evaluator
 compare batch N SEED PROGRAM     compare N generated jobs; SEED may be `new`
 compare selfcheck                the examples of document 01
 compare store N SEED DIR         write a stored set of N jobs to DIR/jobs.txt
+compare systematic DIR           write the systematic set to DIR/systematic
+compare stored N SEED DIR        the same, and N generated jobs to DIR/random
 compare check FILE PROGRAM       run a stored set through a program
 compare make SEED INDEX JOBFILE  write one generated job
 PROGRAM is a path with arguments, or `self` for this evaluator, or (built
@@ -62,7 +66,16 @@ fn command(words: &[String]) -> Result<(), String> {
         ["run", file] => run_one(file),
         ["batch", n, seed, _, ..] => run_batch(n, seed, &words[3..]),
         ["selfcheck"] => selfcheck::all().map(|n| println!("{n} examples hold")),
-        ["store", n, seed, dir] => store_set(n, seed, dir),
+        ["store", n, seed, dir] => {
+            let stored = store::choose(number(n)? as usize, seed_of(seed)?)?;
+            write_set(dir, "jobs.txt", store::as_text(&stored).as_bytes())
+        }
+        ["systematic", dir] => write_systematic(dir),
+        ["stored", n, seed, dir] => {
+            write_systematic(dir)?;
+            let chosen = store::choose(number(n)? as usize, number(seed)?)?;
+            write_set(dir, "random", &store::as_bytes(&chosen))
+        }
         ["check", file, _, ..] => check_set(file, &words[2..]),
         ["make", seed, index, file] => {
             let bytes = generate::job_bytes(number(seed)?, number(index)?);
@@ -106,17 +119,24 @@ fn run_batch(n: &str, seed: &str, program: &[String]) -> Result<(), String> {
     Ok(())
 }
 
-fn store_set(n: &str, seed: &str, dir: &str) -> Result<(), String> {
-    let stored = store::choose(number(n)? as usize, seed_of(seed)?)?;
-    let file = format!("{dir}/jobs.txt");
+fn write_systematic(dir: &str) -> Result<(), String> {
+    let records = systematic::records()?;
+    write_set(dir, "systematic", &store::as_bytes(&records))?;
+    println!("{} systematic jobs", records.len());
+    Ok(())
+}
+
+fn write_set(dir: &str, name: &str, stored: &[u8]) -> Result<(), String> {
+    let file = format!("{dir}/{name}");
     fs::create_dir_all(dir).map_err(|e| format!("{dir}: {e}"))?;
     fs::write(&file, stored).map_err(|e| format!("{file}: {e}"))
 }
 
 fn check_set(file: &str, program: &[String]) -> Result<(), String> {
-    let stored = fs::read_to_string(file).map_err(|e| format!("{file}: {e}"))?;
+    let stored = fs::read(file).map_err(|e| format!("{file}: {e}"))?;
+    let records = store::parse(&stored)?;
     let mut target = target::by_name(program)?;
-    let count = store::check(&stored, target.as_mut())?;
-    println!("{count} stored jobs answered alike");
+    store::check(&records, target.as_mut())?;
+    println!("{} stored jobs answered alike", records.len());
     Ok(())
 }

@@ -1,14 +1,13 @@
 //! The examples of document 01 against this evaluator. The expected values
 //! are typed from there; start values that it leaves open are 0.
 
-use crate::cells::{self, Cell};
+use crate::build::*;
+use crate::cells;
 use crate::job::{parse, render, Job};
 use crate::reader::{self, Trouble};
 use crate::run::answer_bytes;
-use crate::state::{Quad, Start};
 use crate::tree::Instruction::*;
 use crate::tree::*;
-use crate::writer::write;
 
 const TOP: u64 = u64::MAX;
 const A: Operand = Operand::Reg(RAX);
@@ -34,65 +33,6 @@ pub fn all() -> Result<usize, String> {
 }
 
 type Example = (&'static str, Job, &'static str);
-
-/// A job over nothing but zeros.
-fn plain(instruction: Instruction) -> Job {
-    of_code(Code::unplaced(Node::Ins(instruction)))
-}
-
-fn of_code(code: Code) -> Job {
-    Job {
-        fuel: 0,
-        fill: 0,
-        start: Start {
-            flags: 0,
-            regs: [0; 16],
-            xmms: [[0; 4]; 16],
-        },
-        cells: Vec::new(),
-        code: write(&code),
-    }
-}
-
-impl Job {
-    fn reg(mut self, reg: Reg, value: u64) -> Job {
-        self.start.regs[usize::from(reg)] = value;
-        self
-    }
-
-    fn xmm(mut self, xmm: Xmm, value: Quad) -> Job {
-        self.start.xmms[usize::from(xmm)] = value;
-        self
-    }
-
-    fn flags(mut self, flags: u64) -> Job {
-        self.start.flags = flags;
-        self
-    }
-
-    fn fill(mut self, fill: u64) -> Job {
-        self.fill = fill;
-        self
-    }
-
-    fn fuel(mut self, fuel: u32) -> Job {
-        self.fuel = fuel;
-        self
-    }
-
-    fn cell(mut self, address: u64, tag: u8, value: u64) -> Job {
-        self.cells.push(Cell {
-            address,
-            tag,
-            value,
-        });
-        self
-    }
-}
-
-fn number(n: u64) -> Operand {
-    Operand::Const(n)
-}
 
 fn kernels() -> Vec<Example> {
     let p1 = plain(Add64(A, number(1))).reg(RAX, TOP);

@@ -1,8 +1,11 @@
-//! A stored set of jobs and their texts, in one text file.
+//! Stored sets of jobs and their texts, as text to read or as bytes.
 //!
-//! A record is a line `job` and the job's bytes, then the text's lines, then
-//! an empty line. The bytes are words of hex pairs; a word `hh*n` stands for
-//! the byte hh, n (decimal) times.
+//! As text a record is a line `job` and the job's bytes, then the text's
+//! lines, then an empty line. The bytes are words of hex pairs; a word `hh*n`
+//! stands for the byte hh, n (decimal) times.
+//!
+//! As bytes a record is the job and then its text, each behind its length in
+//! four bytes, low first.
 
 use crate::batch::own_answer;
 use crate::generate::job_bytes;
@@ -10,10 +13,18 @@ use crate::job::render;
 use crate::tally::{class, classes, Tally};
 use crate::target::Target;
 
+/// A job's bytes, and this evaluator's text for it.
+pub struct Record {
+    pub job: Vec<u8>,
+    pub text: String,
+}
+
 /// Runs shorter than this are spelled out.
 const SHORTEST_RUN: usize = 5;
 /// Longer jobs are left out of a stored set.
 const WIDEST: usize = 2_200;
+/// Classes of long jobs, of which one will do.
+const LONG: [&str; 2] = ["refused  1", "refused 42"];
 
 pub fn squeeze(bytes: &[u8]) -> String {
     let mut words = Vec::new();
@@ -56,46 +67,104 @@ fn unhex(pairs: &str) -> Option<Vec<u8>> {
 
 /// Chooses jobs of the seed so that every class of answer is there; about
 /// half of them are Done.
-pub fn choose(count: usize, seed: u64) -> Result<String, String> {
+pub fn choose(count: usize, seed: u64) -> Result<Vec<Record>, String> {
     let others = classes().len() - 1;
     let share = (count / (2 * others)).max(1);
+    let bad = share * (others - LONG.len()) + LONG.len();
     let mut tally = Tally::default();
-    let mut stored = String::new();
+    let mut stored = Vec::new();
     for index in 0..1000 * count as u64 {
         if tally.jobs as usize >= count {
             return Ok(stored);
         }
-        let bytes = job_bytes(seed, index);
-        let own = own_answer(&bytes, seed, &mut Tally::default())?;
+        let job = job_bytes(seed, index);
+        let own = own_answer(&job, seed, &mut Tally::default())?;
         let name = class(&own.answer);
         let most = match name.as_str() {
-            "done" => count.saturating_sub(share * others),
+            "done" => count.saturating_sub(bad),
+            long if LONG.contains(&long) => 1,
             _ => share,
         };
-        let line = squeeze(&bytes);
-        if line.len() > WIDEST || tally.count(&name) as usize >= most {
+        if squeeze(&job).len() > WIDEST || tally.count(&name) as usize >= most {
             continue;
         }
         tally.add(&own.answer);
-        stored.push_str(&format!("job {line}\n{}\n", render(&own)));
+        let text = render(&own);
+        stored.push(Record { job, text });
     }
     Err(format!("only {} jobs found", tally.jobs))
 }
 
-/// Goes through a stored set; hands back how many jobs it holds.
-pub fn check(stored: &str, target: &mut dyn Target) -> Result<usize, String> {
-    let mut count = 0;
-    for record in stored.split("\n\n").filter(|r| !r.trim().is_empty()) {
-        let (line, text) = record.split_once('\n').ok_or("a record without a text")?;
-        let line = line.strip_prefix("job ").ok_or("a record without a job")?;
-        let answer = target.answer(&expand(line)?)?;
-        let answer = String::from_utf8_lossy(&answer).into_owned();
-        if answer.trim_end_matches('\n') != text.trim_end_matches('\n') {
-            return Err(format!("job {line}\nstored:\n{text}\nanswered:\n{answer}"));
+pub fn as_text(records: &[Record]) -> String {
+    let spelled = |r: &Record| format!("job {}\n{}\n", squeeze(&r.job), r.text);
+    records.iter().map(spelled).collect()
+}
+
+pub fn as_bytes(records: &[Record]) -> Vec<u8> {
+    let mut out = Vec::new();
+    for record in records {
+        for part in [&record.job[..], record.text.as_bytes()] {
+            out.extend((part.len() as u32).to_le_bytes());
+            out.extend(part);
         }
-        count += 1;
     }
-    Ok(count)
+    out
+}
+
+/// Reads a stored set of either form; text begins with the word `job`.
+pub fn parse(stored: &[u8]) -> Result<Vec<Record>, String> {
+    match std::str::from_utf8(stored) {
+        Ok(text) if text.starts_with("job ") => from_text(text),
+        _ => from_bytes(stored),
+    }
+}
+
+fn from_text(stored: &str) -> Result<Vec<Record>, String> {
+    let record = |lines: &str| {
+        let (line, text) = lines.split_once('\n').ok_or("a record without a text")?;
+        let line = line.strip_prefix("job ").ok_or("a record without a job")?;
+        Ok(Record {
+            job: expand(line)?,
+            text: format!("{}\n", text.trim_end_matches('\n')),
+        })
+    };
+    let records = stored.split("\n\n").filter(|r| !r.trim().is_empty());
+    records.map(record).collect()
+}
+
+fn from_bytes(stored: &[u8]) -> Result<Vec<Record>, String> {
+    let (mut rest, mut records) = (stored, Vec::new());
+    while !rest.is_empty() {
+        let job = part(&mut rest)?.to_vec();
+        let text = part(&mut rest)?.to_vec();
+        let text = String::from_utf8(text).map_err(|e| e.to_string())?;
+        records.push(Record { job, text });
+    }
+    Ok(records)
+}
+
+fn part<'a>(rest: &mut &'a [u8]) -> Result<&'a [u8], String> {
+    let (length, behind) = rest.split_first_chunk().ok_or("a length is cut short")?;
+    let length = u32::from_le_bytes(*length) as usize;
+    let (part, behind) = behind
+        .split_at_checked(length)
+        .ok_or("a part is cut short")?;
+    *rest = behind;
+    Ok(part)
+}
+
+/// Goes through a stored set.
+pub fn check(records: &[Record], target: &mut dyn Target) -> Result<(), String> {
+    for (index, record) in records.iter().enumerate() {
+        let answer = String::from_utf8_lossy(&target.answer(&record.job)?).into_owned();
+        if answer != record.text {
+            let (line, text) = (squeeze(&record.job), &record.text);
+            return Err(format!(
+                "job {index}: {line}\nstored:\n{text}answered:\n{answer}"
+            ));
+        }
+    }
+    Ok(())
 }
 
 #[cfg(test)]
@@ -111,5 +180,19 @@ mod tests {
         assert_eq!(squeeze(&[1, 0, 0, 0, 0, 0, 2]), "01 00*5 02");
         assert!(expand("0").is_err());
         assert!(expand("zz").is_err());
+    }
+
+    #[test]
+    fn records_come_back_in_either_form() {
+        let records = choose(40, 3).unwrap();
+        for stored in [as_bytes(&records), as_text(&records).into_bytes()] {
+            let back = parse(&stored).unwrap();
+            assert_eq!(back.len(), 40);
+            for (a, b) in records.iter().zip(&back) {
+                assert_eq!((&a.job, &a.text), (&b.job, &b.text));
+            }
+        }
+        let bytes = as_bytes(&records);
+        assert!(from_bytes(&bytes[..bytes.len() - 1]).is_err());
     }
 }

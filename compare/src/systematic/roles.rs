@@ -1,0 +1,105 @@
+//! Every operand kind in every role of every instruction with operands; in
+//! every role also memory without a 64-bit cell, in every destination Rsp.
+
+use super::*;
+use crate::tree::Instruction::*;
+use Role::{Destination, Source};
+
+#[derive(Clone, Copy, PartialEq)]
+enum Role {
+    Destination,
+    Source,
+}
+
+struct Shape {
+    build: fn(&[Operand]) -> Instruction,
+    roles: &'static [Role],
+}
+
+const TWO: &[Role] = &[Destination, Source];
+
+fn shape(build: fn(&[Operand]) -> Instruction, roles: &'static [Role]) -> Shape {
+    Shape { build, roles }
+}
+
+fn shapes() -> Vec<Shape> {
+    vec![
+        shape(|o| Mov64(o[0], o[1]), TWO),
+        shape(|o| Add64(o[0], o[1]), TWO),
+        shape(
+            |o| AddLea64(o[0], o[1], o[2]),
+            &[Destination, Source, Source],
+        ),
+        shape(|o| AddCarry64(o[0], o[1]), TWO),
+        shape(|o| Adcx64(o[0], o[1]), TWO),
+        shape(|o| Adox64(o[0], o[1]), TWO),
+        shape(|o| Sub64(o[0], o[1]), TWO),
+        shape(|o| Mul64(o[0]), &[Source]),
+        shape(
+            |o| Mulx64(o[0], o[1], o[2]),
+            &[Destination, Destination, Source],
+        ),
+        shape(|o| IMul64(o[0], o[1]), TWO),
+        shape(|o| Xor64(o[0], o[1]), TWO),
+        shape(|o| And64(o[0], o[1]), TWO),
+        shape(|o| Shr64(o[0], o[1]), TWO),
+        shape(|o| Shl64(o[0], o[1]), TWO),
+        shape(|o| Pextrq(o[0], 1, 1), &[Destination]),
+        shape(|o| Pinsrd(1, o[0], 2), &[Source]),
+        shape(|o| Pinsrq(1, o[0], 1), &[Source]),
+    ]
+}
+
+/// An operand of each kind; the memory is a cell of 7 or the one beside it.
+pub fn kinds(behind: i64) -> [Operand; 5] {
+    [
+        number(5),
+        reg(if behind == 0 { SMALL } else { TARGET }),
+        at(CELL + behind as u64),
+        at_reg(NEAR, 96 + behind),
+        at_index(BASE, -2, INDEX, behind),
+    ]
+}
+
+/// Memory with no 64-bit cell there: nothing listed, a narrow cell, below 0,
+/// above 2^64-1.
+const BARE: [Operand; 6] = [
+    Operand::Mem(Maddr::Const(BESIDE)),
+    Operand::Mem(Maddr::Const(4112)),
+    Operand::Mem(Maddr::Reg(NEAR, 113)),
+    Operand::Mem(Maddr::Index(BASE, -2, INDEX, 19)),
+    Operand::Mem(Maddr::Reg(NEAR, -4001)),
+    Operand::Mem(Maddr::Index(TARGET, 1, INDEX, 0)),
+];
+
+fn usual(role: Role, position: usize) -> Operand {
+    match role {
+        Destination => reg(TARGET + position as u8),
+        Source => reg(SMALL),
+    }
+}
+
+/// The shape with its usual operands but for one.
+fn with(shape: &Shape, position: usize, operand: Operand) -> Job {
+    let mut operands: Vec<Operand> = (0..shape.roles.len())
+        .map(|i| usual(shape.roles[i], i))
+        .collect();
+    operands[position] = operand;
+    stage(ins((shape.build)(&operands)))
+}
+
+pub fn jobs() -> Vec<Job> {
+    let mut jobs = Vec::new();
+    for (turn, shape) in shapes().iter().enumerate() {
+        for (position, &role) in shape.roles.iter().enumerate() {
+            let behind = if role == Source { 0 } else { 8 };
+            let mut tried = kinds(behind).to_vec();
+            tried.push(BARE[(turn + position) % BARE.len()]);
+            if role == Destination {
+                tried.push(reg(RSP));
+            }
+            jobs.extend(tried.into_iter().map(|o| with(shape, position, o)));
+        }
+    }
+    jobs
+}

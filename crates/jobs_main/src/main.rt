@@ -1,0 +1,75 @@
+// Runs the stored jobs of data/ and compares what is printed of each with the stored text, byte for byte. The texts are those of
+// the separately written evaluator in compare/, whose README says how the files are made. A line that does not say "N of N" is an
+// error.
+
+mod part;
+mod tally;
+
+ghost use mathlib.Core.Path.{_≡_};
+ghost use mathlib.Core.Bool.{true};
+ghost use Rattle.job.specs.Job.{output};
+use part::read_part;
+use tally::Tally;
+use tally::counted;
+use tally::none_yet;
+use tally::tell;
+
+// No file has as many jobs: a proved loop has to end, and nothing says that a file does.
+const MOST: u64 = 100_000;
+
+enum Step {
+    Tried(Tally),
+    End,
+}
+
+// Whether the definition's output of a job is the stored text.
+fn agrees(input: &[u8], text: &[u8]) -> bool
+    ensures { λ r. ⌜ (r ≡ true → output (now (input .entry)) ≡ now (text .entry)) × (output (now (input .entry)) ≡ now (text .entry) → r ≡ true) ⌝ }
+{
+    let mut addresses = [0u64; 1024];
+    let mut tags = [0u8; 1024];
+    let mut values = [0u64; 1024];
+    let mut out = [0u8; 65536];
+    let n = job::job(input, &mut addresses, &mut tags, &mut values, &mut out);
+    check::same(&out[..n], text)
+}
+
+// Tries the file's next job. No text is empty, so one of no bytes is the end of the file.
+fn try_next(fd: i32, tally: Tally) -> Step {
+    let mut input = io::large_buffer();
+    let mut text = io::large_buffer();
+    let n = read_part(fd, &mut input);
+    let m = read_part(fd, &mut text);
+    if m == 0 {
+        return Step::End;
+    }
+    Step::Tried(counted(tally, agrees(&input[..n], &text[..m])))
+}
+
+fn try_all(fd: i32) -> Tally {
+    let mut tally = none_yet();
+    let mut left = MOST;
+    while left > 0 {
+        let Step::Tried(next) = try_next(fd, tally) else {
+            return tally;
+        };
+        tally = next;
+        left -= 1;
+    }
+    tally
+}
+
+fn try_file(name: &[u8]) {
+    let fd = os::open_read(name);
+    if fd < 0 {
+        os::fail(name);
+        return;
+    }
+    tell(name, try_all(fd));
+    libc::close(fd);
+}
+
+fn main() {
+    try_file(b"systematic");
+    try_file(b"random");
+}
