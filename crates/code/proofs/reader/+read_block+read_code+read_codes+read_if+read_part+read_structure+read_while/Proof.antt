@@ -1,5 +1,7 @@
--- The reader's cycle meets its contracts: each function answers what the definition reaches. The measure is four times the
--- depth and the function's rank; the loop over a list of codes ends by what is left of the part. Assumes nothing.
+-- The reader's cycle meets its contracts: each function answers what the definition reaches. The measure is a falling fuel, the
+-- levels left, and the remaining length of the part: a code hands fewer levels to its structure, a structure has its kind byte
+-- behind it, and a part is measured with one byte more than its first code. The loop over a list of codes ends by what is left of
+-- the part. Assumes nothing.
 use Prim.Native.Nat.{_+_, _-_, _*_}
 use native.Mathlib.Omega.{arith}
 use borrow.Author.Needs.{needs}
@@ -44,25 +46,25 @@ use Rattle.code.proofs.reader.+read_block+read_code+read_codes+read_if+
 }
 
 abbrev μ-read-block : Measures 1 read-block-kinds.ps ℕ
-μ-read-block κs a = 4 * a .1 .1 .1 .0 + 2
+μ-read-block κs a = a .1 .1 .1 .0 + (a .1 .0 - a .1 .1 .0 - 1)
 
 abbrev μ-read-code : Measures 1 read-code-kinds.ps ℕ
-μ-read-code κs a = 4 * a .1 .1 .1 .0
+μ-read-code κs a = a .1 .1 .1 .0 + (a .1 .0 - a .1 .1 .0)
 
 abbrev μ-read-codes : Measures 1 read-codes-kinds.ps ℕ
-μ-read-codes κs a = 4 * a .1 .1 .1 .0 + 1
+μ-read-codes κs a = a .1 .1 .1 .0 + (a .1 .0 - a .1 .1 .0) + 1
 
 abbrev μ-read-if : Measures 1 read-if-kinds.ps ℕ
-μ-read-if κs a = 4 * a .1 .1 .1 .0 + 2
+μ-read-if κs a = a .1 .1 .1 .0 + (a .1 .0 - a .1 .1 .0 - 1)
 
 abbrev μ-read-part : Measures 1 read-part-kinds.ps ℕ
-μ-read-part κs a = 4 * a .1 .1 .1 .0 + 1
+μ-read-part κs a = a .1 .1 .1 .0 + (a .1 .0 - a .1 .1 .0) + 1
 
 abbrev μ-read-structure : Measures 1 read-structure-kinds.ps ℕ
-μ-read-structure κs a = 4 * a .1 .1 .1 .0 + 3
+μ-read-structure κs a = a .1 .1 .1 .0 + (a .1 .0 - a .1 .1 .0)
 
 abbrev μ-read-while : Measures 1 read-while-kinds.ps ℕ
-μ-read-while κs a = 4 * a .1 .1 .1 .0 + 2
+μ-read-while κs a = a .1 .1 .1 .0 + (a .1 .0 - a .1 .1 .0 - 1)
 
 abbrev read-block-at : ℕ → In 1 read-block-kinds.ps
 read-block-at t =
@@ -306,7 +308,12 @@ read-if-add-read-part : (t : ℕ) → read-if-lts.Need-add-read-part (read-if-cl
 read-if-add-read-part t c = omega (arith, ocmp-end (c .before .before .before .before .before .before .before .before .args .code .now) (c .before .before .before .before .before .before .before .before .args .end) (c .before .before .before .before .before .before .before .before .args .at + 9) (c .before .before .before .before .read-ocmp .result) (c .before .before .before .before .read-ocmp .ensures) (c .before .before .compared .given .0 .0) (c .before .before .compared .given .1), c .before .before .before .before .before .before .before .before .pre .1)
 
 read-if-read-part-requires : (t : ℕ) → read-if-lts.Need-read-part-requires (read-if-claims t) (read-if-at t) read-if.Post
-read-if-read-part-requires t c κs = (omega (arith, c .before .before .before .before .before .before .before .before .pre .0), omega (arith, ocmp-end (c .before .before .before .before .before .before .before .before .args .code .now) (c .before .before .before .before .before .before .before .before .args .end) (c .before .before .before .before .before .before .before .before .args .at + 9) (c .before .before .before .before .read-ocmp .result) (c .before .before .before .before .read-ocmp .ensures) (c .before .before .compared .given .0 .0) (c .before .before .compared .given .1), c .before .before .before .before .before .before .before .before .pre .1))
+read-if-read-part-requires t c κs =
+    let s = c .before .before .before .before .before .before .before .before in
+    let compared = c .before .before .compared in
+    let ocmp = c .before .before .before .before .read-ocmp in
+    let w = ocmp-end (s .args .code .now) (s .args .end) (s .args .at + 9) (ocmp .result) (ocmp .ensures) (compared .given .0 .0) (compared .given .1) in
+    (omega (arith, s .pre .0, w), omega (arith, w, s .pre .1))
 
 read-if-enum-known-first : (t : ℕ) → read-if-lts.Need-enum-known-first (read-if-claims t) (read-if-at t) read-if.Post
 read-if-enum-known-first t c = c .match2 .keys1
@@ -321,7 +328,19 @@ read-if-add-read-part-2 : (t : ℕ) → read-if-lts.Need-add-read-part-2 (read-i
 read-if-add-read-part-2 t c = omega (arith, ocmp-end (c .before .before .before .before .before .before .before .before .before .before .before .before .args .code .now) (c .before .before .before .before .before .before .before .before .before .before .before .before .args .end) (c .before .before .before .before .before .before .before .before .before .before .before .before .args .at + 9) (c .before .before .before .before .before .before .before .before .read-ocmp .result) (c .before .before .before .before .before .before .before .before .read-ocmp .ensures) (c .before .before .before .before .before .before .compared .given .0 .0) (c .before .before .before .before .before .before .compared .given .1), part-end (c .before .before .before .before .before .before .before .before .before .before .before .before .args .depth) (c .before .before .before .before .before .before .before .before .before .before .before .before .args .code .now) (c .before .before .before .before .before .before .compared .given .0 .0 + c .before .before .before .before .before .before .before .before .before .before .number4 .result) (c .before .before .before .before .before .before .compared .given .0 .0) (c .before .before .before .read-part .result) (c .before .before .before .read-part .ensures) (c .before .first .given .0 .0) (c .before .first .given .1), c .before .before .before .before .if1 .left, c .before .before .before .before .before .before .before .before .before .before .before .before .pre .1)
 
 read-if-read-part-requires-2 : (t : ℕ) → read-if-lts.Need-read-part-requires-2 (read-if-claims t) (read-if-at t) read-if.Post
-read-if-read-part-requires-2 t c κs = (omega (arith, c .before .before .before .before .before .before .before .before .before .before .before .before .pre .0), omega (arith, ocmp-end (c .before .before .before .before .before .before .before .before .before .before .before .before .args .code .now) (c .before .before .before .before .before .before .before .before .before .before .before .before .args .end) (c .before .before .before .before .before .before .before .before .before .before .before .before .args .at + 9) (c .before .before .before .before .before .before .before .before .read-ocmp .result) (c .before .before .before .before .before .before .before .before .read-ocmp .ensures) (c .before .before .before .before .before .before .compared .given .0 .0) (c .before .before .before .before .before .before .compared .given .1), part-end (c .before .before .before .before .before .before .before .before .before .before .before .before .args .depth) (c .before .before .before .before .before .before .before .before .before .before .before .before .args .code .now) (c .before .before .before .before .before .before .compared .given .0 .0 + c .before .before .before .before .before .before .before .before .before .before .number4 .result) (c .before .before .before .before .before .before .compared .given .0 .0) (c .before .before .before .read-part .result) (c .before .before .before .read-part .ensures) (c .before .first .given .0 .0) (c .before .first .given .1), c .before .before .before .before .if1 .left, c .before .before .before .before .before .before .before .before .before .before .before .before .pre .1))
+read-if-read-part-requires-2 t c κs =
+    let s = c .before .before .before .before .before .before .before .before .before .before .before .before in
+    let compared = c .before .before .before .before .before .before .compared in
+    let ocmp = c .before .before .before .before .before .before .before .before .read-ocmp in
+    let size = c .before .before .before .before .before .before .before .before .before .before .number4 in
+    let first = c .before .first in
+    let part = c .before .before .before .read-part in
+    let next = compared .given .0 .0 in
+    let w = ocmp-end (s .args .code .now) (s .args .end) (s .args .at + 9) (ocmp .result) (ocmp .ensures) next (compared .given .1) in
+    let m =
+    part-end (s .args .depth) (s .args .code .now) (next + size .result) next (part .result) (part .ensures) (first .given .0 .0) (first .given .1) in
+    let l = c .before .before .before .before .if1 .left in
+    (omega (arith, s .pre .0, s .pre .1, w, m, l), omega (arith, w, m, l, s .pre .1))
 
 read-if-returns-4 : (t : ℕ) → read-if-lts.Need-returns-4 (read-if-claims t) (read-if-at t) read-if.Post
 read-if-returns-4 t c = if-last (reader.read-code (c .before .before .before .before .before .before .before .before .before .before .before .before .before .args .depth) (c .before .before .before .before .before .before .before .before .before .before .before .before .before .args .code .now)) (c .before .before .before .before .before .before .before .before .before .before .before .before .before .args .code .now) (c .before .before .before .before .before .before .before .before .before .before .before .before .before .args .end) (c .before .before .before .before .before .before .before .before .before .before .before .before .before .args .at) (c .before .before .before .before .before .before .before .before .before .before .before .number4 .result) (c .before .before .before .before .before .before .before .before .before .before .number42 .result) (c .before .before .before .before .before .before .before .before .before .before .before .number4 .ensures .0) (c .before .before .before .before .before .before .before .before .before .before .number42 .ensures .0) (c .before .before .before .before .before .before .before .before .before .read-ocmp .result) (c .before .before .before .before .before .before .before .before .before .read-ocmp .ensures) (c .before .before .before .before .before .before .before .compared .given .0 .0) (c .before .before .before .before .before .before .before .compared .given .1) (c .before .before .before .before .read-part .result) (c .before .before .before .before .before .if1 .left) (c .before .before .before .before .read-part .ensures) (c .before .before .first .given .0 .0) (c .before .before .first .given .1) (c .read-part2 .result) (c .read-part2 .ensures)
@@ -425,7 +444,12 @@ read-while-add-read-part : (t : ℕ) → read-while-lts.Need-add-read-part (read
 read-while-add-read-part t c = omega (arith, ocmp-end (c .before .before .before .before .before .before .before .args .code .now) (c .before .before .before .before .before .before .before .args .end) (c .before .before .before .before .before .before .before .args .at + 5) (c .before .before .before .before .read-ocmp .result) (c .before .before .before .before .read-ocmp .ensures) (c .before .before .compared .given .0 .0) (c .before .before .compared .given .1), c .before .before .before .before .before .before .before .pre .1)
 
 read-while-read-part-requires : (t : ℕ) → read-while-lts.Need-read-part-requires (read-while-claims t) (read-while-at t) read-while.Post
-read-while-read-part-requires t c κs = (omega (arith, c .before .before .before .before .before .before .before .pre .0), omega (arith, ocmp-end (c .before .before .before .before .before .before .before .args .code .now) (c .before .before .before .before .before .before .before .args .end) (c .before .before .before .before .before .before .before .args .at + 5) (c .before .before .before .before .read-ocmp .result) (c .before .before .before .before .read-ocmp .ensures) (c .before .before .compared .given .0 .0) (c .before .before .compared .given .1), c .before .before .before .before .before .before .before .pre .1))
+read-while-read-part-requires t c κs =
+    let s = c .before .before .before .before .before .before .before in
+    let compared = c .before .before .compared in
+    let ocmp = c .before .before .before .before .read-ocmp in
+    let w = ocmp-end (s .args .code .now) (s .args .end) (s .args .at + 5) (ocmp .result) (ocmp .ensures) (compared .given .0 .0) (compared .given .1) in
+    (omega (arith, s .pre .0, w), omega (arith, w, s .pre .1))
 
 read-while-returns-3 : (t : ℕ) → read-while-lts.Need-returns-3 (read-while-claims t) (read-while-at t) read-while.Post
 read-while-returns-3 t c = while-part (reader.read-code (c .before .before .before .before .before .before .before .before .args .depth) (c .before .before .before .before .before .before .before .before .args .code .now)) (c .before .before .before .before .before .before .before .before .args .code .now) (c .before .before .before .before .before .before .before .before .args .end) (c .before .before .before .before .before .before .before .before .args .at) (c .before .before .before .before .before .before .number4 .result) (c .before .before .before .before .before .before .number4 .ensures .0) (c .before .before .before .before .before .read-ocmp .result) (c .before .before .before .before .before .read-ocmp .ensures) (c .before .before .before .compared .given .0 .0) (c .before .before .before .compared .given .1) (c .read-part .result) (c .before .if1 .left) (c .read-part .ensures)
