@@ -10,8 +10,9 @@ pub mod Classes
 pub mod Steps
 pub mod Parts
 pub mod Frames
+pub mod Forms
+pub mod Families
 pub mod CodeFrames
-pub mod Extents
 pub mod Held
 pub mod ReadBack
 pub mod Placing

@@ -3,6 +3,8 @@ pub mod Records
 pub mod Kinds
 pub mod Reader
 pub mod Spells
+pub mod Forms
+pub mod Families
 pub mod WellFormed
 pub mod Reached
 pub mod Writer

@@ -27,6 +27,11 @@ abbrev pub Operands : ℕ → List ℕ → ℕ → ℕ → Type 0
 Operands zero bs at e = at ≡ e
 Operands (suc n) bs at e = IsRecord is-operand bs at e × Operands n bs (behind bs at) e
 
+-- n operand records stand from `at` on, inside the bytes
+abbrev pub OperandsFrom : ℕ → List ℕ → ℕ → Type 0
+OperandsFrom zero bs at = at ≤ length bs
+OperandsFrom (suc n) bs at = OperandBytes bs at × OperandsFrom n bs (behind bs at)
+
 -- a record of an allowed kind stands from `at` to e, with its operands
 pub record Stands (allowed : ℕ → Bool) (bs : List ℕ) (at e : ℕ) : Type 0 where
   pub head : IsRecord allowed bs at e

@@ -12,5 +12,7 @@ pub use numbers::number8;
 pub use numbers::signed2;
 pub use numbers::signed8;
 pub use reader::check_code;
-pub use records::extent;
+pub use records::Form;
+pub use records::form_at;
+pub use records::memory_at;
 pub use records::operand_behind;

@@ -1,13 +1,23 @@
-// Decoding one record of accepted code: where it and its operands lie. Dispatch is by `match`, since a
-// constant table is rebuilt wherever it is indexed.
+// Decoding one operand record of accepted code. Dispatch is by `match`, since a constant table is rebuilt wherever it is
+// indexed.
 ghost use mathlib.Core.Path.{_≡_};
-ghost use mathlib.Core.Bool.{true};
-ghost use Prim.Native.Nat.{ℕ, _+_, _<_, _≤_};
-ghost use lib.ListN.{length};
-ghost use Rattle.code.specs.Tree.{Code};
-ghost use Rattle.code.specs.Records.{behind, body-length, is-ins, operand-count};
-ghost use Rattle.code.specs.Spells.{Operands, OperandBytes, Spells};
-use crate::numbers::number4;
+ghost use Rattle.machine.specs.declared.Operand.the-variants.{OMem};
+ghost use Rattle.code.specs.Records.{behind, operand-at};
+ghost use Rattle.code.specs.Spells.{OperandBytes};
+ghost use Rattle.code.specs.Forms.{form-of};
+use crate::numbers::number8;
+use crate::numbers::signed2;
+use crate::numbers::signed8;
+use machine::Maddr;
+use machine::Reg;
+
+// An operand as far as its record is decoded in place. Memory is decoded by `memory_at`, so that an operand that is no
+// memory costs no call.
+pub enum Form {
+    Const(u64),
+    Register(Reg),
+    Memory,
+}
 
 // The place behind the operand record at `at`.
 pub fn operand_behind(code: &[u8], at: usize) -> usize
@@ -22,60 +32,38 @@ pub fn operand_behind(code: &[u8], at: usize) -> usize
     }
 }
 
-// The place behind `count` operand records.
-fn operands_behind(code: &[u8], from: usize, count: usize) -> usize
-    requires { ⌜ ((e : ℕ) × Operands count (now code) from e × (e ≤ length (now code))) ⌝ }
-    ensures { λ r. ⌜ ((e : ℕ) → Operands count (now (code .entry)) from e → r ≡ e) ⌝ }
+// What the operand record at `at` says.
+pub fn form_at(code: &[u8], at: usize) -> Form
+    requires { ⌜ OperandBytes (now code) at ⌝ }
+    ensures { λ r. ⌜ r ≡ form-of (operand-at (now (code .entry)) at) ⌝ }
 {
-    let mut at = from;
-    let mut left = count;
-    while left != 0 {
-        at = operand_behind(code, at);
-        left -= 1;
-    }
-    at
-}
-
-// The length of an instruction's body.
-fn ins_body(kind: u8) -> usize
-    requires { ⌜ is-ins kind ≡ true ⌝ }
-    ensures { λ r. ⌜ (r ≡ body-length kind) × (r < 4) ⌝ }
-{
-    match kind {
-        0x13 | 0x18 => 3,
-        0x0f..=0x17 => 2,
-        _ => 0,
+    match code[at] {
+        0x40 => Form::Const(number8(code, at + 1)),
+        0x41 => Form::Register(Reg {
+            number: code[at + 1],
+        }),
+        _ => Form::Memory,
     }
 }
 
-// The number of an instruction's operands.
-fn ins_operands(kind: u8) -> usize
-    requires { ⌜ is-ins kind ≡ true ⌝ }
-    ensures { λ r. ⌜ r ≡ operand-count kind ⌝ }
-{
-    match kind {
-        0x03 | 0x09 => 3,
-        0x08 | 0x15..=0x17 => 1,
-        0x0f..=0x18 => 0,
-        _ => 2,
-    }
-}
-
-// Where the code at `at` ends.
-pub fn extent(code: &[u8], at: usize) -> usize
-    requires { ⌜ ((c : Code) × (e : ℕ) × Spells c (now code) at e × (e ≤ length (now code))) ⌝ }
-    ensures { λ r. ⌜ ((c : Code) (e : ℕ) → Spells c (now (code .entry)) at e → r ≡ e) ⌝ }
+// The memory operand whose record stands at `at`.
+pub fn memory_at(code: &[u8], at: usize) -> Maddr
+    requires { ⌜ OperandBytes (now code) at ⌝ }
+    requires { ⌜ form-of (operand-at (now code) at) ≡ Form.Memory ⌝ }
+    ensures { λ r. ⌜ operand-at (now (code .entry)) at ≡ OMem r ⌝ }
 {
     let kind = code[at];
-    if kind < 0x20 {
-        return operands_behind(code, at + 1 + ins_body(kind), ins_operands(kind));
+    if kind == 0x42 {
+        return Maddr::MConst(number8(code, at + 1));
     }
-    let size = number4(code, at + 1);
-    if kind == 0x20 {
-        return at + 5 + size;
+    let base = Reg {
+        number: code[at + 1],
+    };
+    if kind == 0x43 {
+        return Maddr::MReg(base, signed8(code, at + 2));
     }
-    if kind == 0x21 {
-        return operands_behind(code, at + 10, 2) + size + number4(code, at + 5);
-    }
-    operands_behind(code, at + 6, 2) + size
+    let index = Reg {
+        number: code[at + 4],
+    };
+    Maddr::MIndex(base, signed2(code, at + 2), index, signed8(code, at + 5))
 }
