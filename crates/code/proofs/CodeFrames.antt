@@ -220,18 +220,6 @@ none-there ⟨⟩ bs at e s l = refl
 none-there (c ∷ᶜ cs) bs at e s l =
     absurd (omega (arith, code-past c bs at (s .0) (s .1), codes-le cs bs (s .0) e (s .2)))
 
--- operands of an instruction, from the place behind its body
-pub ins-operands : (bs : List ℕ) (at e n b : ℕ) → Stands is-ins bs at e → n ≡ operand-count (byte-at bs at) → b ≡ body-length (byte-at bs at) → Operands n bs (at + 1 + b) e
-unfolding behind
-ins-operands bs at e n b s c d = rw (c, d) (s .operands)
-
-pub body-inside : (bs : List ℕ) (at e : ℕ) → Stands is-ins bs at e → at + 1 + body-length (byte-at bs at) ≤ e
-unfolding behind
-body-inside bs at e s = s .head .inside
-
-pub ocmp-from : (bs : List ℕ) (at m x : ℕ) → Stands is-ocmp bs at m → at + 1 ≡ x → Operands 2 bs x m
-ocmp-from bs at m x s h = subst (λ (n : ℕ). Operands 2 bs n m) h (ocmp-operands bs at m s)
-
 -- a structure has at least its kind byte and one length
 pub structure-long : (c : Code) (bs : List ℕ) (at e : ℕ) → Spells c bs at e → 0x20 ≤ byte-at bs at → at + 5 ≤ e
 unfolding Spells
@@ -239,3 +227,8 @@ structure-long (Ins p i) bs at e s k = absurd (omega (arith, ins-low bs at e (s 
 structure-long (Block p cs) bs at e s k = omega arith
 structure-long (IfElse p q c a b) bs at e s k = omega (arith, stands-past is-ocmp bs (at + 9) (s .0) (s .1 .stands))
 structure-long (While p q c b) bs at e s k = omega (arith, stands-past is-ocmp bs (at + 5) (s .0) (s .1 .stands))
+
+-- one code is a list of one
+pub list-of-one : (c : Code) (bs : List ℕ) (at e : ℕ) → Spells c bs at e → SpellsAll (c ∷ᶜ ⟨⟩) bs at e
+unfolding SpellsAll
+list-of-one c bs at e s = (e, s, refl)

@@ -20,6 +20,14 @@ unfolding verdict-of
 accepts-of (got c e) h = (c, e, refl)
 accepts-of (trouble n p) h = let z : _≡_ {A = ℕ} 0 1 = cc in absurd (omega arith)
 
+refuses-of : (r : Read Code) (n p : ℕ) → verdict-of r ≡ refused n p → r ≡ trouble n p
+unfolding verdict-of
+refuses-of (got c e) n p h = let z : _≡_ {A = ℕ} 0 1 = cc in absurd (omega arith)
+refuses-of (trouble m q) n p h =
+    let x : m ≡ n = cc in
+    let y : q ≡ p = cc in
+    rw (x, y)
+
 pub reading : (bs : List ℕ) → Reading bs
 unfolding check-code verdict-of
 reading bs =
@@ -30,6 +38,7 @@ reading bs =
       accepts = λ h.
           let w = accepts-of (parse bs) h in
           (w .0, w .2 ∙ ap (got (w .0)) (parse-sound bs (w .0) (w .1) (w .2) .1));
+      refuses = refuses-of (parse bs);
       refuses-none = λ c h. ap verdict-of (parse-complete bs c h);
       well-formed = parse-wf bs;
     }

@@ -4,9 +4,9 @@ use Prim.Native.Nat.{ℕ, _≤_}
 use mathlib.Core.Path.{_≡_}
 use mathlib.Core.List.{List}
 use lib.ListN.{length}
-use Rattle.machine.specs.Cells.{accepted}
+use Rattle.machine.specs.Cells.{accepted, refused}
 use Rattle.code.specs.Tree.{Code}
-use Rattle.code.specs.Reader.{got, parse, check-code}
+use Rattle.code.specs.Reader.{got, trouble, parse, check-code}
 use Rattle.code.specs.Spells.{Spells, Nests, Parsed}
 use Rattle.code.specs.WellFormed.{Bytes, WfCode}
 use Rattle.code.specs.Writer.{bytes-of-code, PlacedAt, place-code}
@@ -21,6 +21,8 @@ pub record Reading (bs : List ℕ) : Type 0 where
   pub unique : (c c′ : Code) (at e e′ : ℕ) → Spells c bs at e → Spells c′ bs at e′ → (c ≡ c′) × (e ≡ e′)
   -- checking accepts where there is a tree to read
   pub accepts : check-code bs ≡ accepted → (c : Code) × (parse bs ≡ got c (length bs))
+  -- refuses with the number and place of the first trouble
+  pub refuses : (n p : ℕ) → check-code bs ≡ refused n p → parse bs ≡ trouble n p
   -- and refuses nothing that is spelled within the limits
   pub refuses-none : (c : Code) → Parsed bs c → check-code bs ≡ accepted
   -- every tree that is read is well formed

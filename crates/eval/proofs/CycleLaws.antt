@@ -3,25 +3,24 @@ use Prim.Native.Nat.{ℕ, zero, suc, _+_, _-_, _≤_, _<_}
 use mathlib.Core.Path.{_≡_, refl, sym, ap, subst, _∙_}
 use mathlib.Core.Bool.{Bool, true, false, cond}
 use mathlib.Core.List.{List}
-use mathlib.Core.Logic.{_⊎_, ⊎-elim}
+use mathlib.Core.Logic.{_⊎_, inl, inr, ⊎-elim}
 use native.Mathlib.Omega.{arith}
 use native.Mathlib.Numerals.{sub-one}
-use borrow.Author.Tests.{eq-eqb, ne-eqb}
+use borrow.Author.Tests.{eq-eqb, ne-eqb, eqb-true, eqb-false}
 use lib.Dec.{eqb}
 use lib.ListN.{length}
-use Rattle.code.specs.Tree.{Ocmp, Code, Codes, ⟨⟩}
+use Rattle.code.specs.Tree.{Ocmp, Code, Codes, ⟨⟩, _∷ᶜ_}
 use Rattle.code.specs.Records.{is-ins, is-ocmp, byte-at, number-at, ins-at, ocmp-at}
 use Rattle.code.specs.Spells.{Stands, Spells, SpellsAll}
 use Rattle.code.proofs.Sound.{stands-past}
-use Rattle.code.proofs.Complete.{code-past}
-use Rattle.code.proofs.CodeFrames.{Frame, frame, ins-there, block-there, if-there, while-there, first-there, none-there}
+use Rattle.code.proofs.CodeFrames.{Frame, frame, ins-there, block-there, if-there, while-there, First, first-there, none-there, list-of-one, structure-long}
 use Rattle.eval.specs.Config.{Env, Config, with-flags, Outcome, done, fault, spent, refused, End, ends, continue, and-then, check, choose}
 use Rattle.eval.specs.Steps.{run-ins, valid-ocmp, eval-ocmp}
 use Rattle.eval.specs.Running.{run-ocmp, rounds, run-code, run-codes}
 use Rattle.eval.specs.Stepped.{how, Ran}
 use Rattle.eval.specs.Comparing.{Compares}
 use Rattle.eval.specs.Lent.{Cells}
-use Rattle.eval.specs.Coded.{CodeAt, Runs}
+use Rattle.eval.specs.Coded.{CodeAt, CodesAt, codes-from, Runs, RunsAll}
 use Rattle.eval.specs.declared.step.Step.{Step}
 use Rattle.eval.specs.declared.comparison.Compared.{Compared}
 
@@ -30,6 +29,9 @@ code-frame bs at c = frame (c .code) bs at (c .end) (c .spelled)
 
 pub starts : (bs : List ℕ) (at : ℕ) → CodeAt bs at → at < length bs
 starts bs at c = omega (arith, code-frame bs at c .past, c .inside)
+
+pub has-length : (bs : List ℕ) (at : ℕ) → CodeAt bs at → 0x20 ≤ byte-at bs at → at + 5 ≤ length bs
+has-length bs at c k = omega (arith, structure-long (c .code) bs at (c .end) (c .spelled) k, c .inside)
 
 -- the parts of a structure that stands inside the bytes
 pub block-inside :
@@ -62,7 +64,7 @@ loop-inside bs at c k =
 pub still-cells : (xs ts vs ws : List ℕ) → Cells xs ts vs → length ws ≡ length vs → Cells xs ts ws
 still-cells xs ts vs ws c h = record { searchable = c .searchable; long = h ∙ c .long }
 
--- what follows a step
+-- ---- what follows a step
 stopped :
     (b : Bool) (n p : ℕ) (s : Config) (k : Config → End) →
     continue (cond b (spent p) (fault n p)) s k ≡ ends (cond b (spent p) (fault n p)) s
@@ -86,7 +88,19 @@ module _ (f : End) (m : ℕ) (r : Step) (t : Config) (ran : Ran f m r t) (k : Co
   stops : (r .number ≡ 0 → ⊥) → and-then f k ≡ ends (how r) t
   stops h = ap (λ (e : End). and-then e k) (sym (ran .ends)) ∙ how-stops r t k h
 
--- an instruction
+-- nothing follows a list of one
+done-last : (o : Outcome) (s : Config) → continue o s (ends done) ≡ ends o s
+unfolding continue
+done-last done s = refl
+done-last (fault n p) s = refl
+done-last (spent p) s = refl
+done-last (refused n p) s = refl
+
+pub run-one : (env : Env) (c : Code) (fuel : ℕ) (s : Config) → run-codes env (c ∷ᶜ ⟨⟩) fuel s ≡ run-code env c fuel s
+unfolding run-codes
+run-one env c fuel s = let e = run-code env c fuel s in done-last (e .how) (e .config)
+
+-- ---- an instruction
 pub ins-ran :
     (env : Env) (bs : List ℕ) (at fuel : ℕ) (s : Config) (r : Step) (t : Config) →
     byte-at bs at < 0x20 →
@@ -97,7 +111,39 @@ ins-ran env bs at fuel s r t k g c e h =
     let w = ins-there c bs at e h k in
     subst (λ (x : Code). Ran (run-code env x fuel s) e r t) (sym (w .is)) (g e (w .stands))
 
--- the codes of a Block: what holds at the head of the loop over them
+-- ---- a part is a list of codes: those of a Block, or the one code that it is
+module _ (bs : List ℕ) (at : ℕ) where
+  pub part-codes : (c : Code) (e : ℕ) → Spells c bs at e → e ≤ length bs → CodesAt bs (codes-from bs at) e
+  part-codes c e h l = go (eqb (byte-at bs at) 0x20) refl
+    where
+      go : (b : Bool) → eqb (byte-at bs at) 0x20 ≡ b → CodesAt bs (cond b (at + 5) at) e
+      go true k =
+          let w = block-there c bs at e h (eqb-true _ _ k) in
+          record { codes = w .codes; spelled = w .spelled; inside = l }
+      go false k = record { codes = c ∷ᶜ ⟨⟩; spelled = list-of-one c bs at e h; inside = l }
+
+  pub part-ran :
+      (env : Env) (e fuel : ℕ) (s : Config) (r : Step) (t : Config) →
+      RunsAll env bs (codes-from bs at) e fuel s r t → (c : Code) → Spells c bs at e → Ran (run-code env c fuel s) e r t
+  unfolding run-code
+  part-ran env e fuel s r t g c h = go (eqb (byte-at bs at) 0x20) refl g
+    where
+      go :
+          (b : Bool) → eqb (byte-at bs at) 0x20 ≡ b → RunsAll env bs (cond b (at + 5) at) e fuel s r t →
+          Ran (run-code env c fuel s) e r t
+      go true k f =
+          let w = block-there c bs at e h (eqb-true _ _ k) in
+          subst (λ (x : Code). Ran (run-code env x fuel s) e r t) (sym (w .is)) (f (w .codes) (w .spelled))
+      go false k f = subst (λ (x : End). Ran x e r t) (run-one env c fuel s) (f (c ∷ᶜ ⟨⟩) (list-of-one c bs at e h))
+
+  pub codes-past : at ≤ codes-from bs at
+  codes-past = go (eqb (byte-at bs at) 0x20)
+    where
+      go : (b : Bool) → at ≤ cond b (at + 5) at
+      go true = omega arith
+      go false = omega arith
+
+-- ---- a list of codes: what holds at the head of the loop over them
 pub record Going (env : Env) (bs : List ℕ) (from e fuel : ℕ) (s₀ : Config) (at : ℕ) (s : Config) : Type 0 where
   pub there : (cs : Codes) × SpellsAll cs bs at e
   pub same :
@@ -107,32 +153,9 @@ pub record Going (env : Env) (bs : List ℕ) (from e fuel : ℕ) (s₀ : Config)
   pub long : length (s .values) ≡ length (s₀ .values)
   pub past : from ≤ at
 
-module _ (env : Env) (bs : List ℕ) (at e fuel : ℕ) (s : Config) (k : byte-at bs at ≡ 0x20) (d : e ≡ at + 5 + number-at 4 bs (at + 1)) where
-  pub going-starts : CodeAt bs at → Going env bs (at + 5) e fuel s (at + 5) s
-  going-starts c =
-      let w = block-there (c .code) bs at (c .end) (c .spelled) k in
-      record {
-        there = (w .codes, subst (λ (z : ℕ). SpellsAll (w .codes) bs (at + 5) z) (w .ends ∙ sym d) (w .spelled));
-        same = λ cs h. (cs, h, refl);
-        long = refl;
-        past = omega arith;
-      }
-
-  pub block-ran :
-      (r : Step) (t : Config) →
-      (r .number ≡ 0 → r .place ≡ e) →
-      ((cs : Codes) → SpellsAll cs bs (at + 5) e → ends (how r) t ≡ run-codes env cs fuel s) →
-      Runs env bs at fuel s r t
-  unfolding run-code
-  block-ran r t p g c x h =
-      let w = block-there c bs at x h k in
-      let y : x ≡ e = w .ends ∙ sym d in
-      record {
-        ends =
-            g (w .codes) (subst (λ (z : ℕ). SpellsAll (w .codes) bs (at + 5) z) y (w .spelled))
-            ∙ ap (λ (b : Code). run-code env b fuel s) (sym (w .is));
-        next = λ z. p z ∙ sym y;
-      }
+pub going-starts : (env : Env) (bs : List ℕ) (from e fuel : ℕ) (s : Config) → CodesAt bs from e → Going env bs from e fuel s from s
+going-starts env bs from e fuel s w =
+    record { there = (w .codes, w .spelled); same = λ cs h. (cs, h, refl); long = refl; past = omega arith }
 
 module _ (env : Env) (bs : List ℕ) (from e fuel : ℕ) (s₀ : Config) (at : ℕ) (s : Config) (g : Going env bs from e fuel s₀ at s) where
   pub next-there : at < e → e ≤ length bs → CodeAt bs at
@@ -140,11 +163,14 @@ module _ (env : Env) (bs : List ℕ) (from e fuel : ℕ) (s₀ : Config) (at : �
       let w = first-there (g .there .0) bs at e (g .there .1) l in
       record { code = w .first; end = w .mid; spelled = w .spelled; inside = omega (arith, w .within) }
 
-  pub codes-done : e ≤ at → (cs : Codes) → SpellsAll cs bs from e → ends done s ≡ run-codes env cs fuel s₀
+  pub codes-done : e ≤ at → RunsAll env bs from e fuel s₀ (record { number = 0; place = e }) s
   unfolding run-codes
   codes-done l cs h =
       let w = g .same cs h in
-      sym (w .2 ∙ ap (λ (x : Codes). run-codes env x fuel s) (none-there (w .0) bs at e (w .1) l))
+      record {
+        ends = sym (w .2 ∙ ap (λ (x : Codes). run-codes env x fuel s) (none-there (w .0) bs at e (w .1) l));
+        next = λ _. refl;
+      }
 
   module _ (r : Step) (t : Config) (ran : Runs env bs at fuel s r t) (l : at < e) where
     pub next-past : r .number ≡ 0 → (at < r .place) × (r .place ≤ e)
@@ -176,18 +202,44 @@ module _ (env : Env) (bs : List ℕ) (from e fuel : ℕ) (s₀ : Config) (at : �
           past = omega (arith, next-past z .0, g .past);
         }
 
-    pub codes-stop :
-        (r .number ≡ 0 → ⊥) → (cs : Codes) → SpellsAll cs bs from e → ends (how r) t ≡ run-codes env cs fuel s₀
+    pub codes-stop : (r .number ≡ 0 → ⊥) → RunsAll env bs from e fuel s₀ r t
     unfolding run-codes
     codes-stop z cs h =
         let u = g .same cs h in
         let f = first-there (u .0) bs at e (u .1) l in
-        sym
-        (u .2
-        ∙ ap (λ (x : Codes). run-codes env x fuel s) (f .is)
-        ∙ stops (run-code env (f .first) fuel s) (f .mid) r t (ran (f .first) (f .mid) (f .spelled)) (run-codes env (f .rest) fuel) z)
+        record {
+          ends =
+              sym
+              (u .2
+              ∙ ap (λ (x : Codes). run-codes env x fuel s) (f .is)
+              ∙ stops (run-code env (f .first) fuel s) (f .mid) r t (ran (f .first) (f .mid) (f .spelled)) (run-codes env (f .rest) fuel) z);
+          next = λ y. absurd (z y);
+        }
 
--- what the number of a comparison says
+-- ---- a Block
+pub block-codes : (bs : List ℕ) (at e : ℕ) → byte-at bs at ≡ 0x20 → e ≡ at + 5 + number-at 4 bs (at + 1) → CodeAt bs at → CodesAt bs (at + 5) e
+block-codes bs at e k d c =
+    let w = block-there (c .code) bs at (c .end) (c .spelled) k in
+    let y : c .end ≡ e = w .ends ∙ sym d in
+    record {
+      codes = w .codes;
+      spelled = subst (λ (z : ℕ). SpellsAll (w .codes) bs (at + 5) z) y (w .spelled);
+      inside = omega (arith, c .inside);
+    }
+
+module _ (env : Env) (bs : List ℕ) (at e fuel : ℕ) (s : Config) (k : byte-at bs at ≡ 0x20) (d : e ≡ at + 5 + number-at 4 bs (at + 1)) where
+  pub block-ran : (r : Step) (t : Config) → RunsAll env bs (at + 5) e fuel s r t → Runs env bs at fuel s r t
+  unfolding run-code
+  block-ran r t g c x h =
+      let w = block-there c bs at x h k in
+      let y : x ≡ e = w .ends ∙ sym d in
+      let f = g (w .codes) (subst (λ (z : ℕ). SpellsAll (w .codes) bs (at + 5) z) y (w .spelled)) in
+      record {
+        ends = f .ends ∙ ap (λ (b : Code). run-code env b fuel s) (sym (w .is));
+        next = λ z. f .next z ∙ sym y;
+      }
+
+-- ---- what the number of a comparison says
 unread-of : (v h : Bool) (n : ℕ) → n ≡ cond v (cond h 1 0) 2 → n ≡ 2 → v ≡ false
 unread-of true true n e k = absurd (omega arith)
 unread-of true false n e k = absurd (omega arith)
@@ -228,7 +280,18 @@ module _ (env : Env) (q : ℕ) (c : Ocmp) (s : Config) (m : ℕ) (x : Compared) 
         fails-of (valid-ocmp env c s) (eval-ocmp env c s) (x .how) (w .how) h k,
       )
 
--- an IfElse, whose comparison has answered x
+-- two choices by one test
+pub both-ways : {A P Q R S : Type 0} → (A × P) ⊎ ((A → ⊥) × Q) → (A × R) ⊎ ((A → ⊥) × S) → (A × P × R) ⊎ ((A → ⊥) × Q × S)
+both-ways (inl h) (inl k) = inl (h .0, h .1, k .1)
+both-ways (inl h) (inr k) = absurd (k .0 (h .0))
+both-ways (inr h) (inl k) = absurd (h .0 (k .0))
+both-ways (inr h) (inr k) = inr (h .0, h .1, k .1)
+
+-- a code between places that have other names
+respelled : (c : Code) (bs : List ℕ) (a e x y : ℕ) → a ≡ x → e ≡ y → Spells c bs a e → Spells c bs x y
+respelled c bs a e x y p q h = rw (← p, ← q) h
+
+-- ---- an IfElse, whose comparison has answered x
 module _ (env : Env) (bs : List ℕ) (at fuel : ℕ) (s : Config) (k : byte-at bs at ≡ 0x21) (x : Compared)
     (compared : (m : ℕ) → Stands is-ocmp bs (at + 9) m → Compares env s (ocmp-at bs (at + 9)) m x) where
   pub if-unread : x .how ≡ 2 → Runs env bs at fuel s (record { number = 31; place = at + 9 }) s
@@ -245,76 +308,82 @@ module _ (env : Env) (bs : List ℕ) (at fuel : ℕ) (s : Config) (k : byte-at b
         next = λ z. absurd (omega arith);
       }
 
-  -- the part that it goes on with
-  module _ (size from : ℕ) (a : size ≡ number-at 4 bs (at + 1))
-      (way : ((x .how ≡ 1) × (from ≡ x .next)) ⊎ ((x .how ≡ 1 → ⊥) × (from ≡ x .next + size))) where
-    pub part-there : CodeAt bs at → CodeAt bs from × (at < from)
+  -- the part that it goes on with, from its place to the place behind it
+  module _ (mid end part behind : ℕ) (a : mid ≡ x .next + number-at 4 bs (at + 1)) (b : end ≡ mid + number-at 4 bs (at + 5))
+      (way : ((x .how ≡ 1) × (part ≡ x .next) × (behind ≡ mid)) ⊎ ((x .how ≡ 1 → ⊥) × (part ≡ mid) × (behind ≡ end))) where
+    -- both parts, where the code says that they stand
+    parts :
+        (c : Code) (e : ℕ) (sp : Spells c bs at e) →
+        let w = if-there c bs at e sp k in
+        (w .mid ≡ x .next) × (e ≡ end) × (Spells (w .yes-part) bs (x .next) mid) × (Spells (w .no-part) bs mid end)
+    parts c e sp =
+        let w = if-there c bs at e sp k in
+        let m : w .mid ≡ x .next = sym (compared (w .mid) (w .stands) .next) in
+        let n : w .mid + number-at 4 bs (at + 1) ≡ mid = omega (arith, m, a) in
+        let l : e ≡ end = omega (arith, w .ends, n, b) in
+        (m, l, respelled (w .yes-part) bs _ _ _ _ m n (w .yes-spelled), respelled (w .no-part) bs _ _ _ _ n l (w .no-spelled))
+
+    pub part-there : CodeAt bs at → CodeAt bs part × CodesAt bs (codes-from bs part) behind × (at + 9 < part)
     part-there c =
         let w = if-there (c .code) bs at (c .end) (c .spelled) k in
-        let m = compared (w .mid) (w .stands) .next in
-        let p = stands-past is-ocmp bs (at + 9) (w .mid) (w .stands) in
+        let p = parts (c .code) (c .end) (c .spelled) in
+        let past : at + 9 < x .next = omega (arith, stands-past is-ocmp bs (at + 9) (w .mid) (w .stands), p .0) in
+        let there : (d : Code) → Spells d bs part behind → behind ≤ length bs → CodeAt bs part × CodesAt bs (codes-from bs part) behind =
+        λ d h l.
+        let there : CodeAt bs part = record { code = d; end = behind; spelled = h; inside = l } in
+        (there, part-codes bs part d behind h l)
+        in
         ⊎-elim
         (λ h.
-        let y : w .mid ≡ from = omega (arith, h .1, m) in (
-          record {
-            code = w .yes-part;
-            end = w .mid + number-at 4 bs (at + 1);
-            spelled = subst (λ (z : ℕ). Spells (w .yes-part) bs z (w .mid + number-at 4 bs (at + 1))) y (w .yes-spelled);
-            inside = omega (arith, w .ends, c .inside);
-          },
-          omega (arith, y, p),
-        ))
+        let l : behind ≤ length bs = omega (arith, h .2, b, p .1, c .inside) in
+        let q = there (w .yes-part) (rw (h .1, h .2) (p .2)) l in
+        (q .0, q .1, omega (arith, past, h .1)))
         (λ h.
-        let y : w .mid + number-at 4 bs (at + 1) ≡ from = omega (arith, h .1, m, a) in (
-          record {
-            code = w .no-part;
-            end = c .end;
-            spelled = subst (λ (z : ℕ). Spells (w .no-part) bs z (c .end)) y (w .no-spelled);
-            inside = c .inside;
-          },
-          omega (arith, y, p),
-        ))
+        let l : behind ≤ length bs = omega (arith, h .2, p .1, c .inside) in
+        let q = there (w .no-part) (rw (h .1, h .2) (p .3)) l in
+        (q .0, q .1, omega (arith, past, h .1, a)))
         way
 
     pub if-ran :
         (x .how ≡ 2 → ⊥) →
         (r : Step) (t : Config) →
-        Runs env bs from fuel (with-flags (env .fill) s) r t →
+        RunsAll env bs (codes-from bs part) behind fuel (with-flags (env .fill) s) r t →
         (r′ : Step) →
         how r′ ≡ how r →
-        (r′ .number ≡ 0 → r′ .place ≡ x .next + number-at 4 bs (at + 1) + number-at 4 bs (at + 5)) →
+        (r′ .number ≡ 0 → r′ .place ≡ end) →
         Runs env bs at fuel s r′ t
     unfolding run-code
-    if-ran v r t ran r′ o p c e sp =
+    if-ran v r t ran r′ o n c e sp =
         let w = if-there c bs at e sp k in
+        let p = parts c e sp in
         let here = compared (w .mid) (w .stands) in
-        let m = here .next in
         let one = run-code env (w .yes-part) fuel in
         let other = run-code env (w .no-part) fuel in
+        let after = with-flags (env .fill) s in
         let start : run-code env c fuel s ≡ run-ocmp env (at + 9) (ocmp-at bs (at + 9)) one other s =
         ap (λ (b : Code). run-code env b fuel s) (w .is)
         ∙ ap (λ (b : Ocmp). run-ocmp env (at + 9) b one other s) (w .says)
+        in
+        let ran-part : (d : Code) → Spells d bs part behind → run-code env d fuel after ≡ ends (how r) t =
+        λ d h. sym (part-ran bs part env behind fuel after r t ran d h .ends)
         in
         let whole : run-code env c fuel s ≡ ends (how r) t =
         start
         ∙ ⊎-elim
         (λ h.
-        let y : w .mid ≡ from = omega (arith, h .1, m) in
         ocmp-holds env (at + 9) (ocmp-at bs (at + 9)) s (w .mid) x here one other v (λ z. omega (arith, h .0, z))
-        ∙ sym (ran (w .yes-part) (w .mid + number-at 4 bs (at + 1))
-        (subst (λ (z : ℕ). Spells (w .yes-part) bs z (w .mid + number-at 4 bs (at + 1))) y (w .yes-spelled)) .ends))
+        ∙ ran-part (w .yes-part) (rw (h .1, h .2) (p .2)))
         (λ h.
-        let y : w .mid + number-at 4 bs (at + 1) ≡ from = omega (arith, h .1, m, a) in
         ocmp-fails env (at + 9) (ocmp-at bs (at + 9)) s (w .mid) x here one other v (h .0)
-        ∙ sym (ran (w .no-part) e (subst (λ (z : ℕ). Spells (w .no-part) bs z e) y (w .no-spelled)) .ends))
+        ∙ ran-part (w .no-part) (rw (h .1, h .2) (p .3)))
         way
         in
         record {
           ends = ap (λ (h : Outcome). ends h t) o ∙ sym whole;
-          next = λ z. omega (arith, p z, m, w .ends);
+          next = λ z. n z ∙ sym (p .1);
         }
 
--- a While: what holds at the head of the loop over its rounds
+-- ---- a While: what holds at the head of the loop over its rounds
 pub record Looping (env : Env) (bs : List ℕ) (at fuel : ℕ) (s₀ : Config) (left : ℕ) (s : Config) : Type 0 where
   pub same : (c : Code) (e : ℕ) → Spells c bs at e → run-code env c fuel s₀ ≡ run-code env c left s
   pub long : length (s .values) ≡ length (s₀ .values)
@@ -356,87 +425,97 @@ module _ (env : Env) (bs : List ℕ) (at left : ℕ) (s : Config) (k : byte-at b
 
   module _ (inn : left ≡ 0 → ⊥) (x : Compared)
       (compared : (m : ℕ) → Stands is-ocmp bs (at + 5) m → Compares env s (ocmp-at bs (at + 5)) m x) where
-    pub body-there : CodeAt bs at → CodeAt bs (x .next) × (at < x .next)
-    body-there c =
-        let w = while-there (c .code) bs at (c .end) (c .spelled) k in
-        let m = compared (w .mid) (w .stands) .next in (
-          record {
-            code = w .body;
-            end = c .end;
-            spelled = subst (λ (z : ℕ). Spells (w .body) bs z (c .end)) (sym m) (w .spelled);
-            inside = c .inside;
-          },
-          omega (arith, m, stands-past is-ocmp bs (at + 5) (w .mid) (w .stands)),
-        )
-
-    pub loop-ends : (c : Code) (e : ℕ) → Spells c bs at e → x .next + number-at 4 bs (at + 1) ≡ e
-    loop-ends c e h =
+    -- the next round, and those that follow, behind a comparison that was read
+    tested :
+        (c : Code) (e : ℕ) (h : Spells c bs at e) →
         let w = while-there c bs at e h k in
-        omega (arith, compared (w .mid) (w .stands) .next, w .ends)
+        run-code env c left s
+        ≡ run-ocmp env (at + 5) (ocmp-at bs (at + 5))
+        (round env (run-code env (w .body)) at (at + 5) (w .test) s (left - 1)) (ends done) s
+    unfolding run-code
+    tested c e h =
+        let w = while-there c bs at e h k in
+        let next = round env (run-code env (w .body)) at (at + 5) (w .test) s (left - 1) in
+        ap (λ (b : Code). run-code env b left s) (w .is)
+        ∙ rounds-go env (run-code env (w .body)) at (at + 5) (w .test) s left inn
+        ∙ ap (λ (o : Ocmp). run-ocmp env (at + 5) o next (ends done) s) (w .says)
 
     pub loop-unread :
         x .how ≡ 2 → (c : Code) (e : ℕ) → Spells c bs at e → run-code env c left s ≡ ends (fault 31 (at + 5)) s
-    unfolding run-code
     loop-unread z c e h =
         let w = while-there c bs at e h k in
-        let next = round env (run-code env (w .body)) at (at + 5) (w .test) s (left - 1) in
-        ap (λ (b : Code). run-code env b left s) (w .is)
-        ∙ rounds-go env (run-code env (w .body)) at (at + 5) (w .test) s left inn
-        ∙ ap (λ (o : Ocmp). run-ocmp env (at + 5) o next (ends done) s) (w .says)
-        ∙ ocmp-unread env (at + 5) (ocmp-at bs (at + 5)) s (w .mid) x (compared (w .mid) (w .stands)) next (ends done) z
+        tested c e h
+        ∙ ocmp-unread env (at + 5) (ocmp-at bs (at + 5)) s (w .mid) x (compared (w .mid) (w .stands))
+        (round env (run-code env (w .body)) at (at + 5) (w .test) s (left - 1)) (ends done) z
 
     pub loop-done :
         x .how ≡ 0 → (c : Code) (e : ℕ) → Spells c bs at e → run-code env c left s ≡ ends done (with-flags (env .fill) s)
-    unfolding run-code
     loop-done z c e h =
         let w = while-there c bs at e h k in
-        let next = round env (run-code env (w .body)) at (at + 5) (w .test) s (left - 1) in
-        ap (λ (b : Code). run-code env b left s) (w .is)
-        ∙ rounds-go env (run-code env (w .body)) at (at + 5) (w .test) s left inn
-        ∙ ap (λ (o : Ocmp). run-ocmp env (at + 5) o next (ends done) s) (w .says)
-        ∙ ocmp-fails env (at + 5) (ocmp-at bs (at + 5)) s (w .mid) x (compared (w .mid) (w .stands)) next (ends done)
+        tested c e h
+        ∙ ocmp-fails env (at + 5) (ocmp-at bs (at + 5)) s (w .mid) x (compared (w .mid) (w .stands))
+        (round env (run-code env (w .body)) at (at + 5) (w .test) s (left - 1)) (ends done)
         (λ y. omega (arith, y, z)) (λ y. omega (arith, y, z))
 
-    module _ (v : x .how ≡ 2 → ⊥) (y : x .how ≡ 0 → ⊥) (r : Step) (t : Config)
-        (ran : Runs env bs (x .next) (left - 1) (with-flags (env .fill) s) r t) where
-      body-ran :
+    -- the body, and where the While ends
+    module _ (end : ℕ) (a : end ≡ x .next + number-at 4 bs (at + 1)) where
+      body-spelled :
           (c : Code) (e : ℕ) (h : Spells c bs at e) →
+          let w = while-there c bs at e h k in (e ≡ end) × (w .mid ≡ x .next) × Spells (w .body) bs (x .next) end
+      body-spelled c e h =
           let w = while-there c bs at e h k in
-          run-code env c left s
-          ≡ and-then (run-code env (w .body) (left - 1) (with-flags (env .fill) s))
-          (rounds env (run-code env (w .body)) at (at + 5) (w .test) (left - 1))
-      unfolding run-code round
-      body-ran c e h =
-          let w = while-there c bs at e h k in
-          let next = round env (run-code env (w .body)) at (at + 5) (w .test) s (left - 1) in
-          ap (λ (b : Code). run-code env b left s) (w .is)
-          ∙ rounds-go env (run-code env (w .body)) at (at + 5) (w .test) s left inn
-          ∙ ap (λ (o : Ocmp). run-ocmp env (at + 5) o next (ends done) s) (w .says)
-          ∙ ocmp-holds env (at + 5) (ocmp-at bs (at + 5)) s (w .mid) x (compared (w .mid) (w .stands)) next (ends done) v y
+          let m : w .mid ≡ x .next = sym (compared (w .mid) (w .stands) .next) in
+          let l : e ≡ end = omega (arith, w .ends, m, a) in
+          (l, m, respelled (w .body) bs _ _ _ _ m l (w .spelled))
 
-      body-step :
-          (c : Code) (e : ℕ) (h : Spells c bs at e) →
-          let w = while-there c bs at e h k in
-          Ran (run-code env (w .body) (left - 1) (with-flags (env .fill) s)) e r t
-      body-step c e h =
-          let w = while-there c bs at e h k in
-          let m = compared (w .mid) (w .stands) .next in
-          ran (w .body) e (subst (λ (z : ℕ). Spells (w .body) bs z e) (sym m) (w .spelled))
+      pub loop-ends : (c : Code) (e : ℕ) → Spells c bs at e → end ≡ e
+      loop-ends c e h = sym (body-spelled c e h .0)
 
-      pub loop-goes :
-          r .number ≡ 0 → (c : Code) (e : ℕ) → Spells c bs at e → run-code env c left s ≡ run-code env c (left - 1) t
-      unfolding run-code
-      loop-goes z c e h =
-          let w = while-there c bs at e h k in
-          body-ran c e h
-          ∙ goes-on (run-code env (w .body) (left - 1) (with-flags (env .fill) s)) e r t (body-step c e h)
-          (rounds env (run-code env (w .body)) at (at + 5) (w .test) (left - 1)) z
-          ∙ ap (λ (b : Code). run-code env b (left - 1) t) (sym (w .is))
+      pub body-there : CodeAt bs at → CodeAt bs (x .next) × CodesAt bs (codes-from bs (x .next)) end × (at + 5 < x .next)
+      body-there c =
+          let w = while-there (c .code) bs at (c .end) (c .spelled) k in
+          let p = body-spelled (c .code) (c .end) (c .spelled) in
+          let l : end ≤ length bs = omega (arith, p .0, c .inside) in
+          let there : CodeAt bs (x .next) = record { code = w .body; end = end; spelled = p .2; inside = l } in
+          (there, part-codes bs (x .next) (w .body) end (p .2) l, omega (arith, p .1, stands-past is-ocmp bs (at + 5) (w .mid) (w .stands)))
 
-      pub loop-stops :
-          (r .number ≡ 0 → ⊥) → (c : Code) (e : ℕ) → Spells c bs at e → run-code env c left s ≡ ends (how r) t
-      loop-stops z c e h =
-          let w = while-there c bs at e h k in
-          body-ran c e h
-          ∙ stops (run-code env (w .body) (left - 1) (with-flags (env .fill) s)) e r t (body-step c e h)
-          (rounds env (run-code env (w .body)) at (at + 5) (w .test) (left - 1)) z
+      module _ (v : x .how ≡ 2 → ⊥) (y : x .how ≡ 0 → ⊥) (r : Step) (t : Config)
+          (ran : RunsAll env bs (codes-from bs (x .next)) end (left - 1) (with-flags (env .fill) s) r t) where
+        body-ran :
+            (c : Code) (e : ℕ) (h : Spells c bs at e) →
+            let w = while-there c bs at e h k in
+            run-code env c left s
+            ≡ and-then (run-code env (w .body) (left - 1) (with-flags (env .fill) s))
+            (rounds env (run-code env (w .body)) at (at + 5) (w .test) (left - 1))
+        unfolding round
+        body-ran c e h =
+            let w = while-there c bs at e h k in
+            tested c e h
+            ∙ ocmp-holds env (at + 5) (ocmp-at bs (at + 5)) s (w .mid) x (compared (w .mid) (w .stands))
+            (round env (run-code env (w .body)) at (at + 5) (w .test) s (left - 1)) (ends done) v y
+
+        body-step :
+            (c : Code) (e : ℕ) (h : Spells c bs at e) →
+            let w = while-there c bs at e h k in
+            Ran (run-code env (w .body) (left - 1) (with-flags (env .fill) s)) end r t
+        body-step c e h =
+            let w = while-there c bs at e h k in
+            part-ran bs (x .next) env end (left - 1) (with-flags (env .fill) s) r t ran (w .body) (body-spelled c e h .2)
+
+        pub loop-goes :
+            r .number ≡ 0 → (c : Code) (e : ℕ) → Spells c bs at e → run-code env c left s ≡ run-code env c (left - 1) t
+        unfolding run-code
+        loop-goes z c e h =
+            let w = while-there c bs at e h k in
+            body-ran c e h
+            ∙ goes-on (run-code env (w .body) (left - 1) (with-flags (env .fill) s)) end r t (body-step c e h)
+            (rounds env (run-code env (w .body)) at (at + 5) (w .test) (left - 1)) z
+            ∙ ap (λ (b : Code). run-code env b (left - 1) t) (sym (w .is))
+
+        pub loop-stops :
+            (r .number ≡ 0 → ⊥) → (c : Code) (e : ℕ) → Spells c bs at e → run-code env c left s ≡ ends (how r) t
+        loop-stops z c e h =
+            let w = while-there c bs at e h k in
+            body-ran c e h
+            ∙ stops (run-code env (w .body) (left - 1) (with-flags (env .fill) s)) end r t (body-step c e h)
+            (rounds env (run-code env (w .body)) at (at + 5) (w .test) (left - 1)) z

@@ -40,7 +40,7 @@ pub fn compare(
 ) -> Compared
     requires { ⌜ ((e : ℕ) × Stands is-ocmp (now code) at e × (e ≤ length (now code))) ⌝ }
     requires { ⌜ Cells (now addresses) (now tags) (now values) ⌝ }
-    ensures { λ r. ⌜ ((e fill flags : ℕ) (xmms : List ℕ) → Stands is-ocmp (now (code .entry)) at e → Compares (environment (now (addresses .entry)) (now (tags .entry)) fill) (held (now (regs .entry)) xmms flags (now (values .entry))) (ocmp-at (now (code .entry)) at) e r) ⌝ }
+    ensures { λ r. ⌜ ((fill flags : ℕ) (xmms : List ℕ) (e : ℕ) → Stands is-ocmp (now (code .entry)) at e → Compares (environment (now (addresses .entry)) (now (tags .entry)) fill) (held (now (regs .entry)) xmms flags (now (values .entry))) (ocmp-at (now (code .entry)) at) e r) ⌝ }
 {
     let a = source(code, at + 1, regs, addresses, tags, values);
     let second = a.next;

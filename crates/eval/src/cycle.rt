@@ -1,16 +1,76 @@
-// The evaluator's cycle: a code runs its parts, a Block its codes, a While its rounds. The codes of a
-// Block and the rounds of a While are loops, so that native depth is the nesting of the code.
+// The evaluator's cycle: a list of codes runs its instructions and calls `eval_code` for a structure, whose parts are lists
+// again. The codes of a list and the rounds of a While are loops, so that native depth is the nesting of the code.
 ghost use mathlib.Core.Path.{_≡_};
-ghost use lib.ListN.{length};
+ghost use Prim.Native.Nat.{_≤_};
 ghost use Rattle.code.specs.Records.{byte-at};
 ghost use Rattle.eval.specs.Lent.{environment, held, Cells};
-ghost use Rattle.eval.specs.Coded.{CodeAt, Runs};
+ghost use Rattle.eval.specs.Coded.{CodeAt, CodesAt, codes-from, Runs, RunsAll};
 use crate::comparison::compare;
 use crate::instruction::instruction;
 use crate::step::Step;
 use code::number4;
 
-pub fn eval_code(
+// Where the codes of a part begin, so that a part that is a Block costs no turn of the cycle.
+fn first_code(code: &[u8], part: usize) -> usize
+    requires { ⌜ CodeAt (now code) part ⌝ }
+    ensures { λ r. ⌜ r ≡ codes-from (now (code .entry)) part ⌝ }
+{
+    if code[part] == 0x20 { part + 5 } else { part }
+}
+
+// An instruction is run in place, and costs no turn of the cycle.
+pub fn eval_codes(
+    code: &[u8],
+    from: usize,
+    end: usize,
+    fuel: u32,
+    fill: u64,
+    regs: &mut [u64; 16],
+    xmms: &mut [u32; 64],
+    flags: &mut u64,
+    cells: &[u64],
+    tags: &[u8],
+    values: &mut [u64],
+) -> Step
+    requires { ⌜ CodesAt (now code) from end ⌝ }
+    requires { ⌜ Cells (now cells) (now tags) (now values) ⌝ }
+    ensures { λ r. ⌜ RunsAll (environment (now (cells .entry)) (now (tags .entry)) fill) (now (code .entry)) from end fuel (held (now (regs .entry)) (now (xmms .entry)) (now (flags .entry)) (now (values .entry))) r (held (now (regs .exit)) (now (xmms .exit)) (now (flags .exit)) (now (values .exit))) ⌝ }
+{
+    let mut next = from;
+    while next < end {
+        if code[next] < 0x20 {
+            let step = instruction(code, next, fill, regs, xmms, flags, cells, tags, values);
+            if step.number != 0 {
+                return step;
+            }
+            next = step.place;
+        } else {
+            let step = eval_code(
+                code,
+                next,
+                fuel,
+                fill,
+                regs,
+                xmms,
+                flags,
+                cells,
+                tags,
+                values,
+            );
+            if step.number != 0 {
+                return step;
+            }
+            next = step.place;
+        }
+    }
+    Step {
+        number: 0,
+        place: end,
+    }
+}
+
+// A code that is a structure.
+fn eval_code(
     code: &[u8],
     at: usize,
     fuel: u32,
@@ -23,45 +83,18 @@ pub fn eval_code(
     values: &mut [u64],
 ) -> Step
     requires { ⌜ CodeAt (now code) at ⌝ }
+    requires { ⌜ 0x20 ≤ byte-at (now code) at ⌝ }
     requires { ⌜ Cells (now cells) (now tags) (now values) ⌝ }
     ensures { λ r. ⌜ Runs (environment (now (cells .entry)) (now (tags .entry)) fill) (now (code .entry)) at fuel (held (now (regs .entry)) (now (xmms .entry)) (now (flags .entry)) (now (values .entry))) r (held (now (regs .exit)) (now (xmms .exit)) (now (flags .exit)) (now (values .exit))) ⌝ }
 {
     let kind = code[at];
-    if kind < 0x20 {
-        return instruction(code, at, fill, regs, xmms, flags, cells, tags, values);
-    }
     if kind == 0x20 {
-        return eval_codes(code, at, fuel, fill, regs, xmms, flags, cells, tags, values);
-    }
-    if kind == 0x21 {
-        return eval_if_else(code, at, fuel, fill, regs, xmms, flags, cells, tags, values);
-    }
-    eval_while(code, at, fuel, fill, regs, xmms, flags, cells, tags, values)
-}
-
-fn eval_codes(
-    code: &[u8],
-    at: usize,
-    fuel: u32,
-    fill: u64,
-    regs: &mut [u64; 16],
-    xmms: &mut [u32; 64],
-    flags: &mut u64,
-    cells: &[u64],
-    tags: &[u8],
-    values: &mut [u64],
-) -> Step
-    requires { ⌜ CodeAt (now code) at ⌝ }
-    requires { ⌜ byte-at (now code) at ≡ 0x20 ⌝ }
-    requires { ⌜ Cells (now cells) (now tags) (now values) ⌝ }
-    ensures { λ r. ⌜ Runs (environment (now (cells .entry)) (now (tags .entry)) fill) (now (code .entry)) at fuel (held (now (regs .entry)) (now (xmms .entry)) (now (flags .entry)) (now (values .entry))) r (held (now (regs .exit)) (now (xmms .exit)) (now (flags .exit)) (now (values .exit))) ⌝ }
-{
-    let mut next = at + 5;
-    let end = next + number4(code, at + 1);
-    while next < end {
-        let step = eval_code(
+        let from = at + 5;
+        let end = from + number4(code, at + 1);
+        return eval_codes(
             code,
-            next,
+            from,
+            end,
             fuel,
             fill,
             regs,
@@ -71,15 +104,11 @@ fn eval_codes(
             tags,
             values,
         );
-        if step.number != 0 {
-            return step;
-        }
-        next = step.place;
     }
-    Step {
-        number: 0,
-        place: end,
+    if kind == 0x21 {
+        return eval_if_else(code, at, fuel, fill, regs, xmms, flags, cells, tags, values);
     }
+    eval_while(code, at, fuel, fill, regs, xmms, flags, cells, tags, values)
 }
 
 fn eval_if_else(
@@ -110,10 +139,13 @@ fn eval_if_else(
     *flags = fill;
     let first = compared.next;
     let second = first + number4(code, at + 1);
-    let from = if compared.how == 1 { first } else { second };
-    let step = eval_code(
+    let end = second + number4(code, at + 5);
+    let part = if compared.how == 1 { first } else { second };
+    let behind = if compared.how == 1 { second } else { end };
+    let step = eval_codes(
         code,
-        from,
+        first_code(code, part),
+        behind,
         fuel,
         fill,
         regs,
@@ -126,7 +158,6 @@ fn eval_if_else(
     if step.number != 0 {
         return step;
     }
-    let end = second + number4(code, at + 5);
     Step {
         number: 0,
         place: end,
@@ -162,17 +193,18 @@ fn eval_while(
         }
         *flags = fill;
         let body = compared.next;
+        let end = body + number4(code, at + 1);
         if compared.how == 0 {
-            let end = body + number4(code, at + 1);
             return Step {
                 number: 0,
                 place: end,
             };
         }
         left -= 1;
-        let step = eval_code(
+        let step = eval_codes(
             code,
-            body,
+            first_code(code, body),
+            end,
             left,
             fill,
             regs,

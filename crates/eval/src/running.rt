@@ -8,7 +8,7 @@ ghost use Rattle.eval.specs.Inputs.{IsInput};
 use crate::answer::Answer;
 use crate::answer::Run;
 use crate::answer::Setting;
-use crate::cycle::eval_code;
+use crate::cycle::eval_codes;
 use crate::step::Step;
 use code::check_code;
 use machine::Checked;
@@ -62,9 +62,10 @@ pub fn run(
     let mut flags = start.flags;
     let fuel = setting.fuel;
     let fill = setting.fill;
-    let step = eval_code(
+    let step = eval_codes(
         code,
         0,
+        code.len(),
         fuel,
         fill,
         &mut regs,

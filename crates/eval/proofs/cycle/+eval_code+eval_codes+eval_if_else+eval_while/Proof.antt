@@ -1,14 +1,14 @@
--- The evaluator's cycle meets its contracts. A code is what its bytes spell; each function runs that code's parts by the
--- others, and the laws of CycleLaws say that the run's definition goes the same way. The measure is fuel and what is left
--- of the bytes: calls go to a later place, or from a code to its structure, and never to more fuel. Assumes nothing.
-use Prim.Native.Nat.{_+_, _-_, _*_}
+-- The evaluator's cycle meets its contracts. A list of codes and a code are what their bytes spell; each function runs its parts by the
+-- others, and the laws of CycleLaws say that the run's definition goes the same way. The measure is a falling fuel and the remaining
+-- length: a list is measured from its first code on, a structure behind its kind byte, an IfElse and a While behind their first length.
+-- Assumes nothing.
+use Prim.Native.Nat.{ℕ, _+_, _-_, _<_}
 use mathlib.Core.Path.{refl, sym, ap, _∙_}
 use mathlib.Core.Logic.{inl, inr, ⊎-elim}
 use native.Mathlib.Omega.{arith}
 use lib.ListN.{length}
 use Rattle.eval.specs.Lent.{environment, held}
-use Rattle.eval.proofs.CycleLaws.{code-frame, starts, block-inside, choice-inside, loop-inside, still-cells, how-done, ins-ran, Going, going-starts, block-ran, next-there, codes-done, next-past, codes-go, codes-stop, if-unread, part-there, if-ran, Looping, loop-ran, loop-spent, body-there, loop-ends, loop-unread, loop-done, loop-goes, loop-stops}
-use Prim.Native.Nat.{ℕ, _<_}
+use Rattle.eval.proofs.CycleLaws.{code-frame, starts, has-length, block-inside, choice-inside, loop-inside, still-cells, how-done, ins-ran, Going, going-starts, next-there, next-past, codes-go, codes-stop, codes-done, codes-past, block-codes, block-ran, both-ways, if-unread, part-there, if-ran, Looping, loop-ran, loop-spent, loop-unread, loop-done, loop-ends, body-there, loop-goes, loop-stops}
 use borrow.Fn.Kinds.{In}
 use borrow.Fn.PlainCycle.{Measures, is, falls, and}
 use Rattle.eval.proofs.cycle.eval_code.Reads as eval-code
@@ -25,21 +25,22 @@ use Rattle.eval.proofs.cycle.eval_while.Kinds as eval-while-kinds
 use Rattle.eval.proofs.cycle.+eval_code+eval_codes+eval_if_else+eval_while.Lts-eval_while as eval-while-lts
 use Rattle.code.proofs.number4.Reads as number4-reads
 use Rattle.eval.proofs.comparison.compare.Reads as compare-reads
+use Rattle.eval.proofs.cycle.first_code.Reads as first-code-reads
 use Rattle.eval.proofs.instruction.instruction.Reads as instruction-reads
 use Rattle.eval.proofs.cycle.+eval_code+eval_codes+eval_if_else+eval_while.{statement}
 use Rattle.eval.proofs.cycle.+eval_code+eval_codes+eval_if_else+eval_while.Tie.{close}
 
 abbrev μ-eval-code : Measures 7 eval-code-kinds.ps ℕ
-μ-eval-code κs a = 2 * (length (a .0 .now) - a .1 .0) + 1 + a .1 .1 .0
+μ-eval-code κs a = a .1 .1 .0 + (length (a .0 .now) - a .1 .0 - 1)
 
 abbrev μ-eval-codes : Measures 7 eval-codes-kinds.ps ℕ
-μ-eval-codes κs a = 2 * (length (a .0 .now) - a .1 .0) + a .1 .1 .0
+μ-eval-codes κs a = a .1 .1 .1 .0 + (length (a .0 .now) - a .1 .0)
 
 abbrev μ-eval-if-else : Measures 7 eval-if-else-kinds.ps ℕ
-μ-eval-if-else κs a = 2 * (length (a .0 .now) - a .1 .0) + a .1 .1 .0
+μ-eval-if-else κs a = a .1 .1 .0 + (length (a .0 .now) - a .1 .0 - 5)
 
 abbrev μ-eval-while : Measures 7 eval-while-kinds.ps ℕ
-μ-eval-while κs a = 2 * (length (a .0 .now) - a .1 .0) + a .1 .1 .0
+μ-eval-while κs a = a .1 .1 .0 + (length (a .0 .now) - a .1 .0 - 5)
 
 abbrev eval-code-at : ℕ → In 7 eval-code-kinds.ps
 eval-code-at t = and 7 eval-code-kinds.ps (is 7 eval-code-kinds.ps μ-eval-code t) eval-code.Pre
@@ -77,272 +78,382 @@ eval-while-below t =
     and 7 eval-while-kinds.ps (falls 7 eval-while-kinds.ps _<_ μ-eval-while t) eval-while.Pre
 
 abbrev eval-code-claims : ℕ → eval-code-lts.Claims
-eval-code-claims t = (instruction-reads.Asked, instruction-reads.Learnt, eval-codes-below t, eval-codes.Post, eval-if-else-below t, eval-if-else.Post, eval-while-below t, eval-while.Post)
+eval-code-claims t = (number4-reads.Asked, number4-reads.Learnt, eval-codes-below t, eval-codes.Post, eval-if-else-below t, eval-if-else.Post, eval-while-below t, eval-while.Post)
 
 abbrev eval-codes-claims : ℕ → eval-codes-lts.Claims
-eval-codes-claims t = (number4-reads.Asked, number4-reads.Learnt, eval-code-below t, eval-code.Post)
+eval-codes-claims t = (instruction-reads.Asked, instruction-reads.Learnt, eval-code-below t, eval-code.Post)
 
 abbrev eval-if-else-claims : ℕ → eval-if-else-lts.Claims
-eval-if-else-claims t = (compare-reads.Asked, compare-reads.Learnt, number4-reads.Asked, number4-reads.Learnt, eval-code-below t, eval-code.Post)
+eval-if-else-claims t = (compare-reads.Asked, compare-reads.Learnt, number4-reads.Asked, number4-reads.Learnt, first-code-reads.Asked, first-code-reads.Learnt, eval-codes-below t, eval-codes.Post)
 
 abbrev eval-while-claims : ℕ → eval-while-lts.Claims
-eval-while-claims t = (compare-reads.Asked, compare-reads.Learnt, number4-reads.Asked, number4-reads.Learnt, eval-code-below t, eval-code.Post)
+eval-while-claims t = (compare-reads.Asked, compare-reads.Learnt, number4-reads.Asked, number4-reads.Learnt, first-code-reads.Asked, first-code-reads.Learnt, eval-codes-below t, eval-codes.Post)
 
 eval-code-shared-slice-read-kind : (t : ℕ) → eval-code-lts.Need-shared-slice-read-kind (eval-code-claims t) (eval-code-at t) eval-code.Post
 eval-code-shared-slice-read-kind t c =
     let s = c .before .before .before .before .before in
-    omega (arith, starts _ _ (s .pre .1 .0))
+    starts _ _ (s .pre .1 .0)
 
-eval-code-instruction-requires : (t : ℕ) → eval-code-lts.Need-instruction-requires (eval-code-claims t) (eval-code-at t) eval-code.Post
-eval-code-instruction-requires t c κs =
-    let if1 = c .before .before .before .before .if1 in
-    let s = c .before .before .before .before .before .before .before .before .before .before in
-    let w = s .pre .1 .0 in ((w .end, code-frame _ _ w .ins (if1 .taken), w .inside), s .pre .1 .1)
+eval-code-add-from : (t : ℕ) → eval-code-lts.Need-add-from (eval-code-claims t) (eval-code-at t) eval-code.Post
+eval-code-add-from t c =
+    let s = c .before .before .before .before .before .before in
+    omega (arith, has-length _ _ (s .pre .1 .0) (s .pre .1 .1 .0))
 
-eval-code-same-length : (t : ℕ) → eval-code-lts.Need-same-length (eval-code-claims t) (eval-code-at t) eval-code.Post
-eval-code-same-length t c =
-    let step = c .before .before .instruction in
-    step .kept .1 .1 .1 .1 .1 .1 .1 .1 .0
+eval-code-add-number4 : (t : ℕ) → eval-code-lts.Need-add-number4 (eval-code-claims t) (eval-code-at t) eval-code.Post
+eval-code-add-number4 t c =
+    let s = c .before .before .before .before .before .before in
+    omega (arith, has-length _ _ (s .pre .1 .0) (s .pre .1 .1 .0))
 
-eval-code-returns : (t : ℕ) → eval-code-lts.Need-returns (eval-code-claims t) (eval-code-at t) eval-code.Post
-eval-code-returns t c =
-    let step = c .before .before .instruction in
-    let if1 = c .before .before .before .before .before .before .before .if1 in
-    ins-ran _ _ _ _ _ _ _ (if1 .taken) (step .ensures)
+eval-code-number4-requires : (t : ℕ) → eval-code-lts.Need-number4-requires (eval-code-claims t) (eval-code-at t) eval-code.Post
+eval-code-number4-requires t c κs =
+    let s = c .before .before .before .before .before .before in
+    omega (arith, has-length _ _ (s .pre .1 .0) (s .pre .1 .1 .0))
+
+eval-code-add-end : (t : ℕ) → eval-code-lts.Need-add-end (eval-code-claims t) (eval-code-at t) eval-code.Post
+eval-code-add-end t c =
+    let s = c .before .before .before .before .before .before .before in
+    let if1 = c .before .if1 in
+    let size = c .number4 in
+    omega (arith, block-inside _ _ (s .pre .1 .0) (if1 .taken), size .ensures .0)
 
 eval-code-eval-codes-requires : (t : ℕ) → eval-code-lts.Need-eval-codes-requires (eval-code-claims t) (eval-code-at t) eval-code.Post
 eval-code-eval-codes-requires t c κs =
-    let if2 = c .before .before .before .before .if2 in
     let s = c .before .before .before .before .before .before .before .before .before .before .before in
-    (omega (arith, s .pre .0, starts _ _ (s .pre .1 .0)), (s .pre .1 .0, (if2 .taken, s .pre .1 .1)))
+    let size = c .before .before .before .before .number4 in
+    let if1 = c .before .before .before .before .before .if1 in
+    let end = ap (λ (n : ℕ). s .args .at + 5 + n) (size .ensures .0) in
+    let w = has-length _ _ (s .pre .1 .0) (s .pre .1 .1 .0) in
+    (omega (arith, s .pre .0, w), (block-codes _ _ _ (if1 .taken) end (s .pre .1 .0), s .pre .1 .1 .1))
+
+eval-code-same-length : (t : ℕ) → eval-code-lts.Need-same-length (eval-code-claims t) (eval-code-at t) eval-code.Post
+eval-code-same-length t c =
+    let step = c .before .before .eval-codes in
+    step .kept .1 .1 .1 .1 .1 .1 .1 .1 .1 .1 .0
+
+eval-code-returns : (t : ℕ) → eval-code-lts.Need-returns (eval-code-claims t) (eval-code-at t) eval-code.Post
+eval-code-returns t c =
+    let s = c .before .before .before .before .before .before .before .before .before .before .before .before .before .before in
+    let size = c .before .before .before .before .before .before .before .number4 in
+    let if1 = c .before .before .before .before .before .before .before .before .if1 in
+    let step = c .before .before .eval-codes in
+    let end = ap (λ (n : ℕ). s .args .at + 5 + n) (size .ensures .0) in
+    block-ran _ _ _ _ _ _ (if1 .taken) end (step .result) _ (step .ensures)
+
+eval-code-eval-if-else-requires : (t : ℕ) → eval-code-lts.Need-eval-if-else-requires (eval-code-claims t) (eval-code-at t) eval-code.Post
+eval-code-eval-if-else-requires t c κs =
+    let s = c .before .before .before .before .before .before .before .before .before .before .before in
+    let if2 = c .before .before .before .before .if2 in
+    let w = has-length _ _ (s .pre .1 .0) (s .pre .1 .1 .0) in
+    (omega (arith, s .pre .0, w), (s .pre .1 .0, (if2 .taken, s .pre .1 .1 .1)))
 
 eval-code-same-length-2 : (t : ℕ) → eval-code-lts.Need-same-length-2 (eval-code-claims t) (eval-code-at t) eval-code.Post
 eval-code-same-length-2 t c =
-    let step = c .before .before .eval-codes in
+    let step = c .before .before .eval-if-else in
     step .kept .1 .1 .1 .1 .1 .1 .1 .1 .1 .0
 
 eval-code-returns-2 : (t : ℕ) → eval-code-lts.Need-returns-2 (eval-code-claims t) (eval-code-at t) eval-code.Post
 eval-code-returns-2 t c =
-    let step = c .before .before .eval-codes in
-    step .ensures
-
-eval-code-eval-if-else-requires : (t : ℕ) → eval-code-lts.Need-eval-if-else-requires (eval-code-claims t) (eval-code-at t) eval-code.Post
-eval-code-eval-if-else-requires t c κs =
-    let if3 = c .before .before .before .before .if3 in
-    let s = c .before .before .before .before .before .before .before .before .before .before .before .before in
-    (omega (arith, s .pre .0, starts _ _ (s .pre .1 .0)), (s .pre .1 .0, (if3 .taken, s .pre .1 .1)))
-
-eval-code-same-length-3 : (t : ℕ) → eval-code-lts.Need-same-length-3 (eval-code-claims t) (eval-code-at t) eval-code.Post
-eval-code-same-length-3 t c =
-    let step = c .before .before .eval-if-else in
-    step .kept .1 .1 .1 .1 .1 .1 .1 .1 .1 .0
-
-eval-code-returns-3 : (t : ℕ) → eval-code-lts.Need-returns-3 (eval-code-claims t) (eval-code-at t) eval-code.Post
-eval-code-returns-3 t c =
     let step = c .before .before .eval-if-else in
     step .ensures
 
 eval-code-eval-while-requires : (t : ℕ) → eval-code-lts.Need-eval-while-requires (eval-code-claims t) (eval-code-at t) eval-code.Post
 eval-code-eval-while-requires t c κs =
-    let if3 = c .before .before .before .before .if3 in
-    let if2 = c .before .before .before .before .before .if2 in
-    let if1 = c .before .before .before .before .before .before .if1 in
-    let s = c .before .before .before .before .before .before .before .before .before .before .before .before in
-    (omega (arith, s .pre .0, starts _ _ (s .pre .1 .0)), (s .pre .1 .0, (code-frame _ _ (s .pre .1 .0) .kinds (if1 .left) (if2 .left) (if3 .left), s .pre .1 .1)))
+    let s = c .before .before .before .before .before .before .before .before .before .before .before in
+    let if1 = c .before .before .before .before .before .if1 in
+    let if2 = c .before .before .before .before .if2 in
+    let w = has-length _ _ (s .pre .1 .0) (s .pre .1 .1 .0) in
+    let kind = code-frame _ _ (s .pre .1 .0) .kinds (s .pre .1 .1 .0) (if1 .left) (if2 .left) in
+    (omega (arith, s .pre .0, w), (s .pre .1 .0, (kind, s .pre .1 .1 .1)))
 
-eval-code-same-length-4 : (t : ℕ) → eval-code-lts.Need-same-length-4 (eval-code-claims t) (eval-code-at t) eval-code.Post
-eval-code-same-length-4 t c =
+eval-code-same-length-3 : (t : ℕ) → eval-code-lts.Need-same-length-3 (eval-code-claims t) (eval-code-at t) eval-code.Post
+eval-code-same-length-3 t c =
     let step = c .before .before .eval-while in
     step .kept .1 .1 .1 .1 .1 .1 .1 .1 .1 .0
 
-eval-code-returns-4 : (t : ℕ) → eval-code-lts.Need-returns-4 (eval-code-claims t) (eval-code-at t) eval-code.Post
-eval-code-returns-4 t c =
+eval-code-returns-3 : (t : ℕ) → eval-code-lts.Need-returns-3 (eval-code-claims t) (eval-code-at t) eval-code.Post
+eval-code-returns-3 t c =
     let step = c .before .before .eval-while in
     step .ensures
 
 abbrev eval-codes-Inv-loop : eval-codes-lts.InvT-loop
-eval-codes-Inv-loop code at fuel fill regs₀ xmms₀ flags₀ cells tags values₀ next₀ end regs xmms flags values next =
-    Going (environment cells tags fill) code (at + 5) end fuel (held regs₀ xmms₀ flags₀ values₀) next (held regs xmms flags values)
+eval-codes-Inv-loop code from end fuel fill regs₀ xmms₀ flags₀ cells tags values₀ next₀ regs xmms flags values next =
+    Going (environment cells tags fill) code from end fuel (held regs₀ xmms₀ flags₀ values₀) next (held regs xmms flags values)
 
 abbrev eval-codes-μ-loop : eval-codes-lts.MeasureT-loop
-eval-codes-μ-loop code at fuel fill regs₀ xmms₀ flags₀ cells tags values₀ next₀ end regs xmms flags values next = end - next
-
-eval-codes-add-next : (t : ℕ) → eval-codes-lts.Need-add-next (eval-codes-claims t) (eval-codes-at t) eval-codes.Post eval-codes-Inv-loop eval-codes-μ-loop
-eval-codes-add-next t c =
-    let s = c .before .before .before .before in
-    omega (arith, block-inside _ _ (s .pre .1 .0) (s .pre .1 .1 .0))
-
-eval-codes-add-number4 : (t : ℕ) → eval-codes-lts.Need-add-number4 (eval-codes-claims t) (eval-codes-at t) eval-codes.Post eval-codes-Inv-loop eval-codes-μ-loop
-eval-codes-add-number4 t c =
-    let s = c .before .before .before .before in
-    omega (arith, block-inside _ _ (s .pre .1 .0) (s .pre .1 .1 .0))
-
-eval-codes-number4-requires : (t : ℕ) → eval-codes-lts.Need-number4-requires (eval-codes-claims t) (eval-codes-at t) eval-codes.Post eval-codes-Inv-loop eval-codes-μ-loop
-eval-codes-number4-requires t c κs =
-    let s = c .before .before .before .before in
-    omega (arith, block-inside _ _ (s .pre .1 .0) (s .pre .1 .1 .0))
-
-eval-codes-add-end : (t : ℕ) → eval-codes-lts.Need-add-end (eval-codes-claims t) (eval-codes-at t) eval-codes.Post eval-codes-Inv-loop eval-codes-μ-loop
-eval-codes-add-end t c =
-    let size = c .number4 in
-    let s = c .before .before .before .before .before in
-    omega (arith, block-inside _ _ (s .pre .1 .0) (s .pre .1 .1 .0), size .ensures .0)
+eval-codes-μ-loop code from end fuel fill regs₀ xmms₀ flags₀ cells tags values₀ next₀ regs xmms flags values next = end - next
 
 eval-codes-loop-holds : (t : ℕ) → eval-codes-lts.Need-loop-holds (eval-codes-claims t) (eval-codes-at t) eval-codes.Post eval-codes-Inv-loop eval-codes-μ-loop
 eval-codes-loop-holds t c =
-    let size = c .number4 in
-    let s = c .before .before .before .before .before in
-    going-starts _ _ _ _ _ _ (s .pre .1 .1 .0) (ap (λ (n : ℕ). s .args .at + 5 + n) (size .ensures .0)) (s .pre .1 .0)
+    let s = c .before .before .before .before in
+    going-starts _ _ _ _ _ _ (s .pre .1 .0)
 
-eval-codes-eval-code-requires : (t : ℕ) → eval-codes-lts.Need-eval-code-requires (eval-codes-claims t) (eval-codes-at t) eval-codes.Post eval-codes-Inv-loop eval-codes-μ-loop
-eval-codes-eval-code-requires t c κs =
-    let size = c .before .before .before .before .before .before .number4 in
-    let test = c .before .before .before .before .loop-test in
-    let l = c .before .before .before .before .before .loop in
-    let s = c .before .before .before .before .before .before .before .before .before .before .before in
-    let w = block-inside _ _ (s .pre .1 .0) (s .pre .1 .1 .0) in let n = next-there _ _ _ _ _ _ _ _ (l .inv) (test .taken) (omega (arith, w, size .ensures .0)) in (omega (arith, s .pre .0, starts _ _ n, l .inv .past), (n, still-cells _ _ _ _ (s .pre .1 .1 .1) (l .inv .long)))
+eval-codes-shared-slice-read-if1 : (t : ℕ) → eval-codes-lts.Need-shared-slice-read-if1 (eval-codes-claims t) (eval-codes-at t) eval-codes.Post eval-codes-Inv-loop eval-codes-μ-loop
+eval-codes-shared-slice-read-if1 t c =
+    let test = c .before .loop-test in
+    let s = c .before .before .before .before .before .before .before in
+    omega (arith, test .taken, s .pre .1 .0 .inside)
+
+eval-codes-instruction-requires : (t : ℕ) → eval-codes-lts.Need-instruction-requires (eval-codes-claims t) (eval-codes-at t) eval-codes.Post eval-codes-Inv-loop eval-codes-μ-loop
+eval-codes-instruction-requires t c κs =
+    let l = c .before .before .before .before .before .before .before .loop in
+    let test = c .before .before .before .before .before .before .loop-test in
+    let s = c .before .before .before .before .before .before .before .before .before .before .before .before in
+    let if1 = c .before .before .before .before .if1 in
+    let w = next-there _ _ _ _ _ _ _ _ (l .inv) (test .taken) (s .pre .1 .0 .inside) in
+    ((w .end, code-frame _ _ w .ins (if1 .taken), w .inside), still-cells _ _ _ _ (s .pre .1 .1) (l .inv .long))
 
 eval-codes-same-length : (t : ℕ) → eval-codes-lts.Need-same-length (eval-codes-claims t) (eval-codes-at t) eval-codes.Post eval-codes-Inv-loop eval-codes-μ-loop
 eval-codes-same-length t c =
-    let l = c .before .before .before .before .before .before .before .before .before .before .loop in
-    let step = c .before .before .before .before .eval-code in
-    step .kept .1 .1 .1 .1 .1 .1 .1 .1 .1 .0 ∙ l .inv .long
+    let step = c .before .before .before .before .instruction in
+    let l = c .before .before .before .before .before .before .before .before .before .before .before .before .loop in
+    step .kept .1 .1 .1 .1 .1 .1 .1 .1 .0 ∙ l .inv .long
 
 eval-codes-returns : (t : ℕ) → eval-codes-lts.Need-returns (eval-codes-claims t) (eval-codes-at t) eval-codes.Post eval-codes-Inv-loop eval-codes-μ-loop
 eval-codes-returns t c =
-    let test = c .before .before .before .before .before .before .before .before .before .loop-test in
-    let l = c .before .before .before .before .before .before .before .before .before .before .loop in
-    let if1 = c .if1 in
-    let step = c .before .before .before .before .eval-code in
-    let size = c .before .before .before .before .before .before .before .before .before .before .before .number4 in
-    let s = c .before .before .before .before .before .before .before .before .before .before .before .before .before .before .before .before in
-    block-ran _ _ _ _ _ _ (s .pre .1 .1 .0) (ap (λ (n : ℕ). s .args .at + 5 + n) (size .ensures .0)) (step .result) _ (λ z. absurd (if1 .taken z)) (codes-stop _ _ _ _ _ _ _ _ (l .inv) (step .result) _ (step .ensures) (test .taken) (if1 .taken))
+    let if1 = c .before .before .before .before .before .before .before .before .before .if1 in
+    let step = c .before .before .before .before .instruction in
+    let l = c .before .before .before .before .before .before .before .before .before .before .before .before .loop in
+    let test = c .before .before .before .before .before .before .before .before .before .before .before .loop-test in
+    let if2 = c .if2 in
+    let ran = ins-ran _ _ _ _ _ _ _ (if1 .taken) (step .ensures) in
+    codes-stop _ _ _ _ _ _ _ _ (l .inv) (step .result) _ ran (test .taken) (if2 .taken)
 
 eval-codes-loop-less : (t : ℕ) → eval-codes-lts.Need-loop-less (eval-codes-claims t) (eval-codes-at t) eval-codes.Post eval-codes-Inv-loop eval-codes-μ-loop
 eval-codes-loop-less t c =
-    let if1 = c .if1 in
-    let test = c .before .before .before .before .before .before .before .before .before .loop-test in
-    let step = c .before .before .before .before .eval-code in
-    let l = c .before .before .before .before .before .before .before .before .before .before .loop in
-    let p = next-past _ _ _ _ _ _ _ _ (l .inv) (step .result) _ (step .ensures) (test .taken) (if1 .left) in omega (arith, p .0, p .1)
+    let l = c .before .before .before .before .before .before .before .before .before .before .before .before .loop in
+    let step = c .before .before .before .before .instruction in
+    let if1 = c .before .before .before .before .before .before .before .before .before .if1 in
+    let test = c .before .before .before .before .before .before .before .before .before .before .before .loop-test in
+    let if2 = c .if2 in
+    let p =
+    next-past _ _ _ _ _ _ _ _ (l .inv) (step .result) _ (ins-ran _ _ _ _ _ _ _ (if1 .taken) (step .ensures))
+    (test .taken) (if2 .left)
+    in
+    omega (arith, p .0, p .1)
 
 eval-codes-loop-again : (t : ℕ) → eval-codes-lts.Need-loop-again (eval-codes-claims t) (eval-codes-at t) eval-codes.Post eval-codes-Inv-loop eval-codes-μ-loop
 eval-codes-loop-again t c =
-    let if1 = c .if1 in
-    let test = c .before .before .before .before .before .before .before .before .before .loop-test in
-    let step = c .before .before .before .before .eval-code in
-    let l = c .before .before .before .before .before .before .before .before .before .before .loop in
-    codes-go _ _ _ _ _ _ _ _ (l .inv) (step .result) _ (step .ensures) (test .taken) (if1 .left) (step .kept .1 .1 .1 .1 .1 .1 .1 .1 .1 .0)
+    let if1 = c .before .before .before .before .before .before .before .before .before .if1 in
+    let step = c .before .before .before .before .instruction in
+    let l = c .before .before .before .before .before .before .before .before .before .before .before .before .loop in
+    let test = c .before .before .before .before .before .before .before .before .before .before .before .loop-test in
+    let if2 = c .if2 in
+    let ran = ins-ran _ _ _ _ _ _ _ (if1 .taken) (step .ensures) in
+    codes-go _ _ _ _ _ _ _ _ (l .inv) (step .result) _ ran (test .taken) (if2 .left)
+    (step .kept .1 .1 .1 .1 .1 .1 .1 .1 .0)
+
+eval-codes-eval-code-requires : (t : ℕ) → eval-codes-lts.Need-eval-code-requires (eval-codes-claims t) (eval-codes-at t) eval-codes.Post eval-codes-Inv-loop eval-codes-μ-loop
+eval-codes-eval-code-requires t c κs =
+    let l = c .before .before .before .before .before .before .before .loop in
+    let test = c .before .before .before .before .before .before .loop-test in
+    let s = c .before .before .before .before .before .before .before .before .before .before .before .before in
+    let if1 = c .before .before .before .before .if1 in
+    let w = next-there _ _ _ _ _ _ _ _ (l .inv) (test .taken) (s .pre .1 .0 .inside) in (
+      omega (arith, s .pre .0, starts _ _ w, l .inv .past),
+      (w, (if1 .left, still-cells _ _ _ _ (s .pre .1 .1) (l .inv .long))),
+    )
 
 eval-codes-same-length-2 : (t : ℕ) → eval-codes-lts.Need-same-length-2 (eval-codes-claims t) (eval-codes-at t) eval-codes.Post eval-codes-Inv-loop eval-codes-μ-loop
 eval-codes-same-length-2 t c =
-    let l = c .before .loop in
-    l .inv .long
+    let step = c .before .before .before .before .eval-code in
+    let l = c .before .before .before .before .before .before .before .before .before .before .before .before .loop in
+    step .kept .1 .1 .1 .1 .1 .1 .1 .1 .1 .0 ∙ l .inv .long
 
 eval-codes-returns-2 : (t : ℕ) → eval-codes-lts.Need-returns-2 (eval-codes-claims t) (eval-codes-at t) eval-codes.Post eval-codes-Inv-loop eval-codes-μ-loop
 eval-codes-returns-2 t c =
-    let test = c .loop-test in
+    let l = c .before .before .before .before .before .before .before .before .before .before .before .before .loop in
+    let step = c .before .before .before .before .eval-code in
+    let test = c .before .before .before .before .before .before .before .before .before .before .before .loop-test in
+    let if3 = c .if3 in
+    codes-stop _ _ _ _ _ _ _ _ (l .inv) (step .result) _ (step .ensures) (test .taken) (if3 .taken)
+
+eval-codes-loop-less-2 : (t : ℕ) → eval-codes-lts.Need-loop-less-2 (eval-codes-claims t) (eval-codes-at t) eval-codes.Post eval-codes-Inv-loop eval-codes-μ-loop
+eval-codes-loop-less-2 t c =
+    let l = c .before .before .before .before .before .before .before .before .before .before .before .before .loop in
+    let step = c .before .before .before .before .eval-code in
+    let test = c .before .before .before .before .before .before .before .before .before .before .before .loop-test in
+    let if3 = c .if3 in
+    let p = next-past _ _ _ _ _ _ _ _ (l .inv) (step .result) _ (step .ensures) (test .taken) (if3 .left) in
+    omega (arith, p .0, p .1)
+
+eval-codes-loop-again-2 : (t : ℕ) → eval-codes-lts.Need-loop-again-2 (eval-codes-claims t) (eval-codes-at t) eval-codes.Post eval-codes-Inv-loop eval-codes-μ-loop
+eval-codes-loop-again-2 t c =
+    let l = c .before .before .before .before .before .before .before .before .before .before .before .before .loop in
+    let step = c .before .before .before .before .eval-code in
+    let test = c .before .before .before .before .before .before .before .before .before .before .before .loop-test in
+    let if3 = c .if3 in
+    codes-go _ _ _ _ _ _ _ _ (l .inv) (step .result) _ (step .ensures) (test .taken) (if3 .left)
+    (step .kept .1 .1 .1 .1 .1 .1 .1 .1 .1 .0)
+
+eval-codes-same-length-3 : (t : ℕ) → eval-codes-lts.Need-same-length-3 (eval-codes-claims t) (eval-codes-at t) eval-codes.Post eval-codes-Inv-loop eval-codes-μ-loop
+eval-codes-same-length-3 t c =
     let l = c .before .loop in
-    let size = c .before .before .number4 in
-    let s = c .before .before .before .before .before .before .before in
-    block-ran _ _ _ _ _ _ (s .pre .1 .1 .0) (ap (λ (n : ℕ). s .args .at + 5 + n) (size .ensures .0)) _ _ (λ z. refl) (codes-done _ _ _ _ _ _ _ _ (l .inv) (test .left))
+    l .inv .long
+
+eval-codes-returns-3 : (t : ℕ) → eval-codes-lts.Need-returns-3 (eval-codes-claims t) (eval-codes-at t) eval-codes.Post eval-codes-Inv-loop eval-codes-μ-loop
+eval-codes-returns-3 t c =
+    let l = c .before .loop in
+    let test = c .loop-test in
+    codes-done _ _ _ _ _ _ _ _ (l .inv) (test .left)
 
 eval-if-else-add-test : (t : ℕ) → eval-if-else-lts.Need-add-test (eval-if-else-claims t) (eval-if-else-at t) eval-if-else.Post
 eval-if-else-add-test t c =
     let s = c .before .before .before .before in
-    let w = choice-inside _ _ (s .pre .1 .0) (s .pre .1 .1 .0) in omega arith
+    let w = choice-inside _ _ (s .pre .1 .0) (s .pre .1 .1 .0) in
+    omega arith
 
 eval-if-else-compare-requires : (t : ℕ) → eval-if-else-lts.Need-compare-requires (eval-if-else-claims t) (eval-if-else-at t) eval-if-else.Post
 eval-if-else-compare-requires t c κs =
     let s = c .before .before .before .before .before .before in
-    let w = choice-inside _ _ (s .pre .1 .0) (s .pre .1 .1 .0) in ((w .mid, w .stands, omega (arith, w .within)), s .pre .1 .1 .1)
+    let w = choice-inside _ _ (s .pre .1 .0) (s .pre .1 .1 .0) in
+    ((w .mid, w .stands, omega (arith, w .within)), s .pre .1 .1 .1)
 
 eval-if-else-same-length : (t : ℕ) → eval-if-else-lts.Need-same-length (eval-if-else-claims t) (eval-if-else-at t) eval-if-else.Post
-eval-if-else-same-length t c =
-    refl
+eval-if-else-same-length t c = refl
 
 eval-if-else-returns : (t : ℕ) → eval-if-else-lts.Need-returns (eval-if-else-claims t) (eval-if-else-at t) eval-if-else.Post
 eval-if-else-returns t c =
-    let if1 = c .if1 in
     let x = c .before .before .compare in
     let s = c .before .before .before .before .before .before .before .before .before in
-    if-unread _ _ _ _ _ (s .pre .1 .1 .0) (x .result) (λ m h. x .ensures m (s .args .fill) (s .args .flags .now) (s .args .xmms .now) h) (if1 .taken)
+    let if1 = c .if1 in
+    let compared = x .ensures (s .args .fill) (s .args .flags .now) (s .args .xmms .now) in
+    if-unread _ _ _ _ _ (s .pre .1 .1 .0) (x .result) compared (if1 .taken)
 
 eval-if-else-add-number4 : (t : ℕ) → eval-if-else-lts.Need-add-number4 (eval-if-else-claims t) (eval-if-else-at t) eval-if-else.Post
 eval-if-else-add-number4 t c =
     let s = c .before .before .before .before .before .before .before .before .before in
-    let w = choice-inside _ _ (s .pre .1 .0) (s .pre .1 .1 .0) in omega arith
+    let w = choice-inside _ _ (s .pre .1 .0) (s .pre .1 .1 .0) in
+    omega arith
 
 eval-if-else-number4-requires : (t : ℕ) → eval-if-else-lts.Need-number4-requires (eval-if-else-claims t) (eval-if-else-at t) eval-if-else.Post
 eval-if-else-number4-requires t c κs =
     let s = c .before .before .before .before .before .before .before .before .before in
-    let w = choice-inside _ _ (s .pre .1 .0) (s .pre .1 .1 .0) in omega arith
+    let w = choice-inside _ _ (s .pre .1 .0) (s .pre .1 .1 .0) in
+    omega arith
 
 eval-if-else-add-second : (t : ℕ) → eval-if-else-lts.Need-add-second (eval-if-else-claims t) (eval-if-else-at t) eval-if-else.Post
 eval-if-else-add-second t c =
-    let size = c .number4 in
-    let x = c .before .before .before .compare in
     let s = c .before .before .before .before .before .before .before .before .before .before in
-    let w = choice-inside _ _ (s .pre .1 .0) (s .pre .1 .1 .0) in omega (arith, w .within, x .ensures (w .mid) (s .args .fill) (s .args .flags .now) (s .args .xmms .now) (w .stands) .next, size .ensures .0)
-
-eval-if-else-eval-code-requires : (t : ℕ) → eval-if-else-lts.Need-eval-code-requires (eval-if-else-claims t) (eval-if-else-at t) eval-if-else.Post
-eval-if-else-eval-code-requires t c κs =
-    let if2 = c .before .before .before .before .if2 in
-    let size = c .before .before .before .before .before .before .number4 in
-    let x = c .before .before .before .before .before .before .before .before .before .compare in
-    let s = c .before .before .before .before .before .before .before .before .before .before .before .before .before .before .before .before in
-    let p = part-there _ _ _ (s .args .fuel) _ (s .pre .1 .1 .0) (x .result) (λ m h. x .ensures m (s .args .fill) (s .args .flags .now) (s .args .xmms .now) h) (size .result) (if2 .from) (size .ensures .0) (⊎-elim (λ h. inl (h .0 .taken, h .1)) (λ h. inr (h .0 .left, h .1)) (if2 .came)) (s .pre .1 .0) in (omega (arith, s .pre .0, p .1, starts _ _ (p .0)), (p .0, s .pre .1 .1 .1))
-
-eval-if-else-same-length-2 : (t : ℕ) → eval-if-else-lts.Need-same-length-2 (eval-if-else-claims t) (eval-if-else-at t) eval-if-else.Post
-eval-if-else-same-length-2 t c =
-    let step = c .before .before .before .before .eval-code in
-    step .kept .1 .1 .1 .1 .1 .1 .1 .1 .1 .0
-
-eval-if-else-returns-2 : (t : ℕ) → eval-if-else-lts.Need-returns-2 (eval-if-else-claims t) (eval-if-else-at t) eval-if-else.Post
-eval-if-else-returns-2 t c =
-    let if3 = c .if3 in
-    let step = c .before .before .before .before .eval-code in
-    let if1 = c .before .before .before .before .before .before .before .before .before .before .before .before .if1 in
-    let if2 = c .before .before .before .before .before .before .before .before .before .if2 in
-    let size = c .before .before .before .before .before .before .before .before .before .before .before .number4 in
-    let x = c .before .before .before .before .before .before .before .before .before .before .before .before .before .before .compare in
-    let s = c .before .before .before .before .before .before .before .before .before .before .before .before .before .before .before .before .before .before .before .before .before in
-    if-ran _ _ _ (s .args .fuel) _ (s .pre .1 .1 .0) (x .result) (λ m h. x .ensures m (s .args .fill) (s .args .flags .now) (s .args .xmms .now) h) (size .result) (if2 .from) (size .ensures .0) (⊎-elim (λ h. inl (h .0 .taken, h .1)) (λ h. inr (h .0 .left, h .1)) (if2 .came)) (if1 .left) (step .result) _ (step .ensures) (step .result) refl (λ z. absurd (if3 .taken z))
+    let x = c .before .before .before .compare in
+    let size = c .number4 in
+    let w = choice-inside _ _ (s .pre .1 .0) (s .pre .1 .1 .0) in
+    let next = x .ensures (s .args .fill) (s .args .flags .now) (s .args .xmms .now) (w .mid) (w .stands) .next in
+    omega (arith, w .within, next, size .ensures .0)
 
 eval-if-else-add-number4-2 : (t : ℕ) → eval-if-else-lts.Need-add-number4-2 (eval-if-else-claims t) (eval-if-else-at t) eval-if-else.Post
 eval-if-else-add-number4-2 t c =
-    let s = c .before .before .before .before .before .before .before .before .before .before .before .before .before .before .before .before .before .before .before .before .before in
-    let w = choice-inside _ _ (s .pre .1 .0) (s .pre .1 .1 .0) in omega arith
+    let s = c .before .before .before .before .before .before .before .before .before .before in
+    let w = choice-inside _ _ (s .pre .1 .0) (s .pre .1 .1 .0) in
+    omega arith
 
 eval-if-else-number4-requires-2 : (t : ℕ) → eval-if-else-lts.Need-number4-requires-2 (eval-if-else-claims t) (eval-if-else-at t) eval-if-else.Post
 eval-if-else-number4-requires-2 t c κs =
-    let s = c .before .before .before .before .before .before .before .before .before .before .before .before .before .before .before .before .before .before .before .before .before in
-    let w = choice-inside _ _ (s .pre .1 .0) (s .pre .1 .1 .0) in omega arith
+    let s = c .before .before .before .before .before .before .before .before .before .before in
+    let w = choice-inside _ _ (s .pre .1 .0) (s .pre .1 .1 .0) in
+    omega arith
 
 eval-if-else-add-end : (t : ℕ) → eval-if-else-lts.Need-add-end (eval-if-else-claims t) (eval-if-else-at t) eval-if-else.Post
 eval-if-else-add-end t c =
+    let s = c .before .before .before .before .before .before .before .before .before .before .before in
+    let x = c .before .before .before .before .compare in
+    let size = c .before .number4 in
     let other = c .number42 in
-    let size = c .before .before .before .before .before .before .before .before .before .before .before .before .number4 in
-    let x = c .before .before .before .before .before .before .before .before .before .before .before .before .before .before .before .compare in
-    let s = c .before .before .before .before .before .before .before .before .before .before .before .before .before .before .before .before .before .before .before .before .before .before in
-    let w = choice-inside _ _ (s .pre .1 .0) (s .pre .1 .1 .0) in omega (arith, w .within, x .ensures (w .mid) (s .args .fill) (s .args .flags .now) (s .args .xmms .now) (w .stands) .next, size .ensures .0, other .ensures .0)
+    let w = choice-inside _ _ (s .pre .1 .0) (s .pre .1 .1 .0) in
+    let next = x .ensures (s .args .fill) (s .args .flags .now) (s .args .xmms .now) (w .mid) (w .stands) .next in
+    omega (arith, w .within, next, size .ensures .0, other .ensures .0)
+
+eval-if-else-first-code-requires : (t : ℕ) → eval-if-else-lts.Need-first-code-requires (eval-if-else-claims t) (eval-if-else-at t) eval-if-else.Post
+eval-if-else-first-code-requires t c κs =
+    let x = c .before .before .before .before .before .before .before .before .compare in
+    let s = c .before .before .before .before .before .before .before .before .before .before .before .before .before .before .before in
+    let size = c .before .before .before .before .before .number4 in
+    let other = c .before .before .before .before .number42 in
+    let if2 = c .before .before .if2 in
+    let if3 = c .if3 in
+    let compared = x .ensures (s .args .fill) (s .args .flags .now) (s .args .xmms .now) in
+    let mid = ap (λ (n : ℕ). x .result .next + n) (size .ensures .0) in
+    let end = ap (λ (n : ℕ). x .result .next + size .result + n) (other .ensures .0) in
+    part-there _ _ _ (s .args .fuel) _ (s .pre .1 .1 .0) (x .result) compared _ _ (if2 .part) (if3 .behind) mid end
+    (both-ways
+    (⊎-elim (λ h. inl (h .0 .taken, h .1)) (λ h. inr (h .0 .left, h .1)) (if2 .came))
+    (⊎-elim (λ h. inl (h .0 .taken, h .1)) (λ h. inr (h .0 .left, h .1)) (if3 .came)))
+    (s .pre .1 .0)
+    .0
+
+eval-if-else-eval-codes-requires : (t : ℕ) → eval-if-else-lts.Need-eval-codes-requires (eval-if-else-claims t) (eval-if-else-at t) eval-if-else.Post
+eval-if-else-eval-codes-requires t c κs =
+    let x = c .before .before .before .before .before .before .before .before .before .before .before .before .before .compare in
+    let s = c .before .before .before .before .before .before .before .before .before .before .before .before .before .before .before .before .before .before .before .before in
+    let size = c .before .before .before .before .before .before .before .before .before .before .number4 in
+    let other = c .before .before .before .before .before .before .before .before .before .number42 in
+    let if2 = c .before .before .before .before .before .before .before .if2 in
+    let if3 = c .before .before .before .before .before .if3 in
+    let first = c .before .before .before .before .first-code in
+    let compared = x .ensures (s .args .fill) (s .args .flags .now) (s .args .xmms .now) in
+    let mid = ap (λ (n : ℕ). x .result .next + n) (size .ensures .0) in
+    let end = ap (λ (n : ℕ). x .result .next + size .result + n) (other .ensures .0) in
+    let p =
+    part-there _ _ _ (s .args .fuel) _ (s .pre .1 .1 .0) (x .result) compared _ _ (if2 .part) (if3 .behind) mid end
+    (both-ways
+    (⊎-elim (λ h. inl (h .0 .taken, h .1)) (λ h. inr (h .0 .left, h .1)) (if2 .came))
+    (⊎-elim (λ h. inl (h .0 .taken, h .1)) (λ h. inr (h .0 .left, h .1)) (if3 .came)))
+    (s .pre .1 .0)
+    in (
+      omega (arith, s .pre .0, starts _ _ (p .0), p .2, codes-past (s .args .code .now) (if2 .part), first .ensures),
+      (rw (first .ensures) (p .1), s .pre .1 .1 .1),
+    )
+
+eval-if-else-same-length-2 : (t : ℕ) → eval-if-else-lts.Need-same-length-2 (eval-if-else-claims t) (eval-if-else-at t) eval-if-else.Post
+eval-if-else-same-length-2 t c =
+    let step = c .before .before .before .before .eval-codes in
+    step .kept .1 .1 .1 .1 .1 .1 .1 .1 .1 .1 .0
+
+eval-if-else-returns-2 : (t : ℕ) → eval-if-else-lts.Need-returns-2 (eval-if-else-claims t) (eval-if-else-at t) eval-if-else.Post
+eval-if-else-returns-2 t c =
+    let x = c .before .before .before .before .before .before .before .before .before .before .before .before .before .before .before .before .before .before .compare in
+    let s = c .before .before .before .before .before .before .before .before .before .before .before .before .before .before .before .before .before .before .before .before .before .before .before .before .before in
+    let size = c .before .before .before .before .before .before .before .before .before .before .before .before .before .before .before .number4 in
+    let other = c .before .before .before .before .before .before .before .before .before .before .before .before .before .before .number42 in
+    let if2 = c .before .before .before .before .before .before .before .before .before .before .before .before .if2 in
+    let if3 = c .before .before .before .before .before .before .before .before .before .before .if3 in
+    let if1 = c .before .before .before .before .before .before .before .before .before .before .before .before .before .before .before .before .if1 in
+    let step = c .before .before .before .before .eval-codes in
+    let first = c .before .before .before .before .before .before .before .before .before .first-code in
+    let if4 = c .if4 in
+    let compared = x .ensures (s .args .fill) (s .args .flags .now) (s .args .xmms .now) in
+    let mid = ap (λ (n : ℕ). x .result .next + n) (size .ensures .0) in
+    let end = ap (λ (n : ℕ). x .result .next + size .result + n) (other .ensures .0) in
+    if-ran _ _ _ (s .args .fuel) _ (s .pre .1 .1 .0) (x .result) compared _ _ (if2 .part) (if3 .behind) mid end
+    (both-ways
+    (⊎-elim (λ h. inl (h .0 .taken, h .1)) (λ h. inr (h .0 .left, h .1)) (if2 .came))
+    (⊎-elim (λ h. inl (h .0 .taken, h .1)) (λ h. inr (h .0 .left, h .1)) (if3 .came)))
+    (if1 .left) (step .result) _ (rw (first .ensures) at (step .ensures)) (step .result) refl (λ z. absurd (if4 .taken z))
 
 eval-if-else-same-length-3 : (t : ℕ) → eval-if-else-lts.Need-same-length-3 (eval-if-else-claims t) (eval-if-else-at t) eval-if-else.Post
 eval-if-else-same-length-3 t c =
-    let step = c .before .before .before .before .before .eval-code in
-    step .kept .1 .1 .1 .1 .1 .1 .1 .1 .1 .0
+    let step = c .before .before .before .before .eval-codes in
+    step .kept .1 .1 .1 .1 .1 .1 .1 .1 .1 .1 .0
 
 eval-if-else-returns-3 : (t : ℕ) → eval-if-else-lts.Need-returns-3 (eval-if-else-claims t) (eval-if-else-at t) eval-if-else.Post
 eval-if-else-returns-3 t c =
-    let other = c .number42 in
-    let if3 = c .before .if3 in
-    let step = c .before .before .before .before .before .eval-code in
-    let if1 = c .before .before .before .before .before .before .before .before .before .before .before .before .before .if1 in
-    let if2 = c .before .before .before .before .before .before .before .before .before .before .if2 in
-    let size = c .before .before .before .before .before .before .before .before .before .before .before .before .number4 in
-    let x = c .before .before .before .before .before .before .before .before .before .before .before .before .before .before .before .compare in
-    let s = c .before .before .before .before .before .before .before .before .before .before .before .before .before .before .before .before .before .before .before .before .before .before in
-    if-ran _ _ _ (s .args .fuel) _ (s .pre .1 .1 .0) (x .result) (λ m h. x .ensures m (s .args .fill) (s .args .flags .now) (s .args .xmms .now) h) (size .result) (if2 .from) (size .ensures .0) (⊎-elim (λ h. inl (h .0 .taken, h .1)) (λ h. inr (h .0 .left, h .1)) (if2 .came)) (if1 .left) (step .result) _ (step .ensures) _ (sym (how-done (step .result) (if3 .left))) (λ z. omega (arith, size .ensures .0, other .ensures .0))
+    let x = c .before .before .before .before .before .before .before .before .before .before .before .before .before .before .before .before .before .before .compare in
+    let s = c .before .before .before .before .before .before .before .before .before .before .before .before .before .before .before .before .before .before .before .before .before .before .before .before .before in
+    let size = c .before .before .before .before .before .before .before .before .before .before .before .before .before .before .before .number4 in
+    let other = c .before .before .before .before .before .before .before .before .before .before .before .before .before .before .number42 in
+    let if2 = c .before .before .before .before .before .before .before .before .before .before .before .before .if2 in
+    let if3 = c .before .before .before .before .before .before .before .before .before .before .if3 in
+    let if1 = c .before .before .before .before .before .before .before .before .before .before .before .before .before .before .before .before .if1 in
+    let step = c .before .before .before .before .eval-codes in
+    let first = c .before .before .before .before .before .before .before .before .before .first-code in
+    let if4 = c .if4 in
+    let compared = x .ensures (s .args .fill) (s .args .flags .now) (s .args .xmms .now) in
+    let mid = ap (λ (n : ℕ). x .result .next + n) (size .ensures .0) in
+    let end = ap (λ (n : ℕ). x .result .next + size .result + n) (other .ensures .0) in
+    if-ran _ _ _ (s .args .fuel) _ (s .pre .1 .1 .0) (x .result) compared _ _ (if2 .part) (if3 .behind) mid end
+    (both-ways
+    (⊎-elim (λ h. inl (h .0 .taken, h .1)) (λ h. inr (h .0 .left, h .1)) (if2 .came))
+    (⊎-elim (λ h. inl (h .0 .taken, h .1)) (λ h. inr (h .0 .left, h .1)) (if3 .came)))
+    (if1 .left) (step .result) _ (rw (first .ensures) at (step .ensures)) _ (sym (how-done (step .result) (if4 .left))) (λ _. refl)
 
 abbrev eval-while-Inv-loop : eval-while-lts.InvT-loop
 eval-while-Inv-loop code at fuel fill regs₀ xmms₀ flags₀ cells tags values₀ left₀ regs xmms flags values left =
@@ -352,19 +463,20 @@ abbrev eval-while-μ-loop : eval-while-lts.MeasureT-loop
 eval-while-μ-loop code at fuel fill regs₀ xmms₀ flags₀ cells tags values₀ left₀ regs xmms flags values left = left
 
 eval-while-loop-holds : (t : ℕ) → eval-while-lts.Need-loop-holds (eval-while-claims t) (eval-while-at t) eval-while.Post eval-while-Inv-loop eval-while-μ-loop
-eval-while-loop-holds t c =
-    record { same = λ _ _ _. refl; long = refl; less = omega arith }
+eval-while-loop-holds t c = record { same = λ _ _ _. refl; long = refl; less = omega arith }
 
 eval-while-add-test : (t : ℕ) → eval-while-lts.Need-add-test (eval-while-claims t) (eval-while-at t) eval-while.Post eval-while-Inv-loop eval-while-μ-loop
 eval-while-add-test t c =
     let s = c .before .before .before .before .before .before in
-    let w = loop-inside _ _ (s .pre .1 .0) (s .pre .1 .1 .0) in omega arith
+    let w = loop-inside _ _ (s .pre .1 .0) (s .pre .1 .1 .0) in
+    omega arith
 
 eval-while-compare-requires : (t : ℕ) → eval-while-lts.Need-compare-requires (eval-while-claims t) (eval-while-at t) eval-while.Post eval-while-Inv-loop eval-while-μ-loop
 eval-while-compare-requires t c κs =
-    let l = c .before .before .before .loop in
     let s = c .before .before .before .before .before .before .before .before in
-    let w = loop-inside _ _ (s .pre .1 .0) (s .pre .1 .1 .0) in ((w .mid, w .stands, omega (arith, w .within)), still-cells _ _ _ _ (s .pre .1 .1 .1) (l .inv .long))
+    let l = c .before .before .before .loop in
+    let w = loop-inside _ _ (s .pre .1 .0) (s .pre .1 .1 .0) in
+    ((w .mid, w .stands, omega (arith, w .within)), still-cells _ _ _ _ (s .pre .1 .1 .1) (l .inv .long))
 
 eval-while-same-length : (t : ℕ) → eval-while-lts.Need-same-length (eval-while-claims t) (eval-while-at t) eval-while.Post eval-while-Inv-loop eval-while-μ-loop
 eval-while-same-length t c =
@@ -373,30 +485,37 @@ eval-while-same-length t c =
 
 eval-while-returns : (t : ℕ) → eval-while-lts.Need-returns (eval-while-claims t) (eval-while-at t) eval-while.Post eval-while-Inv-loop eval-while-μ-loop
 eval-while-returns t c =
-    let if1 = c .if1 in
     let x = c .before .before .compare in
-    let test = c .before .before .before .before .before .loop-test in
     let s = c .before .before .before .before .before .before .before .before .before .before .before in
     let l = c .before .before .before .before .before .before .loop in
-    loop-ran _ _ _ _ _ _ _ (l .inv) _ _ (loop-unread _ _ _ (l .left) _ (s .pre .1 .1 .0) (test .taken) (x .result) (λ m h. x .ensures m (s .args .fill) (l .flags) (l .xmms) h) (if1 .taken)) (λ _ _ _ z. absurd (omega arith))
+    let test = c .before .before .before .before .before .loop-test in
+    let if1 = c .if1 in
+    let compared = x .ensures (s .args .fill) (l .flags) (l .xmms) in
+    loop-ran _ _ _ _ _ _ _ (l .inv) _ _
+    (loop-unread _ _ _ (l .left) _ (s .pre .1 .1 .0) (test .taken) (x .result) compared (if1 .taken))
+    (λ _ _ _ z. absurd (omega arith))
 
 eval-while-add-number4 : (t : ℕ) → eval-while-lts.Need-add-number4 (eval-while-claims t) (eval-while-at t) eval-while.Post eval-while-Inv-loop eval-while-μ-loop
 eval-while-add-number4 t c =
-    let s = c .before .before .before .before .before .before .before .before .before .before .before .before .before in
-    let w = loop-inside _ _ (s .pre .1 .0) (s .pre .1 .1 .0) in omega arith
+    let s = c .before .before .before .before .before .before .before .before .before .before .before in
+    let w = loop-inside _ _ (s .pre .1 .0) (s .pre .1 .1 .0) in
+    omega arith
 
 eval-while-number4-requires : (t : ℕ) → eval-while-lts.Need-number4-requires (eval-while-claims t) (eval-while-at t) eval-while.Post eval-while-Inv-loop eval-while-μ-loop
 eval-while-number4-requires t c κs =
-    let s = c .before .before .before .before .before .before .before .before .before .before .before .before .before in
-    let w = loop-inside _ _ (s .pre .1 .0) (s .pre .1 .1 .0) in omega arith
+    let s = c .before .before .before .before .before .before .before .before .before .before .before in
+    let w = loop-inside _ _ (s .pre .1 .0) (s .pre .1 .1 .0) in
+    omega arith
 
 eval-while-add-end : (t : ℕ) → eval-while-lts.Need-add-end (eval-while-claims t) (eval-while-at t) eval-while.Post eval-while-Inv-loop eval-while-μ-loop
 eval-while-add-end t c =
+    let s = c .before .before .before .before .before .before .before .before .before .before .before .before in
+    let x = c .before .before .before .compare in
+    let l = c .before .before .before .before .before .before .before .loop in
     let size = c .number4 in
-    let l = c .before .before .before .before .before .before .before .before .before .loop in
-    let x = c .before .before .before .before .before .compare in
-    let s = c .before .before .before .before .before .before .before .before .before .before .before .before .before .before in
-    let w = loop-inside _ _ (s .pre .1 .0) (s .pre .1 .1 .0) in omega (arith, w .within, x .ensures (w .mid) (s .args .fill) (l .flags) (l .xmms) (w .stands) .next, size .ensures .0)
+    let w = loop-inside _ _ (s .pre .1 .0) (s .pre .1 .1 .0) in
+    let next = x .ensures (s .args .fill) (l .flags) (l .xmms) (w .mid) (w .stands) .next in
+    omega (arith, w .within, next, size .ensures .0)
 
 eval-while-same-length-2 : (t : ℕ) → eval-while-lts.Need-same-length-2 (eval-while-claims t) (eval-while-at t) eval-while.Post eval-while-Inv-loop eval-while-μ-loop
 eval-while-same-length-2 t c =
@@ -405,61 +524,102 @@ eval-while-same-length-2 t c =
 
 eval-while-returns-2 : (t : ℕ) → eval-while-lts.Need-returns-2 (eval-while-claims t) (eval-while-at t) eval-while.Post eval-while-Inv-loop eval-while-μ-loop
 eval-while-returns-2 t c =
-    let size = c .number4 in
-    let if2 = c .before .if2 in
     let x = c .before .before .before .before .before .compare in
-    let test = c .before .before .before .before .before .before .before .before .loop-test in
     let s = c .before .before .before .before .before .before .before .before .before .before .before .before .before .before in
     let l = c .before .before .before .before .before .before .before .before .before .loop in
-    loop-ran _ _ _ _ _ _ _ (l .inv) _ _ (loop-done _ _ _ (l .left) _ (s .pre .1 .1 .0) (test .taken) (x .result) (λ m h. x .ensures m (s .args .fill) (l .flags) (l .xmms) h) (if2 .taken)) (λ d e h z. omega (arith, loop-ends _ _ _ (l .left) _ (s .pre .1 .1 .0) (test .taken) (x .result) (λ m h. x .ensures m (s .args .fill) (l .flags) (l .xmms) h) d e h, size .ensures .0))
+    let size = c .before .before .number4 in
+    let test = c .before .before .before .before .before .before .before .before .loop-test in
+    let if2 = c .if2 in
+    let compared = x .ensures (s .args .fill) (l .flags) (l .xmms) in
+    let end = ap (λ (n : ℕ). x .result .next + n) (size .ensures .0) in
+    loop-ran _ _ _ _ _ _ _ (l .inv) _ _
+    (loop-done _ _ _ (l .left) _ (s .pre .1 .1 .0) (test .taken) (x .result) compared (if2 .taken))
+    (λ d e h _. loop-ends _ _ _ (l .left) _ (s .pre .1 .1 .0) (test .taken) (x .result) compared _ end d e h)
 
 eval-while-sub-left : (t : ℕ) → eval-while-lts.Need-sub-left (eval-while-claims t) (eval-while-at t) eval-while.Post eval-while-Inv-loop eval-while-μ-loop
 eval-while-sub-left t c =
-    let test = c .before .before .before .before .before .before .before .loop-test in
+    let test = c .before .before .before .before .before .before .before .before .loop-test in
     omega (arith, test .taken)
 
-eval-while-eval-code-requires : (t : ℕ) → eval-while-lts.Need-eval-code-requires (eval-while-claims t) (eval-while-at t) eval-while.Post eval-while-Inv-loop eval-while-μ-loop
-eval-while-eval-code-requires t c κs =
-    let x = c .before .before .before .before .before .before .before .before .compare in
-    let test = c .before .before .before .before .before .before .before .before .before .before .before .loop-test in
-    let s = c .before .before .before .before .before .before .before .before .before .before .before .before .before .before .before .before .before in
-    let l = c .before .before .before .before .before .before .before .before .before .before .before .before .loop in
-    let p = body-there _ _ _ (l .left) _ (s .pre .1 .1 .0) (test .taken) (x .result) (λ m h. x .ensures m (s .args .fill) (l .flags) (l .xmms) h) (s .pre .1 .0) in (omega (arith, s .pre .0, p .1, starts _ _ (p .0), l .inv .less, test .taken), (p .0, still-cells _ _ _ _ (s .pre .1 .1 .1) (l .inv .long)))
+eval-while-first-code-requires : (t : ℕ) → eval-while-lts.Need-first-code-requires (eval-while-claims t) (eval-while-at t) eval-while.Post eval-while-Inv-loop eval-while-μ-loop
+eval-while-first-code-requires t c κs =
+    let x = c .before .before .before .before .before .compare in
+    let s = c .before .before .before .before .before .before .before .before .before .before .before .before .before .before in
+    let l = c .before .before .before .before .before .before .before .before .before .loop in
+    let size = c .before .before .number4 in
+    let test = c .before .before .before .before .before .before .before .before .loop-test in
+    let compared = x .ensures (s .args .fill) (l .flags) (l .xmms) in
+    let end = ap (λ (n : ℕ). x .result .next + n) (size .ensures .0) in
+    body-there _ _ _ (l .left) _ (s .pre .1 .1 .0) (test .taken) (x .result) compared _ end (s .pre .1 .0) .0
+
+eval-while-eval-codes-requires : (t : ℕ) → eval-while-lts.Need-eval-codes-requires (eval-while-claims t) (eval-while-at t) eval-while.Post eval-while-Inv-loop eval-while-μ-loop
+eval-while-eval-codes-requires t c κs =
+    let x = c .before .before .before .before .before .before .before .before .before .before .compare in
+    let s = c .before .before .before .before .before .before .before .before .before .before .before .before .before .before .before .before .before .before .before in
+    let l = c .before .before .before .before .before .before .before .before .before .before .before .before .before .before .loop in
+    let size = c .before .before .before .before .before .before .before .number4 in
+    let test = c .before .before .before .before .before .before .before .before .before .before .before .before .before .loop-test in
+    let first = c .before .before .before .before .first-code in
+    let compared = x .ensures (s .args .fill) (l .flags) (l .xmms) in
+    let end = ap (λ (n : ℕ). x .result .next + n) (size .ensures .0) in
+    let p = body-there _ _ _ (l .left) _ (s .pre .1 .1 .0) (test .taken) (x .result) compared _ end (s .pre .1 .0) in
+    let later = codes-past (s .args .code .now) (x .result .next) in (
+      omega (arith, s .pre .0, starts _ _ (p .0), p .2, later, first .ensures, l .inv .less),
+      (rw (first .ensures) (p .1), still-cells _ _ _ _ (s .pre .1 .1 .1) (l .inv .long)),
+    )
 
 eval-while-same-length-3 : (t : ℕ) → eval-while-lts.Need-same-length-3 (eval-while-claims t) (eval-while-at t) eval-while.Post eval-while-Inv-loop eval-while-μ-loop
 eval-while-same-length-3 t c =
-    let l = c .before .before .before .before .before .before .before .before .before .before .before .before .before .before .before .before .before .loop in
-    let step = c .before .before .before .before .eval-code in
-    step .kept .1 .1 .1 .1 .1 .1 .1 .1 .1 .0 ∙ l .inv .long
+    let step = c .before .before .before .before .eval-codes in
+    let l = c .before .before .before .before .before .before .before .before .before .before .before .before .before .before .before .before .before .before .before .loop in
+    step .kept .1 .1 .1 .1 .1 .1 .1 .1 .1 .1 .0 ∙ l .inv .long
 
 eval-while-returns-3 : (t : ℕ) → eval-while-lts.Need-returns-3 (eval-while-claims t) (eval-while-at t) eval-while.Post eval-while-Inv-loop eval-while-μ-loop
 eval-while-returns-3 t c =
+    let x = c .before .before .before .before .before .before .before .before .before .before .before .before .before .before .before .compare in
+    let s = c .before .before .before .before .before .before .before .before .before .before .before .before .before .before .before .before .before .before .before .before .before .before .before .before in
+    let l = c .before .before .before .before .before .before .before .before .before .before .before .before .before .before .before .before .before .before .before .loop in
+    let size = c .before .before .before .before .before .before .before .before .before .before .before .before .number4 in
+    let step = c .before .before .before .before .eval-codes in
+    let test = c .before .before .before .before .before .before .before .before .before .before .before .before .before .before .before .before .before .before .loop-test in
+    let if1 = c .before .before .before .before .before .before .before .before .before .before .before .before .before .if1 in
+    let if2 = c .before .before .before .before .before .before .before .before .before .before .if2 in
+    let first = c .before .before .before .before .before .before .before .before .before .first-code in
     let if3 = c .if3 in
-    let if2 = c .before .before .before .before .before .before .before .before .before .if2 in
-    let if1 = c .before .before .before .before .before .before .before .before .before .before .before .if1 in
-    let x = c .before .before .before .before .before .before .before .before .before .before .before .before .before .compare in
-    let test = c .before .before .before .before .before .before .before .before .before .before .before .before .before .before .before .before .loop-test in
-    let s = c .before .before .before .before .before .before .before .before .before .before .before .before .before .before .before .before .before .before .before .before .before .before in
-    let step = c .before .before .before .before .eval-code in
-    let l = c .before .before .before .before .before .before .before .before .before .before .before .before .before .before .before .before .before .loop in
-    loop-ran _ _ _ _ _ _ _ (l .inv) (step .result) _ (loop-stops _ _ _ (l .left) _ (s .pre .1 .1 .0) (test .taken) (x .result) (λ m h. x .ensures m (s .args .fill) (l .flags) (l .xmms) h) (if1 .left) (if2 .left) (step .result) _ (step .ensures) (if3 .taken)) (λ _ _ _ z. absurd (if3 .taken z))
+    let compared = x .ensures (s .args .fill) (l .flags) (l .xmms) in
+    let end = ap (λ (n : ℕ). x .result .next + n) (size .ensures .0) in
+    loop-ran _ _ _ _ _ _ _ (l .inv) (step .result) _
+    (loop-stops _ _ _ (l .left) _ (s .pre .1 .1 .0) (test .taken) (x .result) compared _ end (if1 .left) (if2 .left)
+    (step .result) _ (rw (first .ensures) at (step .ensures)) (if3 .taken))
+    (λ _ _ _ z. absurd (if3 .taken z))
 
 eval-while-loop-less : (t : ℕ) → eval-while-lts.Need-loop-less (eval-while-claims t) (eval-while-at t) eval-while.Post eval-while-Inv-loop eval-while-μ-loop
 eval-while-loop-less t c =
-    let test = c .before .before .before .before .before .before .before .before .before .before .before .before .before .before .before .before .loop-test in
+    let test = c .before .before .before .before .before .before .before .before .before .before .before .before .before .before .before .before .before .before .loop-test in
     omega (arith, test .taken)
 
 eval-while-loop-again : (t : ℕ) → eval-while-lts.Need-loop-again (eval-while-claims t) (eval-while-at t) eval-while.Post eval-while-Inv-loop eval-while-μ-loop
 eval-while-loop-again t c =
+    let x = c .before .before .before .before .before .before .before .before .before .before .before .before .before .before .before .compare in
+    let s = c .before .before .before .before .before .before .before .before .before .before .before .before .before .before .before .before .before .before .before .before .before .before .before .before in
+    let l = c .before .before .before .before .before .before .before .before .before .before .before .before .before .before .before .before .before .before .before .loop in
+    let size = c .before .before .before .before .before .before .before .before .before .before .before .before .number4 in
+    let test = c .before .before .before .before .before .before .before .before .before .before .before .before .before .before .before .before .before .before .loop-test in
+    let if1 = c .before .before .before .before .before .before .before .before .before .before .before .before .before .if1 in
+    let if2 = c .before .before .before .before .before .before .before .before .before .before .if2 in
+    let step = c .before .before .before .before .eval-codes in
+    let first = c .before .before .before .before .before .before .before .before .before .first-code in
     let if3 = c .if3 in
-    let step = c .before .before .before .before .eval-code in
-    let if2 = c .before .before .before .before .before .before .before .before .before .if2 in
-    let if1 = c .before .before .before .before .before .before .before .before .before .before .before .if1 in
-    let x = c .before .before .before .before .before .before .before .before .before .before .before .before .before .compare in
-    let test = c .before .before .before .before .before .before .before .before .before .before .before .before .before .before .before .before .loop-test in
-    let s = c .before .before .before .before .before .before .before .before .before .before .before .before .before .before .before .before .before .before .before .before .before .before in
-    let l = c .before .before .before .before .before .before .before .before .before .before .before .before .before .before .before .before .before .loop in
-    record { same = λ d e h. l .inv .same d e h ∙ loop-goes _ _ _ (l .left) _ (s .pre .1 .1 .0) (test .taken) (x .result) (λ m h. x .ensures m (s .args .fill) (l .flags) (l .xmms) h) (if1 .left) (if2 .left) (step .result) _ (step .ensures) (if3 .left) d e h; long = step .kept .1 .1 .1 .1 .1 .1 .1 .1 .1 .0 ∙ l .inv .long; less = omega (arith, l .inv .less) }
+    let compared = x .ensures (s .args .fill) (l .flags) (l .xmms) in
+    let end = ap (λ (n : ℕ). x .result .next + n) (size .ensures .0) in
+    record {
+      same = λ d e h.
+          l .inv .same d e h
+          ∙ loop-goes _ _ _ (l .left) _ (s .pre .1 .1 .0) (test .taken) (x .result) compared _ end (if1 .left) (if2 .left)
+          (step .result) _ (rw (first .ensures) at (step .ensures)) (if3 .left) d e h;
+      long = step .kept .1 .1 .1 .1 .1 .1 .1 .1 .1 .1 .0 ∙ l .inv .long;
+      less = omega (arith, l .inv .less);
+    }
 
 eval-while-same-length-4 : (t : ℕ) → eval-while-lts.Need-same-length-4 (eval-while-claims t) (eval-while-at t) eval-while.Post eval-while-Inv-loop eval-while-μ-loop
 eval-while-same-length-4 t c =
@@ -468,42 +628,75 @@ eval-while-same-length-4 t c =
 
 eval-while-returns-4 : (t : ℕ) → eval-while-lts.Need-returns-4 (eval-while-claims t) (eval-while-at t) eval-while.Post eval-while-Inv-loop eval-while-μ-loop
 eval-while-returns-4 t c =
-    let test = c .loop-test in
-    let s = c .before .before .before .before .before .before in
     let l = c .before .loop in
+    let s = c .before .before .before .before .before .before in
+    let test = c .loop-test in
     loop-ran _ _ _ _ _ _ _ (l .inv) _ _ (loop-spent _ _ _ (l .left) _ (s .pre .1 .1 .0) (test .left)) (λ _ _ _ z. absurd (omega arith))
 
 pub +eval-code+eval-codes+eval-if-else+eval-while-spec : {M : Type 1} → statement M
 +eval-code+eval-codes+eval-if-else+eval-while-spec =
-    close μ-eval-code μ-eval-codes μ-eval-if-else μ-eval-while
-    (λ t. eval-code-lts.spec (eval-code-claims t) (eval-code-at t) eval-code.Post
+    close μ-eval-code μ-eval-codes μ-eval-if-else μ-eval-while (λ t. eval-code-lts.spec (
+      number4-reads.Asked,
+      number4-reads.Learnt,
+      eval-codes-below t,
+      eval-codes.Post,
+      eval-if-else-below t,
+      eval-if-else.Post,
+      eval-while-below t,
+      eval-while.Post,
+    )
+    (eval-code-at t)
+    eval-code.Post
     (eval-code-shared-slice-read-kind t)
-    (eval-code-instruction-requires t)
+    (eval-code-add-from t)
+    (eval-code-add-number4 t)
+    (eval-code-number4-requires t)
+    (eval-code-add-end t)
+    (eval-code-eval-codes-requires t)
     (eval-code-same-length t)
     (eval-code-returns t)
-    (eval-code-eval-codes-requires t)
+    (eval-code-eval-if-else-requires t)
     (eval-code-same-length-2 t)
     (eval-code-returns-2 t)
-    (eval-code-eval-if-else-requires t)
-    (eval-code-same-length-3 t)
-    (eval-code-returns-3 t)
     (eval-code-eval-while-requires t)
-    (eval-code-same-length-4 t)
-    (eval-code-returns-4 t))
-    (λ t. eval-codes-lts.spec (eval-codes-claims t) (eval-codes-at t) eval-codes.Post eval-codes-Inv-loop eval-codes-μ-loop
-    (eval-codes-add-next t)
-    (eval-codes-add-number4 t)
-    (eval-codes-number4-requires t)
-    (eval-codes-add-end t)
+    (eval-code-same-length-3 t)
+    (eval-code-returns-3 t))
+    (λ t. eval-codes-lts.spec (
+      instruction-reads.Asked,
+      instruction-reads.Learnt,
+      eval-code-below t,
+      eval-code.Post,
+    )
+    (eval-codes-at t)
+    eval-codes.Post
+    eval-codes-Inv-loop
+    eval-codes-μ-loop
     (eval-codes-loop-holds t)
-    (eval-codes-eval-code-requires t)
+    (eval-codes-shared-slice-read-if1 t)
+    (eval-codes-instruction-requires t)
     (eval-codes-same-length t)
     (eval-codes-returns t)
     (eval-codes-loop-less t)
     (eval-codes-loop-again t)
+    (eval-codes-eval-code-requires t)
     (eval-codes-same-length-2 t)
-    (eval-codes-returns-2 t))
-    (λ t. eval-if-else-lts.spec (eval-if-else-claims t) (eval-if-else-at t) eval-if-else.Post
+    (eval-codes-returns-2 t)
+    (eval-codes-loop-less-2 t)
+    (eval-codes-loop-again-2 t)
+    (eval-codes-same-length-3 t)
+    (eval-codes-returns-3 t))
+    (λ t. eval-if-else-lts.spec (
+      compare-reads.Asked,
+      compare-reads.Learnt,
+      number4-reads.Asked,
+      number4-reads.Learnt,
+      first-code-reads.Asked,
+      first-code-reads.Learnt,
+      eval-codes-below t,
+      eval-codes.Post,
+    )
+    (eval-if-else-at t)
+    eval-if-else.Post
     (eval-if-else-add-test t)
     (eval-if-else-compare-requires t)
     (eval-if-else-same-length t)
@@ -511,15 +704,29 @@ pub +eval-code+eval-codes+eval-if-else+eval-while-spec : {M : Type 1} → statem
     (eval-if-else-add-number4 t)
     (eval-if-else-number4-requires t)
     (eval-if-else-add-second t)
-    (eval-if-else-eval-code-requires t)
-    (eval-if-else-same-length-2 t)
-    (eval-if-else-returns-2 t)
     (eval-if-else-add-number4-2 t)
     (eval-if-else-number4-requires-2 t)
     (eval-if-else-add-end t)
+    (eval-if-else-first-code-requires t)
+    (eval-if-else-eval-codes-requires t)
+    (eval-if-else-same-length-2 t)
+    (eval-if-else-returns-2 t)
     (eval-if-else-same-length-3 t)
     (eval-if-else-returns-3 t))
-    (λ t. eval-while-lts.spec (eval-while-claims t) (eval-while-at t) eval-while.Post eval-while-Inv-loop eval-while-μ-loop
+    λ t. eval-while-lts.spec (
+      compare-reads.Asked,
+      compare-reads.Learnt,
+      number4-reads.Asked,
+      number4-reads.Learnt,
+      first-code-reads.Asked,
+      first-code-reads.Learnt,
+      eval-codes-below t,
+      eval-codes.Post,
+    )
+    (eval-while-at t)
+    eval-while.Post
+    eval-while-Inv-loop
+    eval-while-μ-loop
     (eval-while-loop-holds t)
     (eval-while-add-test t)
     (eval-while-compare-requires t)
@@ -531,10 +738,11 @@ pub +eval-code+eval-codes+eval-if-else+eval-while-spec : {M : Type 1} → statem
     (eval-while-same-length-2 t)
     (eval-while-returns-2 t)
     (eval-while-sub-left t)
-    (eval-while-eval-code-requires t)
+    (eval-while-first-code-requires t)
+    (eval-while-eval-codes-requires t)
     (eval-while-same-length-3 t)
     (eval-while-returns-3 t)
     (eval-while-loop-less t)
     (eval-while-loop-again t)
     (eval-while-same-length-4 t)
-    (eval-while-returns-4 t))
+    (eval-while-returns-4 t)

@@ -8,7 +8,7 @@ use Rattle.machine.specs.Cells.{verdict}
 use Rattle.eval.specs.Config.{outcome}
 use Rattle.eval.specs.Inputs.{IsInput}
 use Rattle.eval.proofs.InputLaws.{words-of}
-use Rattle.eval.proofs.RunLaws.{accepted-cells, accepted-code, code-refused, cells-refused, run-ran}
+use Rattle.eval.proofs.RunLaws.{accepted-cells, accepted-codes, code-refused, cells-refused, run-ran}
 use Rattle.eval.proofs.running.run.Statement.{statement}
 use Rattle.eval.proofs.running.run.Tie as tie
 
@@ -80,14 +80,14 @@ enum-told-2 c =
     let m2 = c .match2 in
     m2 .keys2
 
-eval-code-requires : tie.Need-eval-code-requires
-eval-code-requires c κs =
+eval-codes-requires : tie.Need-eval-codes-requires
+eval-codes-requires c κs =
     let cells-here = c .before .before .before .before .before .before .enum-told2 in
     let cells = c .before .before .before .before .before .before .before .before .check-cells in
     let accepted-here = c .before .before .before .before .before .before .before .before .before .before .enum-told in
     let code = c .before .before .before .before .before .before .before .before .before .before .before .before .check-code in
     let s = c .before .before .before .before .before .before .before .before .before .before .before .before .before .before .before .before .before in
-    (accepted-code (s .args .code .now) (sym (code .ensures) ∙ ap verdict (accepted-here .given .1)), accepted-cells (s .args .addresses .now) (s .args .tags .now) (s .args .values .now) (sym (cells .ensures) ∙ ap verdict (cells-here .given .1)))
+    (accepted-codes (s .args .code .now) (sym (code .ensures) ∙ ap verdict (accepted-here .given .1)), accepted-cells (s .args .addresses .now) (s .args .tags .now) (s .args .values .now) (sym (cells .ensures) ∙ ap verdict (cells-here .given .1)))
 
 answer-of-requires : tie.Need-answer-of-requires
 answer-of-requires c κs =
@@ -95,14 +95,14 @@ answer-of-requires c κs =
 
 same-length-2 : tie.Need-same-length-2
 same-length-2 c =
-    let step = c .before .before .before .eval-code in
-    step .kept .1 .1 .1 .1 .1 .1 .1 .1 .1 .0
+    let step = c .before .before .before .eval-codes in
+    step .kept .1 .1 .1 .1 .1 .1 .1 .1 .1 .1 .0
 
 returns-3 : tie.Need-returns-3
 returns-3 c =
     let entry = c .before .before .before .before .before .before .before .before .before .before .before .before .before .before .before .before .before .before .before .before in
     let answer = c .answer-of in
-    let step = c .before .before .before .eval-code in
+    let step = c .before .before .before .eval-codes in
     let cells-here = c .before .before .before .before .before .before .before .before .before .before .enum-told2 in
     let cells = c .before .before .before .before .before .before .before .before .before .before .before .before .check-cells in
     let accepted-here = c .before .before .before .before .before .before .before .before .before .before .before .before .before .before .enum-told in
@@ -123,7 +123,7 @@ run-spec =
     same-length
     returns-2
     enum-told-2
-    eval-code-requires
+    eval-codes-requires
     answer-of-requires
     same-length-2
     returns-3)
