@@ -37,6 +37,10 @@ module _ (xs : List ℕ) (up : Ascending xs) (m z : ℕ) (h : m < length xs) whe
       go true p = ltb-true k m p
       go false p = absurd (at-least (ltb-false k m p))
 
+-- an address stands at one index
+pub only-there : (xs : List ℕ) → Ascending xs → (z m : ℕ) → m < length xs → getD xs m 0 ≡ z → (k : ℕ) → k < length xs → getD xs k 0 ≡ z → k ≡ m
+only-there xs up z m h e k l q = omega (arith, upper xs up m z h (omega arith) k q, upper xs up k z l (omega arith) m e)
+
 -- the part that is left: an index with the address z lies in it
 pub record Part (xs : List ℕ) (z low high : ℕ) : Type 0 where
   pub more : low < high
