@@ -1,7 +1,10 @@
 // The lent cells: checking them, and finding the 64-bit cell at an address.
 
+use crate::Address;
 use crate::Checked;
 use crate::Found;
+use crate::Maddr;
+use crate::addressing::operand_address;
 use crate::wide::Wide;
 use crate::wide::is_below;
 use crate::wide::of_word;
@@ -12,6 +15,7 @@ ghost use mathlib.Core.Bool.{true, cond};
 ghost use Prim.Native.Nat.{ℕ, _+_, _-_, _/_, _^_, _<_};
 ghost use lib.IntN.{pos};
 ghost use lib.ListN.{length, getD};
+ghost use Rattle.machine.specs.Operands.{NamesRegisters, eval-maddr};
 ghost use Rattle.machine.specs.Wide.{number};
 ghost use Rattle.machine.specs.Cells.{verdict, check-cells, check-from, cell-rule, is-tag, SameLengths, Ascending, Searchable, index-of, find-cell};
 
@@ -145,5 +149,17 @@ pub fn find_cell(addresses: &[u64], tags: &[u8], address: u64) -> Found
         Found::At(at)
     } else {
         Found::Nothing
+    }
+}
+
+// The index of the 64-bit cell of a memory operand.
+pub fn cell_of(m: Maddr, regs: &[u64; 16], addresses: &[u64], tags: &[u8]) -> Found
+    requires { ⌜ NamesRegisters m ⌝ }
+    requires { ⌜ Searchable (now addresses) (now tags) ⌝ }
+    ensures { λ r. ⌜ index-of r ≡ find-cell (now (addresses .entry)) (now (tags .entry)) (eval-maddr m (now (regs .entry))) ⌝ }
+{
+    match operand_address(m, regs) {
+        Address::Inside(word) => find_cell(addresses, tags, word),
+        Address::Outside => Found::Nothing,
     }
 }

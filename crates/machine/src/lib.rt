@@ -9,6 +9,7 @@ mod wide;
 pub use addressing::exact_address;
 pub use addressing::operand_address;
 pub use addressing::register_address;
+pub use cells::cell_of;
 pub use cells::check_cells;
 pub use cells::find_cell;
 pub use destination::valid_dst;
