@@ -2,13 +2,13 @@
 -- `exact` is a `subℕ`, and whether that is a word is a comparison of natural numbers.
 use Prim.Native.Nat.{ℕ, zero, suc, _+_, _*_, _-_, _^_, _≤_, _<_}
 use mathlib.Core.Path.{_≡_, refl, sym, _∙_, ap, ap₂, subst, subst⁻¹}
-use mathlib.Core.Bool.{Bool, true, false, cond}
+use mathlib.Core.Bool.{Bool, true, false}
 use mathlib.Core.Option.{Option, none, some}
 use native.Mathlib.Nat.{add-zero, mul-le-mul}
 use native.Mathlib.Omega.{arith}
 use borrow.Author.Tests.{ltb-true, ltb-false, lt-ltb, le-ltb}
 use lib.Dec.{ltb}
-use lib.IntN.{ℤ, pos, negsuc, subℕ, negℤ, natAbs, _+ℤ_, _*ℤ_}
+use lib.IntN.{ℤ, pos, negsuc, subℕ, negℤ, natAbs, _+ℤ_}
 use lib.Signed.{ltZ, mag}
 use mir.Syntax.{Width, w16, w64}
 use mir.Val.{SFits, toZ, ofZ}
@@ -19,7 +19,7 @@ use Rattle.words.specs.Sums.{Subtracted}
 use Rattle.words.proofs.BitLaws.{bit-lt}
 use Rattle.words.proofs.SumLaws.{sub-mod-lt, subtracted-number}
 use Rattle.machine.specs.Registers.{reg-at}
-use Rattle.machine.specs.Operands.{in-range, exact, eval-maddr, NamesRegisters}
+use Rattle.machine.specs.Operands.{in-range, exact, eval-maddr}
 use Rattle.machine.specs.declared.reg.Reg.{Reg}
 use Rattle.machine.specs.declared.Maddr.{Maddr}
 use Rattle.machine.specs.declared.Maddr.the-variants.{MConst, MReg, MIndex}

@@ -5,4 +5,5 @@ pub mod FindLaws
 pub mod OperandLaws
 pub mod Accepting
 pub mod MemoryLaws
+pub mod SpellLaws
 pub mod ByteLaws

@@ -8,7 +8,6 @@ use crate::wide::of_word;
 use crate::wide::plus;
 use crate::wide::times;
 ghost use mathlib.Core.Path.{_≡_};
-ghost use Prim.Native.Nat.{_≤_};
 ghost use lib.IntN.{pos, natAbs, _+ℤ_};
 ghost use Rattle.machine.specs.Operands.{word-of, in-range, exact, eval-maddr, NamesRegisters};
 

@@ -11,7 +11,7 @@ use crate::wide::of_word;
 use crate::wide::plus;
 use std::num::wrapping_sub_u64;
 ghost use mathlib.Core.Path.{_≡_};
-ghost use mathlib.Core.Bool.{true, cond};
+ghost use mathlib.Core.Bool.{cond};
 ghost use Prim.Native.Nat.{ℕ, _+_, _-_, _/_, _^_, _<_};
 ghost use lib.IntN.{pos};
 ghost use lib.ListN.{length, getD};
