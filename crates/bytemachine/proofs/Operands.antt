@@ -18,7 +18,7 @@ use Rattle.machine.specs.Bytes.{ByteMemory, wrap, read-bytes, write-bytes}
 use Rattle.machine.specs.declared.Operand.{Operand}
 use Rattle.machine.specs.declared.Operand.the-variants.{OConst, OReg, OMem}
 use Rattle.machine.proofs.FindLaws.{find-hit}
-use Rattle.machine.proofs.RegisterLaws.{words-set, words-set-xmm, QuadBelow, xmm-below}
+use Rattle.machine.proofs.RegisterLaws.{words-set, words-set-xmm, xmm-below}
 use Rattle.machine.proofs.Accepting.{Accepted, store-accepted}
 use Rattle.machine.proofs.ByteLaws.{over, over-read, over-write}
 use Rattle.code.specs.WellFormed.{WfOperand}
@@ -34,17 +34,14 @@ pub record Kept (env : Env) (s : Config) : Type 0 where
   pub cells : Accepted (env .addresses) (env .tags) (s .values)
 
 pub xmm-quad : {env : Env} {s : Config} (x : ℕ) → Kept env s → Quad (xmm-at (s .xmms) x)
-xmm-quad {s = s} x k =
-    let q = xmm-below 64 (2 ^ 32) (s .xmms) x (k .xmms-words) in
-    record { lo0-lt = q .lo0; lo1-lt = q .lo1; hi2-lt = q .hi2; hi3-lt = q .hi3 }
+xmm-quad {s = s} x k = xmm-below 64 (s .xmms) x (k .xmms-words)
 
 pub with-flags-kept : {env : Env} {s : Config} (f : ℕ) → Kept env s → Kept env (with-flags f s)
 with-flags-kept f k = record { regs-words = k .regs-words; xmms-words = k .xmms-words; cells = k .cells }
 
 pub set-xmm-kept : {env : Env} {s : Config} (x : ℕ) (q : Four ℕ) → Quad q → Kept env s → Kept env (with-xmms (set-xmm (s .xmms) x q) s)
 set-xmm-kept {s = s} x q h k =
-    let below : QuadBelow (2 ^ 32) q = record { lo0 = h .lo0-lt; lo1 = h .lo1-lt; hi2 = h .hi2-lt; hi3 = h .hi3-lt } in
-    record { regs-words = k .regs-words; xmms-words = words-set-xmm 64 (2 ^ 32) (s .xmms) x q below (k .xmms-words); cells = k .cells }
+    record { regs-words = k .regs-words; xmms-words = words-set-xmm 64 (s .xmms) x q h (k .xmms-words); cells = k .cells }
 
 -- the value of a 64-bit cell is a word
 cell-small : (env : Env) (s : Config) (z : ℤ) (i : ℕ) → find-cell (env .addresses) (env .tags) z ≡ some i → Kept env s → getD (s .values) i 0 < 2 ^ 64

@@ -9,7 +9,7 @@ use Rattle.words.specs.Bits.{ishl}
 use Rattle.words.specs.Types.{shl-lanes, shift-quad}
 use Rattle.machine.specs.Registers.{Rax, Rsp, xmm-at, set-xmm}
 use Rattle.machine.specs.Operands.{eval-maddr}
-use Rattle.machine.specs.Bytes.{byte, wrap, read-bytes, distance, write-bytes}
+use Rattle.machine.specs.Bytes.{byte, wrap, spelled, read-bytes, distance, write-bytes}
 use Rattle.machine.specs.declared.Maddr.the-variants.{MConst, MReg}
 use Rattle.machine.specs.declared.Operand.the-variants.{OConst, OReg, OMem}
 use Rattle.code.specs.Tree.{Mov64, Shl64, Pslld, VPSLLDQ, OEq, ONe, Code, Ins, Block, While, ⟨⟩}
@@ -61,7 +61,7 @@ examples =
 
 -- what the machine shows for each row
 unfoldable pub shown-of : List Example → List (Option (List ℕ))
-unfolding exec execs step test branch go-on loop read write seen eval-maddr byte wrap read-bytes distance write-bytes xmm-at set-xmm ishl shl-lanes shift-quad
+unfolding exec execs step test branch go-on loop read write seen eval-maddr byte wrap spelled read-bytes distance write-bytes xmm-at set-xmm ishl shl-lanes shift-quad
 shown-of [] = []
 shown-of (e ∷ es) = seen (exec 0 (e .code) (e .fuel) start) ∷ shown-of es
 

@@ -1,20 +1,20 @@
 -- What it is for cells to be accepted: equal lengths, at most 1,024, in order and apart, with tags and with values that fit. `check-cells`
 -- says accepted exactly of these, by induction over the cells with the running end; a store of a word to a 64-bit cell keeps them so.
-use Prim.Native.Nat.{ℕ, zero, suc, _+_, _*_, _/_, _^_, _≤_, _<_}
-use mathlib.Core.Path.{_≡_, refl, sym, _∙_, ap, subst, subst⁻¹}
+use Prim.Native.Nat.{ℕ, zero, suc, _+_, _/_, _^_, _≤_, _<_}
+use mathlib.Core.Path.{_≡_, refl, sym, _∙_}
 use mathlib.Core.Bool.{Bool, true, false, cond}
 use mathlib.Core.List.{List, [], _∷_, _++_}
-use mathlib.Core.Option.{Option, none, some}
+use mathlib.Core.Option.{some}
 use native.Mathlib.Nat.{le-of-suc-le-suc, not-suc-le-zero, add-zero, add-suc, suc-add}
 use native.Mathlib.Omega.{arith}
-use borrow.Author.Tests.{ltb-true, ltb-false, eqb-true, eqb-false, eq-eqb, ne-eqb}
+use borrow.Author.Tests.{ltb-true, ltb-false, eqb-true, eqb-false}
 use lib.Dec.{eqb, ltb}
-use lib.IntN.{ℤ, pos}
+use lib.IntN.{ℤ}
 use lib.ListN.{length, getD, set, length-set}
 use lib.Seq.{getD-set-same, getD-set-other}
 use Rattle.machine.specs.Cells.{Verdict, accepted, refused, is-tag, cell-rule, check-from, check-cells, SameLengths, Ascending, Searchable, Ordered, find-cell}
 use Rattle.machine.proofs.CellLaws.{by-tag, GoodCell, good-of, rule-of-good, check-on, check-stop, tags-differ, values-differ, too-many, check-all}
-use Rattle.machine.proofs.FindLaws.{Hit, find-hit}
+use Rattle.machine.proofs.FindLaws.{find-hit}
 
 -- cells that follow an end
 pub record Follow (last : ℕ) (xs ts vs : List ℕ) : Type 0 where

@@ -1,41 +1,23 @@
 -- The cells and the bytes. Accepted cells lie apart and below 2^64, so the eight bytes from a 64-bit cell's address up belong to that cell
 -- alone: reading them gives its value, writing them touches no other cell. `over` lays the 64-bit cells over a memory; a memory that agrees
 -- with the cells is left as it is by that, and the cells of the other tags agree already and lie apart.
-use Prim.Native.Nat.{ℕ, zero, suc, _+_, _*_, _-_, _/_, _%_, _^_, _<_, _≤_}
-use mathlib.Core.Path.{_≡_, refl, sym, _∙_, ap, ap₂, fun-ext}
+use Prim.Native.Nat.{ℕ, suc, _+_, _-_, _/_, _%_, _^_, _<_, _≤_}
+use mathlib.Core.Path.{_≡_, refl, sym, _∙_, ap, fun-ext}
 use mathlib.Core.Bool.{Bool, true, false, cond}
 use mathlib.Core.List.{List, [], _∷_}
-use mathlib.Core.Option.{Option, none, some}
-use native.Mathlib.Nat.{le-of-suc-le-suc, not-suc-le-zero, add-zero, add-suc, suc-add, div-lt-iff-lt-mul, pow-suc}
+use mathlib.Core.Option.{some}
+use native.Mathlib.Nat.{le-of-suc-le-suc, not-suc-le-zero}
 use native.Mathlib.Omega.{arith}
 use borrow.Author.Tests.{ltb-true, ltb-false, lt-ltb, le-ltb, eqb-true, eqb-false}
 use lib.Dec.{eqb, ltb}
 use lib.IntN.{ℤ, pos}
 use lib.ListN.{length, getD, set, length-set}
 use lib.Seq.{getD-set-other}
-use Rattle.machine.specs.Cells.{eqℤ, find-cell, Ordered}
+use Rattle.machine.specs.Cells.{find-cell, Ordered}
 use Rattle.machine.specs.Bytes.{ByteMemory, byte, wrap, read-bytes, distance, write-bytes, Agree, Outside64}
 use Rattle.machine.proofs.FindLaws.{eqℤ-true, At, hit, miss, at-of, hit-of, find-hit}
 use Rattle.machine.proofs.Accepting.{ordered-le, lies}
-
--- ---- eight bytes
-read-cong : (n a : ℕ) (m m′ : ByteMemory) → ((j : ℕ) → j < n → m ((a + j) % 2 ^ 64) ≡ m′ ((a + j) % 2 ^ 64)) → read-bytes n a m ≡ read-bytes n a m′
-unfolding read-bytes
-read-cong zero a m m′ f = refl
-read-cong (suc n) a m m′ f =
-    ap₂ (λ x y. x + 256 * y) (rw add-zero at (f 0 (omega arith)))
-    (read-cong n (suc a) m m′ (λ j h. rw (suc-add a j, ← (add-suc a j)) (f (suc j) (omega arith))))
-
--- n bytes that are those of a number spell it
-pub read-value : (n a v : ℕ) (m : ByteMemory) → v < 256 ^ n → ((j : ℕ) → j < n → m ((a + j) % 2 ^ 64) ≡ byte j v) → read-bytes n a m ≡ v
-unfolding read-bytes byte
-read-value zero a v m h f = omega arith
-read-value (suc n) a v m h f =
-    let low : m (a % 2 ^ 64) ≡ v % 256 = rw add-zero at (f 0 (omega arith)) in
-    let high : read-bytes n (suc a) m ≡ v / 256 =
-    read-value n (suc a) (v / 256) m (div-lt-iff-lt-mul {k = 256} (omega arith) .1 (rw pow-suc at h))
-    (λ j k. rw (suc-add a j, ← (add-suc a j)) (f (suc j) (omega arith))) in
-    rw (low, high) (omega arith)
+use Rattle.machine.proofs.SpellLaws.{spelled-cong, spelled-bytes}
 
 -- ---- the distance
 distance-flat : (a x : ℕ) → x < 2 ^ 64 → distance a x ≡ (x + (2 ^ 64 - a % 2 ^ 64)) % 2 ^ 64
@@ -100,12 +82,14 @@ write-same a v m h f = fun-ext λ x. go x (ltb (distance a x) 8) refl
     go x false p = refl
 
 pub write-read : (a v : ℕ) (m : ByteMemory) → a + 8 ≤ 2 ^ 64 → v < 2 ^ 64 → read-bytes 8 a (write-bytes a v m) ≡ v
+unfolding read-bytes
 write-read a v m h k =
-    read-value 8 a v (write-bytes a v m) k λ j l. let e : (a + j) % 2 ^ 64 ≡ a + j = omega arith in rw e (write-here a v j m h l)
+    spelled-bytes 8 v _ k λ j l. let e : (a + j) % 2 ^ 64 ≡ a + j = omega arith in rw e (write-here a v j m h l)
 
 write-other : (a b v : ℕ) (m : ByteMemory) → a + 8 ≤ b → b + 8 ≤ 2 ^ 64 → read-bytes 8 b (write-bytes a v m) ≡ read-bytes 8 b m
+unfolding read-bytes
 write-other a b v m h k =
-    read-cong 8 b (write-bytes a v m) m λ j l.
+    spelled-cong 8 _ _ λ j l.
     let e : (b + j) % 2 ^ 64 ≡ b + j = omega arith in rw e (write-there a v (b + j) m (omega arith) (λ r. omega arith))
 
 write-write : (a v w : ℕ) (m : ByteMemory) → write-bytes a v (write-bytes a w m) ≡ write-bytes a v m

@@ -2,20 +2,24 @@
 -- `exact` is a `subℕ`, and whether that is a word is a comparison of natural numbers.
 use Prim.Native.Nat.{ℕ, zero, suc, _+_, _*_, _-_, _^_, _≤_, _<_}
 use mathlib.Core.Path.{_≡_, refl, sym, _∙_, ap, ap₂, subst, subst⁻¹}
-use mathlib.Core.Bool.{Bool, true, false, cond}
+use mathlib.Core.Bool.{Bool, true, false}
 use mathlib.Core.Option.{Option, none, some}
 use native.Mathlib.Nat.{add-zero, mul-le-mul}
 use native.Mathlib.Omega.{arith}
 use borrow.Author.Tests.{ltb-true, ltb-false, lt-ltb, le-ltb}
 use lib.Dec.{ltb}
-use lib.IntN.{ℤ, pos, negsuc, subℕ, negℤ, natAbs, _+ℤ_, _*ℤ_}
+use lib.IntN.{ℤ, pos, negsuc, subℕ, negℤ, natAbs, _+ℤ_}
 use lib.Signed.{ltZ, mag}
 use mir.Syntax.{Width, w16, w64}
 use mir.Val.{SFits, toZ, ofZ}
 use mir.ValLaws.{toZ-ofZ}
 use mathlib.Core.List.{List}
+use Rattle.words.specs.Bits.{bit}
+use Rattle.words.specs.Sums.{Subtracted}
+use Rattle.words.proofs.BitLaws.{bit-lt}
+use Rattle.words.proofs.SumLaws.{sub-mod-lt, subtracted-number}
 use Rattle.machine.specs.Registers.{reg-at}
-use Rattle.machine.specs.Operands.{in-range, exact, eval-maddr, NamesRegisters}
+use Rattle.machine.specs.Operands.{in-range, exact, eval-maddr}
 use Rattle.machine.specs.declared.reg.Reg.{Reg}
 use Rattle.machine.specs.declared.Maddr.{Maddr}
 use Rattle.machine.specs.declared.Maddr.the-variants.{MConst, MReg, MIndex}
@@ -23,20 +27,20 @@ use Rattle.machine.specs.Wide.{number}
 use Rattle.machine.specs.declared.wide.Wide.{Wide}
 
 -- ---- whether a difference is a word
-pub inside : (n m w : ℕ) → n ≡ m + w → w < 2 ^ 64 → in-range (subℕ n m) ≡ some w
+inside : (n m w : ℕ) → n ≡ m + w → w < 2 ^ 64 → in-range (subℕ n m) ≡ some w
 unfolding in-range
 inside n m w e h = let d : n - m ≡ w = omega arith in rw (le-ltb n m (omega arith), d, lt-ltb w (2 ^ 64) h)
 
-pub under : (n m : ℕ) → n < m → in-range (subℕ n m) ≡ none
+under : (n m : ℕ) → n < m → in-range (subℕ n m) ≡ none
 unfolding in-range
 under n m h = rw (lt-ltb n m h)
 
-pub above : (n m : ℕ) → m + 2 ^ 64 ≤ n → in-range (subℕ n m) ≡ none
+above : (n m : ℕ) → m + 2 ^ 64 ≤ n → in-range (subℕ n m) ≡ none
 unfolding in-range
 above n m h = rw (le-ltb n m (omega arith), le-ltb (n - m) (2 ^ 64) (omega arith))
 
 -- ---- sums as differences
-pub sub-eq : (a b c d : ℕ) → a + d ≡ c + b → subℕ a b ≡ subℕ c d
+sub-eq : (a b c d : ℕ) → a + d ≡ c + b → subℕ a b ≡ subℕ c d
 sub-eq a b c d e = go (ltb a b) refl
   where
     go : (t : Bool) → ltb a b ≡ t → subℕ a b ≡ subℕ c d
@@ -47,7 +51,7 @@ sub-eq a b c d e = go (ltb a b) refl
         let h : b ≤ a = ltb-false a b p in
         rw (p, le-ltb c d (omega arith)) (ap pos (omega arith))
 
-pub pos-sub : (n : ℕ) → pos n ≡ subℕ n 0
+pos-sub : (n : ℕ) → pos n ≡ subℕ n 0
 pos-sub n = rw (le-ltb n 0 (omega arith)) (ap pos (omega arith))
 
 neg-sub : (a x : ℕ) → pos a +ℤ negℤ (pos x) ≡ subℕ a x
@@ -139,29 +143,15 @@ product-small n f i e h k =
 pub sum-small : (s n b : ℕ) → s ≡ n + b → n < 2 ^ 79 → b < 2 ^ 64 → s < 2 ^ 80
 sum-small s n b e h k = omega arith
 
--- ---- the address of an MReg
-module _ (base size : ℕ) (word : base < 2 ^ 64) (o : ℤ) (is : size ≡ natAbs o) where
-  pub down-in : ltZ o (pos 0) ≡ true → size ≤ base → some (base - size) ≡ in-range (pos base +ℤ o)
-  down-in p h = sym (ap in-range (base-minus base o p) ∙ inside base (natAbs o) (base - size) (omega arith) (omega arith))
-
-  pub down-out : ltZ o (pos 0) ≡ true → base < size → none ≡ in-range (pos base +ℤ o)
-  down-out p h = sym (ap in-range (base-minus base o p) ∙ under base (natAbs o) (omega arith))
-
-  pub up-in : ltZ o (pos 0) ≡ false → size ≤ 18446744073709551615 - base → some (base + size) ≡ in-range (pos base +ℤ o)
-  up-in p h = sym (ap in-range (base-plus base o p) ∙ inside (base + natAbs o) 0 (base + size) (omega arith) (omega arith))
-
-  pub up-out : ltZ o (pos 0) ≡ false → 18446744073709551615 - base < size → none ≡ in-range (pos base +ℤ o)
-  up-out p h = sym (ap in-range (base-plus base o p) ∙ above (base + natAbs o) 0 (omega arith))
-
 -- ---- numbers of two words
 high-small : (w : Wide) → number w < 2 ^ 80 → w .high < 2 ^ 16
 high-small w h = omega arith
 
-pub carry-fits : (w : Wide) → number w < 2 ^ 80 → w .high + 1 < 2 ^ 64
-carry-fits w h = go (w .high) (high-small w h)
+pub carry-fits : (w : Wide) (carry : Bool) → number w < 2 ^ 80 → w .high + bit carry < 2 ^ 64
+carry-fits w carry h = go (w .high) (bit carry) (high-small w h) (bit-lt carry)
   where
-    go : (n : ℕ) → n < 2 ^ 16 → n + 1 < 2 ^ 64
-    go n h = omega arith
+    go : (n b : ℕ) → n < 2 ^ 16 → b < 2 → n + b < 2 ^ 64
+    go n b h k = omega arith
 
 pub one-word : (w : Wide) → w .high ≡ 0 → w .low ≡ number w
 one-word w h = omega arith
@@ -169,30 +159,27 @@ one-word w h = omega arith
 pub two-words : (x : ℕ) (w : Wide) → x < 2 ^ 64 → (w .high ≡ 0 → ⊥) → x < number w
 two-words x w h n = omega arith
 
--- their difference
-module _ (u d : Wide) (small : u .low < 2 ^ 64) (little : d .low < 2 ^ 64) where
-  pub level : d .low ≤ u .low → u .high ≡ d .high → some (u .low - d .low) ≡ in-range (subℕ (number u) (number d))
-  level h e = sym (inside (number u) (number d) (u .low - d .low) (omega arith) (omega arith))
+-- their difference: the difference of the low words, where the high ones are equal with its borrow taken
+module _ (u d : Wide) (word : ℕ) (borrow : Bool) (low : Subtracted 64 (u .low) (d .low) word borrow) (small : u .low < 2 ^ 64) (little : d .low < 2 ^ 64) where
+  spelled : word + d .low ≡ u .low + bit borrow * 2 ^ 64
+  spelled = subtracted-number 64 (u .low) (d .low) word borrow low small little
 
-  pub borrowed : u .low < d .low → d .high < u .high → u .high - d .high ≡ 1 → some (18446744073709551615 - (d .low - u .low) + 1) ≡ in-range (subℕ (number u) (number d))
-  borrowed h k e = sym (inside (number u) (number d) (18446744073709551615 - (d .low - u .low) + 1) (omega arith) (omega arith))
+  word-small : word < 2 ^ 64
+  word-small = rw (low .word-is) (sub-mod-lt 64 (u .low) (d .low))
 
-  pub unlike : d .low ≤ u .low → (u .high ≡ d .high → ⊥) → none ≡ in-range (subℕ (number u) (number d))
-  unlike h n = go (ltb (u .high) (d .high)) refl
+  pub level : u .high ≡ d .high + bit borrow → some word ≡ in-range (subℕ (number u) (number d))
+  level e = sym (inside (number u) (number d) word (omega (arith, spelled)) word-small)
+
+  pub apart : (u .high ≡ d .high + bit borrow → ⊥) → none ≡ in-range (subℕ (number u) (number d))
+  apart n = go (ltb (u .high) (d .high + bit borrow)) refl
     where
-      go : (t : Bool) → ltb (u .high) (d .high) ≡ t → none ≡ in-range (subℕ (number u) (number d))
-      go true p = sym (under (number u) (number d) (omega (arith, ltb-true (u .high) (d .high) p)))
-      go false p = sym (above (number u) (number d) (omega (arith, ltb-false (u .high) (d .high) p)))
+      go : (t : Bool) → ltb (u .high) (d .high + bit borrow) ≡ t → none ≡ in-range (subℕ (number u) (number d))
+      go true p = sym (under (number u) (number d) (omega (arith, spelled, word-small, ltb-true (u .high) (d .high + bit borrow) p)))
+      go false p = sym (above (number u) (number d) (omega (arith, spelled, ltb-false (u .high) (d .high + bit borrow) p)))
 
-  pub far : u .low < d .low → d .high < u .high → (u .high - d .high ≡ 1 → ⊥) → none ≡ in-range (subℕ (number u) (number d))
-  far h k n = sym (above (number u) (number d) (omega arith))
-
-  pub deep : u .low < d .low → u .high ≤ d .high → none ≡ in-range (subℕ (number u) (number d))
-  deep h k = sym (under (number u) (number d) (omega arith))
-
--- the address of an MIndex, from the difference that the code makes
-pub gathered : (word : Option ℕ) (base index : ℕ) (s o : ℤ) (u d : Wide) (m n : ℕ) → word ≡ in-range (subℕ (number u) (number d)) → number u ≡ m → number d ≡ n → exact base s index o ≡ subℕ m n → word ≡ in-range (exact base s index o)
-gathered word base index s o u d m n e p q x = e ∙ ap₂ (λ (a b : ℕ). in-range (subℕ a b)) p q ∙ ap in-range (sym x)
+-- an exact address, from the difference that the code makes
+pub gathered : (word : Option ℕ) (z : ℤ) (u d : Wide) (m n : ℕ) → word ≡ in-range (subℕ (number u) (number d)) → number u ≡ m → number d ≡ n → z ≡ subℕ m n → word ≡ in-range z
+gathered word z u d m n e p q x = e ∙ ap₂ (λ (a b : ℕ). in-range (subℕ a b)) p q ∙ ap in-range (sym x)
 
 -- ---- the three memory operands
 module _ (m : Maddr) (regs : List ℕ) (word : Option ℕ) where

@@ -1,15 +1,15 @@
 -- Finding a cell. `find-cell` takes the first cell at an address; addresses that ascend are all different, so it is the only one.
-use Prim.Native.Nat.{ℕ, zero, suc, _+_, _-_, _/_, _^_, _≤_, _<_}
-use mathlib.Core.Path.{_≡_, refl, sym, _∙_, ap, subst, subst⁻¹}
-use mathlib.Core.Bool.{Bool, true, false, not, _&&_, _||_, cond}
+use Prim.Native.Nat.{ℕ, zero, suc, _+_, _-_, _/_, _≤_, _<_}
+use mathlib.Core.Path.{_≡_, refl, sym, _∙_, ap, subst}
+use mathlib.Core.Bool.{Bool, true, false, cond}
 use mathlib.Core.List.{List, [], _∷_}
 use mathlib.Core.Option.{Option, none, some}
 use native.Mathlib.Nat.{le-of-suc-le-suc, not-suc-le-zero}
 use native.Mathlib.Omega.{arith}
-use borrow.Author.Tests.{ltb-true, ltb-false, eqb-true, eqb-false, eq-eqb, ne-eqb}
+use borrow.Author.Tests.{ltb-true, ltb-false, eqb-true, eqb-false, eq-eqb}
 use lib.Dec.{eqb, ltb}
 use lib.IntN.{ℤ, pos, negsuc}
-use lib.ListN.{length, getD, set, length-set}
+use lib.ListN.{length, getD}
 use Rattle.machine.specs.Cells.{eqℤ, later, find-cell, Ascending, Searchable}
 
 -- ---- one probe of the search
@@ -36,6 +36,10 @@ module _ (xs : List ℕ) (up : Ascending xs) (m z : ℕ) (h : m < length xs) whe
       go : (t : Bool) → ltb k m ≡ t → k < m
       go true p = ltb-true k m p
       go false p = absurd (at-least (ltb-false k m p))
+
+-- an address stands at one index
+pub only-there : (xs : List ℕ) → Ascending xs → (z m : ℕ) → m < length xs → getD xs m 0 ≡ z → (k : ℕ) → k < length xs → getD xs k 0 ≡ z → k ≡ m
+only-there xs up z m h e k l q = omega (arith, upper xs up m z h (omega arith) k q, upper xs up k z l (omega arith) m e)
 
 -- the part that is left: an index with the address z lies in it
 pub record Part (xs : List ℕ) (z low high : ℕ) : Type 0 where

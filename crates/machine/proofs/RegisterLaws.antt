@@ -1,15 +1,13 @@
 -- Registers and xmm words after a store: the four words of an xmm are four stores at different indexes, so each reads back as what was
 -- stored last there.
-use Prim.Native.Nat.{ℕ, zero, suc, _+_, _*_, _<_}
-use mathlib.Core.Path.{_≡_, refl, sym, _∙_, ap, subst}
+use Prim.Native.Nat.{ℕ, zero, suc, _+_, _*_, _^_, _<_}
+use mathlib.Core.Path.{_≡_, _∙_}
 use mathlib.Core.List.{List, [], _∷_}
-use mathlib.Core.Bool.{Bool, true, false}
 use native.Mathlib.Omega.{arith}
-use borrow.Author.Tests.{eqb-true, eqb-false}
-use lib.Dec.{eqb}
 use lib.ListN.{length, getD, set, length-set}
-use lib.Seq.{getD-set-same, getD-set-other, set-out}
-use Rattle.words.specs.Words.{Four, mkfour}
+use lib.Seq.{getD-set-same, getD-set-other}
+use Rattle.words.specs.Words.{Four}
+use Rattle.words.proofs.LaneLaws.{Quad}
 use Rattle.machine.specs.Registers.{xmm-at, set-xmm, Words}
 
 -- ---- four words from k on
@@ -83,22 +81,15 @@ all-set P (w ∷ ws) (suc i) v h f (suc j) = all-set P ws i v h (λ k. f (suc k)
 pub words-set : (n bound : ℕ) (ws : List ℕ) (i v : ℕ) → v < bound → Words n bound ws → Words n bound (set ws i v)
 words-set n bound ws i v h w = record { many = rw length-set (w .many); small = all-set (λ (x : ℕ). x < bound) ws i v h (w .small) }
 
--- the four words of a quad, below a bound
-pub record QuadBelow (bound : ℕ) (q : Four ℕ) : Type 0 where
-  pub lo0 : q .lo0 < bound
-  pub lo1 : q .lo1 < bound
-  pub hi2 : q .hi2 < bound
-  pub hi3 : q .hi3 < bound
-
-pub words-set-xmm : (n bound : ℕ) (ws : List ℕ) (i : ℕ) (q : Four ℕ) → QuadBelow bound q → Words n bound ws → Words n bound (set-xmm ws i q)
+pub words-set-xmm : (n : ℕ) (ws : List ℕ) (i : ℕ) (q : Four ℕ) → Quad q → Words n (2 ^ 32) ws → Words n (2 ^ 32) (set-xmm ws i q)
 unfolding set-xmm
-words-set-xmm n bound ws i q b w =
-    words-set n bound _ (4 * i + 3) (q .hi3) (b .hi3)
-    (words-set n bound _ (4 * i + 2) (q .hi2) (b .hi2)
-    (words-set n bound _ (4 * i + 1) (q .lo1) (b .lo1) (words-set n bound ws (4 * i) (q .lo0) (b .lo0) w)))
+words-set-xmm n ws i q h w =
+    words-set n (2 ^ 32) _ (4 * i + 3) (q .hi3) (h .hi3-lt)
+    (words-set n (2 ^ 32) _ (4 * i + 2) (q .hi2) (h .hi2-lt)
+    (words-set n (2 ^ 32) _ (4 * i + 1) (q .lo1) (h .lo1-lt) (words-set n (2 ^ 32) ws (4 * i) (q .lo0) (h .lo0-lt) w)))
 
 -- an xmm of words is a quad of words
-pub xmm-below : (n bound : ℕ) (ws : List ℕ) (i : ℕ) → Words n bound ws → QuadBelow bound (xmm-at ws i)
+pub xmm-below : (n : ℕ) (ws : List ℕ) (i : ℕ) → Words n (2 ^ 32) ws → Quad (xmm-at ws i)
 unfolding xmm-at
-xmm-below n bound ws i w =
-    record { lo0 = w .small (4 * i); lo1 = w .small (4 * i + 1); hi2 = w .small (4 * i + 2); hi3 = w .small (4 * i + 3) }
+xmm-below n ws i w =
+    record { lo0-lt = w .small (4 * i); lo1-lt = w .small (4 * i + 1); hi2-lt = w .small (4 * i + 2); hi3-lt = w .small (4 * i + 3) }

@@ -20,10 +20,14 @@ unfoldable pub wrap : ℤ → ℕ
 wrap (pos n) = n % 2 ^ 64
 wrap (negsuc n) = 2 ^ 64 - 1 - n % 2 ^ 64
 
--- the number that n bytes from a up spell, low first, each address modulo 2^64
+-- the number that n bytes spell, low first: byte j is `f j`
+unfoldable pub spelled : ℕ → (ℕ → ℕ) → ℕ
+spelled zero f = 0
+spelled (suc n) f = f 0 + 256 * spelled n (λ j. f (suc j))
+
+-- the number that n bytes from a up spell, each address modulo 2^64
 unfoldable pub read-bytes : ℕ → ℕ → ByteMemory → ℕ
-read-bytes zero a m = 0
-read-bytes (suc n) a m = m (a % 2 ^ 64) + 256 * read-bytes n (suc a) m
+read-bytes n a m = spelled n (λ j. m ((a + j) % 2 ^ 64))
 
 -- how far the place x lies behind a, counted on over the end of the memory; 2^64 where x is no place of it
 unfoldable pub distance : ℕ → ℕ → ℕ

@@ -8,7 +8,6 @@ use crate::wide::of_word;
 use crate::wide::plus;
 use crate::wide::times;
 ghost use mathlib.Core.Path.{_≡_};
-ghost use Prim.Native.Nat.{_≤_};
 ghost use lib.IntN.{pos, natAbs, _+ℤ_};
 ghost use Rattle.machine.specs.Operands.{word-of, in-range, exact, eval-maddr, NamesRegisters};
 
@@ -29,15 +28,9 @@ pub fn register_address(base: u64, offset: i64) -> Address
 {
     let size = magnitude(offset);
     if offset < 0 {
-        if size <= base {
-            Address::Inside(base - size)
-        } else {
-            Address::Outside
-        }
-    } else if size <= 18446744073709551615 - base {
-        Address::Inside(base + size)
+        difference(of_word(base), of_word(size))
     } else {
-        Address::Outside
+        difference(plus(of_word(base), size), of_word(0))
     }
 }
 

@@ -1,16 +1,21 @@
 // The lent cells: checking them, and finding the 64-bit cell at an address.
 
+use crate::Address;
 use crate::Checked;
 use crate::Found;
+use crate::Maddr;
+use crate::addressing::operand_address;
 use crate::wide::Wide;
 use crate::wide::is_below;
 use crate::wide::of_word;
 use crate::wide::plus;
+use std::num::wrapping_sub_u64;
 ghost use mathlib.Core.Path.{_≡_};
-ghost use mathlib.Core.Bool.{true, cond};
+ghost use mathlib.Core.Bool.{cond};
 ghost use Prim.Native.Nat.{ℕ, _+_, _-_, _/_, _^_, _<_};
 ghost use lib.IntN.{pos};
 ghost use lib.ListN.{length, getD};
+ghost use Rattle.machine.specs.Operands.{NamesRegisters, eval-maddr};
 ghost use Rattle.machine.specs.Wide.{number};
 ghost use Rattle.machine.specs.Cells.{verdict, check-cells, check-from, cell-rule, is-tag, SameLengths, Ascending, Searchable, index-of, find-cell};
 
@@ -111,7 +116,24 @@ fn only_place(addresses: &[u64], address: u64) -> usize
     low
 }
 
-// The index of the 64-bit cell at an address. Of 1,024 cells it looks at 11 addresses and at most one tag.
+// The one index where an address can stand. Cells are mostly 64-bit words in a row, so that place is looked at first.
+fn place_of(addresses: &[u64], address: u64) -> usize
+    requires { ⌜ (0 < length (now addresses)) × Ascending (now addresses) ⌝ }
+    ensures { λ r. ⌜ r < length (now (addresses .entry)) ⌝ }
+    ensures { λ r. ⌜ ((k : ℕ) → k < length (now (addresses .entry)) → getD (now (addresses .entry)) k 0 ≡ address → k ≡ r) ⌝ }
+{
+    let guess = wrapping_sub_u64(address, addresses[0]) / 8;
+    if guess < addresses.len() as u64 {
+        let at = guess as usize;
+        if addresses[at] == address {
+            return at;
+        }
+    }
+    only_place(addresses, address)
+}
+
+// The index of the 64-bit cell at an address. Of 1,024 cells it looks at 13 addresses at most, at 3 where the cells are 64-bit words
+// in a row, and at most at one tag.
 pub fn find_cell(addresses: &[u64], tags: &[u8], address: u64) -> Found
     requires { ⌜ Searchable (now addresses) (now tags) ⌝ }
     ensures { λ r. ⌜ index-of r ≡ find-cell (now (addresses .entry)) (now (tags .entry)) (pos address) ⌝ }
@@ -119,7 +141,7 @@ pub fn find_cell(addresses: &[u64], tags: &[u8], address: u64) -> Found
     if addresses.len() == 0 {
         return Found::Nothing;
     }
-    let at = only_place(addresses, address);
+    let at = place_of(addresses, address);
     if addresses[at] != address {
         return Found::Nothing;
     }
@@ -127,5 +149,17 @@ pub fn find_cell(addresses: &[u64], tags: &[u8], address: u64) -> Found
         Found::At(at)
     } else {
         Found::Nothing
+    }
+}
+
+// The index of the 64-bit cell of a memory operand.
+pub fn cell_of(m: Maddr, regs: &[u64; 16], addresses: &[u64], tags: &[u8]) -> Found
+    requires { ⌜ NamesRegisters m ⌝ }
+    requires { ⌜ Searchable (now addresses) (now tags) ⌝ }
+    ensures { λ r. ⌜ index-of r ≡ find-cell (now (addresses .entry)) (now (tags .entry)) (eval-maddr m (now (regs .entry))) ⌝ }
+{
+    match operand_address(m, regs) {
+        Address::Inside(word) => find_cell(addresses, tags, word),
+        Address::Outside => Found::Nothing,
     }
 }

@@ -5,15 +5,19 @@ mod cells;
 mod destination;
 mod reg;
 mod wide;
+mod xmm;
 
 pub use addressing::exact_address;
 pub use addressing::operand_address;
 pub use addressing::register_address;
+pub use cells::cell_of;
 pub use cells::check_cells;
 pub use cells::find_cell;
 pub use destination::valid_dst;
 pub use destination::writable_register;
 pub use reg::Reg;
+pub use xmm::set_xmm;
+pub use xmm::xmm_at;
 
 // The state by value. Word j of xmm i stands at 4 * i + j.
 pub struct State {

@@ -1,6 +1,9 @@
 // Numbers of two words. Exact addresses and the ends of cells do not fit one.
 
 use crate::Address;
+use words::add64;
+use words::mul_wide;
+use words::sub64;
 ghost use mathlib.Core.Path.{_≡_};
 ghost use Prim.Native.Nat.{_+_, _*_, _^_, _<_, _≤_};
 ghost use lib.Dec.{ltb};
@@ -24,17 +27,10 @@ pub fn plus(w: Wide, x: u64) -> Wide
     requires { ⌜ number w < 2 ^ 80 ⌝ }
     ensures { λ r. ⌜ number r ≡ number w + x ⌝ }
 {
-    let room = 18446744073709551615 - w.low;
-    if x <= room {
-        Wide {
-            high: w.high,
-            low: w.low + x,
-        }
-    } else {
-        Wide {
-            high: w.high + 1,
-            low: x - room - 1,
-        }
+    let sum = add64(w.low, x, false);
+    Wide {
+        high: w.high + sum.carry as u64,
+        low: sum.word,
     }
 }
 
@@ -44,22 +40,12 @@ pub fn times(factor: u64, index: u64) -> Wide
     ensures { λ r. ⌜ number r ≡ factor * index ⌝ }
 {
     if index < 562949953421312 {
-        of_word(factor * index)
-    } else {
-        times_halves(factor, index)
+        return of_word(factor * index);
     }
-}
-
-// The product from the 32-bit halves of the index.
-fn times_halves(factor: u64, index: u64) -> Wide
-    requires { ⌜ factor ≤ 2 ^ 15 ⌝ }
-    ensures { λ r. ⌜ number r ≡ factor * index ⌝ }
-{
-    let low = factor * (index % 4294967296);
-    let middle = factor * (index / 4294967296) + low / 4294967296;
+    let product = mul_wide(factor, index);
     Wide {
-        high: middle / 4294967296,
-        low: middle % 4294967296 * 4294967296 + low % 4294967296,
+        high: product.high,
+        low: product.low,
     }
 }
 
@@ -70,26 +56,15 @@ pub fn is_below(x: u64, w: Wide) -> bool
     if w.high == 0 { x < w.low } else { true }
 }
 
-// The difference of two numbers, where it is a word: their high words are then equal, or one apart with a borrow.
+// The difference of two numbers, where it is a word: the high words are then equal, with the borrow of the low ones taken.
 pub fn difference(up: Wide, down: Wide) -> Address
+    requires { ⌜ number down < 2 ^ 80 ⌝ }
     ensures { λ r. ⌜ word-of r ≡ in-range (subℕ (number up) (number down)) ⌝ }
 {
-    let high = up.high;
-    let low = up.low;
-    let less_high = down.high;
-    let less_low = down.low;
-    if less_low <= low {
-        if high == less_high {
-            Address::Inside(low - less_low)
-        } else {
-            Address::Outside
-        }
-    } else if less_high < high {
-        if high - less_high == 1 {
-            Address::Inside(18446744073709551615 - (less_low - low) + 1)
-        } else {
-            Address::Outside
-        }
+    let low = sub64(up.low, down.low);
+    let high = down.high + low.carry as u64;
+    if up.high == high {
+        Address::Inside(low.word)
     } else {
         Address::Outside
     }

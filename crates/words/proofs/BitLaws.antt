@@ -30,7 +30,7 @@ low-bit b v = omega (arith, bit-lt b)
 rest : (b : Bool) (v : ℕ) → (bit b + 2 * v) / 2 ≡ v
 rest b v = omega (arith, bit-lt b)
 
-half-lt : {x : ℕ} (n : ℕ) → x < 2 ^ suc n → x / 2 < 2 ^ n
+pub half-lt : {x : ℕ} (n : ℕ) → x < 2 ^ suc n → x / 2 < 2 ^ n
 half-lt n h = div-lt-iff-lt-mul (zero-lt-suc 1) .1 (rw pow-suc at h)
 
 -- bit 0, and bit j + 1 as bit j of the half

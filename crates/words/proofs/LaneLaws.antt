@@ -1,12 +1,12 @@
 -- Each lane definition keeps words words: a sum, a shift left and an exclusive or are cut to 32 bits, and the others move words, shrink them or write constants.
 use Prim.Native.Nat.{ℕ, zero, suc, _/_, _%_, _^_, _<_}
 use mathlib.Core.Bool.{Bool, true, false, cond}
-use mathlib.Core.Path.{_≡_, ap, _∙_}
+use mathlib.Core.Path.{_≡_, refl, ap, _∙_}
 use native.Mathlib.Nat.{mod-lt, mod-mod}
 use native.Mathlib.Omega.{arith}
 use lib.Dec.{eqb}
 use lib.Pow.{pow-pos}
-use Rattle.words.specs.Words.{Four, mkfour, four-map, nat-to-four, two-select, two-insert, four-insert}
+use Rattle.words.specs.Words.{Four, mkfour, four-map, nat-to-four, four-to-two-two, two-to-nat, two-select, two-insert, four-insert}
 use Rattle.words.specs.Types.{select-word, extract-nat64, insert-nat32, insert-nat64, byte-to-twobits, quad32-xor, add-lanes, equal-lanes, shl-lanes, shr-lanes, shuffle-lanes, shift-quad}
 use Rattle.words.proofs.BitLaws.{ixor-lt}
 use Rattle.words.proofs.ShiftLaws.{ishl-lt, ishr-lt}
@@ -21,6 +21,11 @@ pub record Quad (q : Four ℕ) : Type 0 where
 
 pub select-word-lt : (q : Four ℕ) (k : ℕ) → Quad q → select-word q k < 2 ^ 32
 select-word-lt q k h = four-select-all (λ (w : ℕ). w < 2 ^ 32) q k (h .lo0-lt) (h .lo1-lt) (h .hi2-lt) (h .hi3-lt)
+
+-- Pextrq's word is the number of the selected pair
+pub extract-nat64-is : (q : Four ℕ) (i : ℕ) → extract-nat64 q i ≡ two-to-nat 32 (two-select (four-to-two-two q) i)
+unfolding extract-nat64
+extract-nat64-is q i = refl
 
 pub extract-nat64-lt : (q : Four ℕ) (i : ℕ) → Quad q → extract-nat64 q i < 2 ^ 64
 unfolding extract-nat64 two-select

@@ -4,7 +4,7 @@ use mathlib.Core.Path.{_≡_, refl, sym, ap, ap₂, _∙_}
 use native.Mathlib.Nat.{add-assoc, add-comm, add-left-comm, mul-assoc, mul-comm, mul-left-comm, mul-add, add-mul, mod-lt, div-add-mod', div-lt-iff-lt-mul, mul-le-mul-left, le-of-lt, lt-of-le-of-lt, add-le-add, le-add-right, le-refl, mul-lt-mul-of-pos-right}
 use lib.Arith.{digits-lt, digits-div, digits-mod}
 use lib.Pow.{pow-pos}
-use Rattle.words.specs.Sums.{mul-div, mul-mod}
+use Rattle.words.specs.Sums.{mul-div, mul-mod, Product}
 
 pub mul-mod-lt : (n a b : ℕ) → mul-mod n a b < 2 ^ n
 unfolding mul-mod
@@ -14,6 +14,11 @@ pub mul-div-lt : (n : ℕ) {a b : ℕ} → a < 2 ^ n → b < 2 ^ n → mul-div n
 unfolding mul-div
 mul-div-lt n {a} {b} ha hb =
     div-lt-iff-lt-mul (pow-pos n) .1 (lt-of-le-of-lt (mul-le-mul-left a (le-of-lt hb)) (mul-lt-mul-of-pos-right ha (pow-pos n)))
+
+-- the number that the two words of a product spell
+pub product-number : (n a b low high : ℕ) → Product n a b low high → high * 2 ^ n + low ≡ a * b
+unfolding mul-mod mul-div
+product-number n a b low high p = rw (p .low-is, p .high-is) (div-add-mod' (a * b) (2 ^ n))
 
 -- ---- the columns
 

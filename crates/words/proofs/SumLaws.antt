@@ -1,14 +1,14 @@
 -- A sum of two n-bit words and a carry is below 2 ^ n twice over, so it wraps at most once, and then it lies below each of its terms.
-use Prim.Native.Nat.{ℕ, _+_, _-_, _%_, _^_, _<_, _≤_}
+use Prim.Native.Nat.{ℕ, _+_, _-_, _*_, _%_, _^_, _<_, _≤_}
 use mathlib.Core.Path.{_≡_, refl, sym, ap, _∙_}
-use mathlib.Core.Bool.{Bool}
+use mathlib.Core.Bool.{Bool, true, false}
 use mathlib.Core.Logic.{_⊎_, inl, inr, ⊎-elim}
 use native.Mathlib.Nat.{mod-lt, mod-eq-of-lt, add-mod-right, mod-add-mod, mod-eq-sub-mod}
 use native.Mathlib.Decide.{decLt}
 use native.Mathlib.Omega.{arith}
 use lib.Dec.{leb, ltb}
 use lib.Pow.{pow-pos}
-use borrow.Author.Tests.{lt-ltb, le-ltb, le-leb, lt-leb}
+use borrow.Author.Tests.{lt-ltb, le-ltb, le-leb, lt-leb, ltb-true, ltb-false}
 use Rattle.words.specs.Bits.{bit}
 use Rattle.words.proofs.BitLaws.{bit-lt}
 use Rattle.words.specs.Sums.{sum-mod, sum-carry, sub-mod, Added, Subtracted}
@@ -82,3 +82,30 @@ module _ (n a b word : ℕ) (hb : b < 2 ^ n) (hw : word < 2 ^ n) (back : (word +
 
   pub subtracted : Subtracted n a b word (ltb a b)
   subtracted = record { word-is = sub-word; borrow-is = refl }
+
+-- ---- the number that a word and what left it spell
+
+pub added-number : (n s word : ℕ) (carry : Bool) → Added n s word carry → s < 2 ^ n + 2 ^ n → word + bit carry * 2 ^ n ≡ s
+unfolding sum-mod sum-carry
+added-number n s word carry a h =
+    rw (a .word-is, a .carry-is)
+    (⊎-elim
+    (λ v. rw (lt-leb (2 ^ n) s (v .0)) (omega (arith, v .1)))
+    (λ v. rw (le-leb (2 ^ n) s (v .0)) (omega (arith, v .1)))
+    (once (2 ^ n) s h (decLt s (2 ^ n))))
+
+pub subtracted-number : (n a b word : ℕ) (borrow : Bool) → Subtracted n a b word borrow → a < 2 ^ n → b < 2 ^ n → word + b ≡ a + bit borrow * 2 ^ n
+unfolding sub-mod
+subtracted-number n a b word borrow s ha hb = rw (s .word-is, s .borrow-is) (go (ltb a b) refl)
+  where
+    split : ((a + (2 ^ n - b) < 2 ^ n) × ((a + (2 ^ n - b)) % 2 ^ n ≡ a + (2 ^ n - b)))
+        ⊎ ((2 ^ n ≤ a + (2 ^ n - b)) × ((a + (2 ^ n - b)) % 2 ^ n + 2 ^ n ≡ a + (2 ^ n - b)))
+    split = once (2 ^ n) (a + (2 ^ n - b)) (omega arith) (decLt (a + (2 ^ n - b)) (2 ^ n))
+
+    go : (c : Bool) → ltb a b ≡ c → (a + (2 ^ n - b)) % 2 ^ n + b ≡ a + bit c * 2 ^ n
+    go true p =
+        let l : a < b = ltb-true a b p in
+        ⊎-elim (λ v. omega (arith, v .1)) (λ v. absurd (omega (arith, v .0))) split
+    go false p =
+        let l : b ≤ a = ltb-false a b p in
+        ⊎-elim (λ v. absurd (omega (arith, v .0))) (λ v. omega (arith, v .1)) split

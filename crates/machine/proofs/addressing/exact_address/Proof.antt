@@ -12,6 +12,23 @@ use Rattle.machine.proofs.Exact.{sign, size-of, widened, scale-of, fact
 use Rattle.machine.proofs.addressing.exact_address.Statement.{statement}
 use Rattle.machine.proofs.addressing.exact_address.Tie as tie
 
+-- the product is far below 2^80, and it and the size are those of the exact scale and offset
+small : (c : tie.After-times) → number (c .times .result) < 2 ^ 79
+small c =
+    let s = c .before .before in
+    let f = c .before .magnitude in
+    product-small (number (c .times .result)) (f .result) (s .args .index) (c .times .ensures)
+    (factor-small (s .args .scale) (s .fits .scale) (f .result) (scale-of (s .args .scale) (s .fits .scale) _ (f .ensures))) (s .fits .index .fits)
+
+product : (c : tie.After-times) → number (c .times .result) ≡ natAbs (c .before .before .args .scale) * c .before .before .args .index
+product c =
+    let s = c .before .before in
+    let f : c .before .magnitude .result ≡ natAbs (s .args .scale) = scale-of (s .args .scale) (s .fits .scale) _ (c .before .magnitude .ensures) in
+    cc (c .times .ensures)
+
+size : (c : tie.After-magnitude2) → c .magnitude2 .result ≡ natAbs (c .before .before .before .args .offset)
+size c = let s = c .before .before .before in size-of w64 (s .args .offset) (s .fits .offset) _ (c .magnitude2 .ensures)
+
 cast-magnitude : tie.Need-cast-magnitude
 cast-magnitude c = widened (c .args .scale) (c .fits .scale)
 
@@ -30,18 +47,12 @@ of-word-requires : tie.Need-of-word-requires
 of-word-requires c κs = search needs
 
 plus-requires : tie.Need-plus-requires
-plus-requires c κs =
-    let s = c .before .before .before .before .before .before in
-    let size = c .before .before .before .before .before .magnitude in
-    let product = c .before .before .before .before .times in
-    let f = scale-of (s .args .scale) (s .fits .scale) _ (size .ensures) in
-    let p : number (product .result) < 2 ^ 79 =
-    product-small (number (product .result)) (size .result) (s .args .index) (product .ensures)
-    (factor-small (s .args .scale) (s .fits .scale) (size .result) f) (s .fits .index .fits) in
-    omega arith
+plus-requires c κs = let p = small (c .before .before .before .before) in omega arith
 
 difference-requires : tie.Need-difference-requires
-difference-requires c κs = search needs
+difference-requires c κs =
+    let k = c .before .before .before .before in
+    sum-small (number (c .plus .result)) (number (k .before .times .result)) (k .magnitude2 .result) (c .plus .ensures) (small (k .before)) (search needs)
 
 of-word-requires-2 : tie.Need-of-word-requires-2
 of-word-requires-2 c κs = search needs
@@ -50,18 +61,10 @@ plus-requires-2 : tie.Need-plus-requires-2
 plus-requires-2 c κs = search needs
 
 difference-requires-2 : tie.Need-difference-requires-2
-difference-requires-2 c κs = search needs
+difference-requires-2 c κs = let p = small (c .before .before .before .before .before) in omega arith
 
 plus-requires-3 : tie.Need-plus-requires-3
-plus-requires-3 c κs =
-    let s = c .before .before .before .before in
-    let size = c .before .before .before .magnitude in
-    let product = c .before .before .times in
-    let f = scale-of (s .args .scale) (s .fits .scale) _ (size .ensures) in
-    let p : number (product .result) < 2 ^ 79 =
-    product-small (number (product .result)) (size .result) (s .args .index) (product .ensures)
-    (factor-small (s .args .scale) (s .fits .scale) (size .result) f) (s .fits .index .fits) in
-    omega arith
+plus-requires-3 c κs = let p = small (c .before .before) in omega arith
 
 of-word-requires-3 : tie.Need-of-word-requires-3
 of-word-requires-3 c κs = search needs
@@ -71,14 +74,9 @@ difference-requires-3 c κs = search needs
 
 plus-requires-4 : tie.Need-plus-requires-4
 plus-requires-4 c κs =
-    let s = c .before .before .before .before .before .before in
-    let size = c .before .before .before .before .before .magnitude in
-    let product = c .before .before .before .before .times in
-    let f = scale-of (s .args .scale) (s .fits .scale) _ (size .ensures) in
-    let p : number (product .result) < 2 ^ 79 =
-    product-small (number (product .result)) (size .result) (s .args .index) (product .ensures)
-    (factor-small (s .args .scale) (s .fits .scale) (size .result) f) (s .fits .index .fits) in
-    sum-small (number (c .before .plus3 .result)) (number (product .result)) (s .args .base) (c .before .plus3 .ensures) p (s .fits .base .fits)
+    let k = c .before .before .before .before in
+    let s = k .before .before in
+    sum-small (number (c .before .plus3 .result)) (number (k .times .result)) (s .args .base) (c .before .plus3 .ensures) (small k) (s .fits .base .fits)
 
 of-word-requires-4 : tie.Need-of-word-requires-4
 of-word-requires-4 c κs = search needs
@@ -88,49 +86,49 @@ difference-requires-4 c κs = search needs
 
 returns : tie.Need-returns
 returns c =
-    let s = c .before .before .before .before .before .before .before .before in
-    let offset = c .before .before .before .before .before .magnitude2 in
-    let size = c .before .before .before .before .before .before .before .magnitude in
+    let k = c .before .before .before .before .before in
+    let s = k .before .before .before in
     let a = s .args in
-    let f : size .result ≡ natAbs (a .scale) = scale-of (a .scale) (s .fits .scale) _ (size .ensures) in
-    let o : offset .result ≡ natAbs (a .offset) = size-of w64 (a .offset) (s .fits .offset) _ (offset .ensures) in
-    gathered _ (a .base) (a .index) (a .scale) (a .offset) (c .before .before .of-word .result) (c .before .plus .result) (a .base) (natAbs (a .scale) * a .index + natAbs (a .offset)) (c .difference .ensures) (cc) (cc)
+    let p = product (k .before) in
+    let o = size k in
+    gathered _ _ (c .before .before .of-word .result) (c .before .plus .result) (a .base) (natAbs (a .scale) * a .index + natAbs (a .offset))
+    (c .difference .ensures) (cc) (cc)
     (minus-minus (a .base) (a .index) (a .scale) (a .offset) (sign w16 _ (s .fits .scale) true (c .before .before .before .before .if1 .taken))
     (sign w64 _ (s .fits .offset) true (c .before .before .before .if2 .taken)))
 
 returns-2 : tie.Need-returns-2
 returns-2 c =
-    let s = c .before .before .before .before .before .before .before .before in
-    let offset = c .before .before .before .before .before .magnitude2 in
-    let size = c .before .before .before .before .before .before .before .magnitude in
+    let k = c .before .before .before .before .before in
+    let s = k .before .before .before in
     let a = s .args in
-    let f : size .result ≡ natAbs (a .scale) = scale-of (a .scale) (s .fits .scale) _ (size .ensures) in
-    let o : offset .result ≡ natAbs (a .offset) = size-of w64 (a .offset) (s .fits .offset) _ (offset .ensures) in
-    gathered _ (a .base) (a .index) (a .scale) (a .offset) (c .before .plus2 .result) (c .before .before .before .before .before .before .times .result) (a .base + natAbs (a .offset)) (natAbs (a .scale) * a .index) (c .difference2 .ensures) (cc) (cc)
+    let p = product (k .before) in
+    let o = size k in
+    gathered _ _ (c .before .plus2 .result) (k .before .times .result) (a .base + natAbs (a .offset)) (natAbs (a .scale) * a .index)
+    (c .difference2 .ensures) (cc) (cc)
     (minus-plus (a .base) (a .index) (a .scale) (a .offset) (sign w16 _ (s .fits .scale) true (c .before .before .before .before .if1 .taken))
     (sign w64 _ (s .fits .offset) false (c .before .before .before .if2 .left)))
 
 returns-3 : tie.Need-returns-3
 returns-3 c =
-    let s = c .before .before .before .before .before .before .before .before in
-    let offset = c .before .before .before .before .before .magnitude2 in
-    let size = c .before .before .before .before .before .before .before .magnitude in
+    let k = c .before .before .before .before .before in
+    let s = k .before .before .before in
     let a = s .args in
-    let f : size .result ≡ natAbs (a .scale) = scale-of (a .scale) (s .fits .scale) _ (size .ensures) in
-    let o : offset .result ≡ natAbs (a .offset) = size-of w64 (a .offset) (s .fits .offset) _ (offset .ensures) in
-    gathered _ (a .base) (a .index) (a .scale) (a .offset) (c .before .before .before .plus3 .result) (c .before .of-word3 .result) (natAbs (a .scale) * a .index + a .base) (natAbs (a .offset)) (c .difference3 .ensures) (cc) (cc)
+    let p = product (k .before) in
+    let o = size k in
+    gathered _ _ (c .before .before .before .plus3 .result) (c .before .of-word3 .result) (natAbs (a .scale) * a .index + a .base) (natAbs (a .offset))
+    (c .difference3 .ensures) (cc) (cc)
     (plus-minus (a .base) (a .index) (a .scale) (a .offset) (sign w16 _ (s .fits .scale) false (c .before .before .before .before .if1 .left))
     (sign w64 _ (s .fits .offset) true (c .before .before .if3 .taken)))
 
 returns-4 : tie.Need-returns-4
 returns-4 c =
-    let s = c .before .before .before .before .before .before .before .before .before in
-    let offset = c .before .before .before .before .before .before .magnitude2 in
-    let size = c .before .before .before .before .before .before .before .before .magnitude in
+    let k = c .before .before .before .before .before .before in
+    let s = k .before .before .before in
     let a = s .args in
-    let f : size .result ≡ natAbs (a .scale) = scale-of (a .scale) (s .fits .scale) _ (size .ensures) in
-    let o : offset .result ≡ natAbs (a .offset) = size-of w64 (a .offset) (s .fits .offset) _ (offset .ensures) in
-    gathered _ (a .base) (a .index) (a .scale) (a .offset) (c .before .before .plus4 .result) (c .before .of-word4 .result) (natAbs (a .scale) * a .index + a .base + natAbs (a .offset)) (0) (c .difference4 .ensures) (cc) (cc)
+    let p = product (k .before) in
+    let o = size k in
+    gathered _ _ (c .before .before .plus4 .result) (c .before .of-word4 .result) (natAbs (a .scale) * a .index + a .base + natAbs (a .offset)) (0)
+    (c .difference4 .ensures) (cc) (cc)
     (plus-plus (a .base) (a .index) (a .scale) (a .offset) (sign w16 _ (s .fits .scale) false (c .before .before .before .before .before .if1 .left))
     (sign w64 _ (s .fits .offset) false (c .before .before .before .if3 .left)))
 

@@ -14,8 +14,8 @@ returns c =
     let s = c .before .before .before in
     sym (find-none (s .args .addresses .now) (s .args .tags .now) (pos (s .args .address)) (λ k h e. omega (arith, c .if1 .taken)))
 
-only-place-requires : tie.Need-only-place-requires
-only-place-requires c κs = search needs
+place-of-requires : tie.Need-place-of-requires
+place-of-requires c κs = search needs
 
 mul-if2 : tie.Need-mul-if2
 mul-if2 c = search needs
@@ -26,7 +26,7 @@ shared-slice-read-if2 c = search needs
 returns-2 : tie.Need-returns-2
 returns-2 c =
     let s = c .before .before .before .before .before .before in
-    sym (find-elsewhere (s .args .addresses .now) (s .args .tags .now) (s .args .address) (c .before .before .only-place .result) (c .before .before .only-place .ensures .1) (c .if2 .taken))
+    sym (find-elsewhere (s .args .addresses .now) (s .args .tags .now) (s .args .address) (c .before .before .place-of .result) (c .before .before .place-of .ensures .1) (c .if2 .taken))
 
 shared-slice-read-if3 : tie.Need-shared-slice-read-if3
 shared-slice-read-if3 c = search needs
@@ -35,14 +35,14 @@ returns-3 : tie.Need-returns-3
 returns-3 c =
     let s = c .before .before .before .before .before .before .before .before in
     sym
-    (find-here (s .args .addresses .now) (s .args .tags .now) (s .args .address) (c .before .before .before .before .only-place .result) (c .before .before .before .before .only-place .ensures .1) (c .before .before .before .before .only-place .ensures .0) (s .pre .tags) (c .before .before .if2 .left)
+    (find-here (s .args .addresses .now) (s .args .tags .now) (s .args .address) (c .before .before .before .before .place-of .result) (c .before .before .before .before .place-of .ensures .1) (c .before .before .before .before .place-of .ensures .0) (s .pre .tags) (c .before .before .if2 .left)
     ∙ rw (eq-eqb _ 64 (c .if3 .taken)))
 
 returns-4 : tie.Need-returns-4
 returns-4 c =
     let s = c .before .before .before .before .before .before .before .before in
     sym
-    (find-here (s .args .addresses .now) (s .args .tags .now) (s .args .address) (c .before .before .before .before .only-place .result) (c .before .before .before .before .only-place .ensures .1) (c .before .before .before .before .only-place .ensures .0) (s .pre .tags) (c .before .before .if2 .left)
+    (find-here (s .args .addresses .now) (s .args .tags .now) (s .args .address) (c .before .before .before .before .place-of .result) (c .before .before .before .before .place-of .ensures .1) (c .before .before .before .before .place-of .ensures .0) (s .pre .tags) (c .before .before .if2 .left)
     ∙ rw (ne-eqb _ 64 (c .if3 .left)))
 
 pub find-cell-spec : {M : Type 1} → statement M
@@ -50,7 +50,7 @@ find-cell-spec =
     tie.close
     (tie.spec
     returns
-    only-place-requires
+    place-of-requires
     mul-if2
     shared-slice-read-if2
     returns-2

@@ -1,5 +1,4 @@
 -- `machine::cells::largest` meets its contract, tag by tag.
-use mathlib.Core.Path.{sym}
 use Rattle.machine.specs.Cells.{is-tag}
 use Rattle.machine.proofs.CellLaws.{no-tag}
 use Rattle.machine.proofs.cells.largest.Statement.{statement}

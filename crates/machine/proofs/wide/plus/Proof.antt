@@ -1,29 +1,26 @@
--- `machine::wide::plus` meets its contract: a sum above 2^64 - 1 carries one into the high word, which has room below 2^80.
+-- `machine::wide::plus` meets its contract: the carry of the low words goes into the high word, which has room for it below 2^80.
+use native.Mathlib.Omega.{arith}
 use borrow.Author.Needs.{needs}
+use Rattle.words.proofs.SumLaws.{added-number}
 use Rattle.machine.proofs.Exact.{carry-fits}
 use Rattle.machine.proofs.wide.plus.Statement.{statement}
 use Rattle.machine.proofs.wide.plus.Tie as tie
 
-sub-room : tie.Need-sub-room
-sub-room c = search needs
+add64-requires : tie.Need-add64-requires
+add64-requires c κs = search needs
 
-add-t6 : tie.Need-add-t6
-add-t6 c = search needs
+cast-t4 : tie.Need-cast-t4
+cast-t4 c = search needs
 
-add-t7 : tie.Need-add-t7
-add-t7 c = record { fits = carry-fits (c .before .before .before .args .w) (c .before .before .before .pre) }
-
-sub-t8 : tie.Need-sub-t8
-sub-t8 c = search needs
-
-sub-t9 : tie.Need-sub-t9
-sub-t9 c = search needs
+add-t5 : tie.Need-add-t5
+add-t5 c =
+    let s = c .before .before .before in
+    record { fits = carry-fits (s .args .w) (c .before .before .add64 .result .carry) (s .pre) }
 
 returns : tie.Need-returns
-returns c = search needs
-
-returns-2 : tie.Need-returns-2
-returns-2 c = search needs
+returns c =
+    let sum = c .before .before .add64 in
+    omega (arith, added-number 64 _ (sum .result .word) (sum .result .carry) (sum .ensures) (omega arith))
 
 pub plus-spec : {M : Type 1} → statement M
-plus-spec = tie.close (tie.spec sub-room add-t6 add-t7 sub-t8 sub-t9 returns returns-2)
+plus-spec = tie.close (tie.spec add64-requires cast-t4 add-t5 returns)

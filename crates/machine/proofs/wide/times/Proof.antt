@@ -1,8 +1,9 @@
--- `machine::wide::times` meets its contract: 2^15 times an index below 2^49 is a word.
+-- `machine::wide::times` meets its contract: 2^15 times an index below 2^49 is a word, and any other product has two.
 use native.Mathlib.Nat.{mul-le-mul}
 use native.Mathlib.Omega.{arith}
 use borrow.Author.Needs.{needs}
 use Prim.Native.Nat.{ℕ, _*_, _-_, _^_, _≤_, _<_}
+use Rattle.words.proofs.ProductLaws.{product-number}
 use Rattle.machine.proofs.wide.times.Statement.{statement}
 use Rattle.machine.proofs.wide.times.Tie as tie
 
@@ -15,15 +16,16 @@ mul-of-word c = omega (arith, word (c .before .args .factor) (c .before .args .i
 of-word-requires : tie.Need-of-word-requires
 of-word-requires c κs = search needs
 
-times-halves-requires : tie.Need-times-halves-requires
-times-halves-requires c κs = search needs
-
 returns : tie.Need-returns
 returns c = search needs
 
+mul-wide-requires : tie.Need-mul-wide-requires
+mul-wide-requires c κs = search needs
+
 returns-2 : tie.Need-returns-2
-returns-2 c = search needs
+returns-2 c =
+    let a = c .before .before .args in
+    product-number 64 (a .factor) (a .index) _ _ (c .mul-wide .ensures)
 
 pub times-spec : {M : Type 1} → statement M
-times-spec =
-    tie.close (tie.spec mul-of-word of-word-requires times-halves-requires returns returns-2)
+times-spec = tie.close (tie.spec mul-of-word of-word-requires returns mul-wide-requires returns-2)

@@ -1,0 +1,58 @@
+-- Operands: which are destinations, and the cell that a memory operand names. Addresses of cells are words, so an exact address that is
+-- no word is none of them.
+use Prim.Native.Nat.{ℕ, _^_, _<_}
+use mathlib.Core.Path.{_≡_, refl, ap, _∙_}
+use mathlib.Core.Bool.{Bool, true, false, not, cond}
+use mathlib.Core.List.{List}
+use mathlib.Core.Option.{none, some}
+use native.Mathlib.Omega.{arith}
+use borrow.Author.Tests.{lt-ltb}
+use lib.Dec.{eqb, ltb}
+use lib.IntN.{ℤ, pos, negsuc}
+use lib.ListN.{getD}
+use Rattle.machine.specs.Registers.{Rsp}
+use Rattle.machine.specs.Operands.{in-range, valid-dst}
+use Rattle.machine.specs.Cells.{find-cell}
+use Rattle.machine.specs.declared.reg.Reg.{Reg}
+use Rattle.machine.specs.declared.Maddr.{Maddr}
+use Rattle.machine.specs.declared.Operand.the-variants.{OConst, OReg, OMem}
+use Rattle.machine.proofs.FindLaws.{find-none}
+
+-- ---- destinations
+pub constant-no-dst : (n : ℕ) → valid-dst (OConst n) ≡ false
+unfolding valid-dst
+constant-no-dst n = refl
+
+pub register-dst : (r : Reg) → valid-dst (OReg r) ≡ not (eqb (r .number) (Rsp .number))
+unfolding valid-dst
+register-dst r = refl
+
+pub memory-dst : (m : Maddr) → valid-dst (OMem m) ≡ true
+unfolding valid-dst
+memory-dst m = refl
+
+-- ---- an exact address and its word
+pub in-range-some : (z : ℤ) (w : ℕ) → in-range z ≡ some w → z ≡ pos w
+unfolding in-range
+in-range-some (pos n) w e = go (ltb n (2 ^ 64)) e
+  where
+    go : (b : Bool) → cond b (some n) none ≡ some w → pos n ≡ pos w
+    go true h = cc
+    go false h = absurd (let x : _≡_ {A = ℕ} 0 1 = cc in omega arith)
+in-range-some (negsuc n) w e = absurd (let x : _≡_ {A = ℕ} 0 1 = cc in omega arith)
+
+pub in-range-none : (z : ℤ) (a : ℕ) → in-range z ≡ none → a < 2 ^ 64 → pos a ≡ z → ⊥
+unfolding in-range
+in-range-none z a e l p =
+    let f : in-range (pos a) ≡ none = ap in-range p ∙ e in
+    let g : in-range (pos a) ≡ some a = rw (lt-ltb a (2 ^ 64) l) in
+    let x : _≡_ {A = ℕ} 0 1 = cc in
+    omega arith
+
+-- ---- the cell at an exact address
+module _ (xs ts : List ℕ) (z : ℤ) where
+  pub find-inside : (w : ℕ) → in-range z ≡ some w → find-cell xs ts z ≡ find-cell xs ts (pos w)
+  find-inside w e = ap (find-cell xs ts) (in-range-some z w e)
+
+  pub find-outside : in-range z ≡ none → ((k : ℕ) → getD xs k 0 < 2 ^ 64) → find-cell xs ts z ≡ none
+  find-outside e small = find-none xs ts z (λ k h p. in-range-none z (getD xs k 0) e (small k) p)
