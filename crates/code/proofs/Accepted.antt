@@ -18,6 +18,7 @@ use Rattle.code.specs.Reader.{got, parse}
 use Rattle.code.specs.Spells.{Fields, IsRecord, Operands, Stands, Spells, SpellsAll}
 use Rattle.code.specs.WellFormed.{Bytes, Signed, Number, Imm8, WfOperand, WfIns, WfOcmp, WfCode, WfCodes}
 use Rattle.code.proofs.Passing.{between-true}
+use Rattle.code.proofs.NumberLaws.{number-lt}
 use Rattle.code.proofs.Sound.{parse-sound}
 
 -- what holds of n numbers from low on
@@ -36,13 +37,8 @@ each P (suc n) low h k l m =
 
 -- numbers of bytes
 module _ (bs : List ℕ) (bytes : Bytes bs) where
-  pub number-lt : (n at : ℕ) → number-at n bs at < 256 ^ n
-  unfolding number-at
-  number-lt zero at = omega arith
-  number-lt (suc n) at = omega (arith, bytes at, number-lt n (suc at))
-
   pub word-lt : (at : ℕ) → number-at 8 bs at < 2 ^ 64
-  word-lt at = number-lt 8 at
+  word-lt at = number-lt bs bytes 8 at
 
   signed-of : (n x : ℕ) (t : Bool) → ltb x (2 ^ (n - 1)) ≡ t → x < 2 ^ n → 2 ^ n ≡ 2 * 2 ^ (n - 1) → Signed n (cond t (pos x) (negsuc (2 ^ n - 1 - x)))
   signed-of n x true h l e = ltb-true _ _ h
@@ -50,11 +46,11 @@ module _ (bs : List ℕ) (bytes : Bytes bs) where
 
   pub signed2 : (at : ℕ) → Signed 16 (signed-at 2 bs at)
   unfolding signed-at
-  signed2 at = signed-of 16 (number-at 2 bs at) _ refl (number-lt 2 at) refl
+  signed2 at = signed-of 16 (number-at 2 bs at) _ refl (number-lt bs bytes 2 at) refl
 
   pub signed8 : (at : ℕ) → Signed 64 (signed-at 8 bs at)
   unfolding signed-at
-  signed8 at = signed-of 64 (number-at 8 bs at) _ refl (number-lt 8 at) refl
+  signed8 at = signed-of 64 (number-at 8 bs at) _ refl (number-lt bs bytes 8 at) refl
 
   -- an operand, by its kind
   operand-forms-wf :

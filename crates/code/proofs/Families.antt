@@ -1,7 +1,7 @@
 -- What the bytes of an instruction say, family by family: the places of its operands, its end, and the instruction that it is. Assumes nothing.
 use Prim.Native.Nat.{ℕ, zero, suc, _+_, _≤_, _<_}
-use mathlib.Core.Path.{_≡_, refl, sym, _∙_}
-use mathlib.Core.Bool.{true}
+use mathlib.Core.Path.{_≡_, refl, sym, subst, _∙_}
+use mathlib.Core.Bool.{Bool, true, false, _||_}
 use mathlib.Core.List.{List, [], _∷_}
 use mathlib.Core.Logic.{_⊎_, inl, inr, ⊎-elim}
 use native.Mathlib.Nat.{eq-or-lt-of-le}
@@ -9,7 +9,7 @@ use native.Mathlib.Omega.{arith}
 use lib.ListN.{length}
 use Rattle.machine.specs.declared.Operand.{Operand}
 use Rattle.code.specs.Tree.{Instruction, AddLea64, Mul64, Mulx64, Pshufd, VPSLLDQ, Pextrq}
-use Rattle.code.specs.Records.{is-ins, body-length, operand-count, register-fields, byte-at, operand-at, operands-at, behind, ins-at}
+use Rattle.code.specs.Records.{between, is-ins, body-length, operand-count, register-fields, byte-at, operand-at, operands-at, behind, ins-at}
 use Rattle.code.specs.Spells.{Fields, Operands, OperandsFrom, Stands}
 use Rattle.code.specs.Families.{is-two, two-ins, quads-ins, shifts-ins, inserts-ins}
 use Rattle.code.proofs.Passing.{between-true, never}
@@ -42,6 +42,47 @@ by-two P p1 p2 p4 p5 p6 p7 pa pb pc pd pe k l m x y z =
     ▹ (λ _ _ _. pe)
     ▹ tt)
     k l m x y z
+
+or-cases : (a b : Bool) → (a || b) ≡ true → (a ≡ true) ⊎ (b ≡ true)
+or-cases true b h = inl refl
+or-cases false b h = inr h
+
+-- the kinds of a destination and a source are those
+pub record TwoKind (k : ℕ) : Type 0 where
+  pub low : 1 ≤ k
+  pub high : k < 0x0f
+  pub no-lea : k ≡ 0x03 → ⊥
+  pub no-mul : k ≡ 0x08 → ⊥
+  pub no-mulx : k ≡ 0x09 → ⊥
+
+pub two-kind : (k : ℕ) → is-two k ≡ true → TwoKind k
+two-kind k h =
+    let bounds : (1 ≤ k) × (k < 0x0f) =
+    ⊎-elim
+    (λ e. ⊎-elim
+    (λ f. let w = between-true 0x01 0x02 k f in (omega arith, omega arith))
+    (λ f. let w = between-true 0x04 0x07 k f in (omega arith, omega arith))
+    (or-cases (between 0x01 0x02 k) (between 0x04 0x07 k) e))
+    (λ e. let w = between-true 0x0a 0x0e k e in (omega arith, omega arith))
+    (or-cases (between 0x01 0x02 k || between 0x04 0x07 k) (between 0x0a 0x0e k) h)
+    in
+    record {
+      low = bounds .0;
+      high = bounds .1;
+      no-lea = λ e. never (sym (subst (λ (n : ℕ). is-two n ≡ true) e h));
+      no-mul = λ e. never (sym (subst (λ (n : ℕ). is-two n ≡ true) e h));
+      no-mulx = λ e. never (sym (subst (λ (n : ℕ). is-two n ≡ true) e h));
+    }
+
+pub kind-two : (k : ℕ) → TwoKind k → is-two k ≡ true
+kind-two k w =
+    by-two (λ (n : ℕ). is-two n ≡ true) refl refl refl refl refl refl refl refl refl refl refl k
+    (w .low) (w .high) (w .no-lea) (w .no-mul) (w .no-mulx)
+
+-- which kinds are those of two quads
+pub which-quads : (k : ℕ) → 0x0f ≤ k → (k < 0x11) ⊎ (k ≡ 0x14) → (k ≡ 0x0f) ⊎ ((k ≡ 0x10) ⊎ (k ≡ 0x14))
+which-quads k m (inl h) = ⊎-elim (λ e. inl (sym e)) (λ l. inr (inl (omega arith))) (eq-or-lt-of-le m)
+which-quads k m (inr h) = inr (inr h)
 
 -- ---- what stands at a place, as an instruction of a family, with n operands behind its body
 -- the place behind n operands
@@ -98,11 +139,9 @@ module _ (bs : List ℕ) (at e : ℕ) (st : Stands is-ins bs at e) (l : e ≤ le
   abbrev Two : ℕ → Type 0
   Two k = byte-at bs at ≡ k → Stood bs at (two-ins k one two) 2 (at + 1)
 
-  pub two-stood :
-      (k : ℕ) → 1 ≤ k → k < 0x0f → (k ≡ 0x03 → ⊥) → (k ≡ 0x08 → ⊥) → (k ≡ 0x09 → ⊥) →
-      byte-at bs at ≡ k → Stood bs at (two-ins k one two) 2 (at + 1)
+  pub two-stood : (k : ℕ) → TwoKind k → byte-at bs at ≡ k → Stood bs at (two-ins k one two) 2 (at + 1)
   unfolding two-ins ins-at operands-at body-length operand-count
-  two-stood =
+  two-stood k w =
       by-two Two
       (λ q. plain 0x01 2 _ q refl refl (λ b. rw (b, q)))
       (λ q. plain 0x02 2 _ q refl refl (λ b. rw (b, q)))
@@ -115,6 +154,7 @@ module _ (bs : List ℕ) (at e : ℕ) (st : Stands is-ins bs at e) (l : e ≤ le
       (λ q. plain 0x0c 2 _ q refl refl (λ b. rw (b, q)))
       (λ q. plain 0x0d 2 _ q refl refl (λ b. rw (b, q)))
       (λ q. plain 0x0e 2 _ q refl refl (λ b. rw (b, q)))
+      k (w .low) (w .high) (w .no-lea) (w .no-mul) (w .no-mulx)
 
   pub lea-stood : byte-at bs at ≡ 0x03 → Stood bs at (AddLea64 one two three) 3 (at + 1)
   unfolding ins-at operands-at body-length operand-count

@@ -38,6 +38,10 @@ memory-is (OConst m) e = other (cc)
 memory-is (OReg r) e = other (cc)
 memory-is (OMem m) e = (m, refl)
 
+-- an operand is one memory operand
+pub one-memory : (o : Operand) (m n : Maddr) → o ≡ OMem m → o ≡ OMem n → m ≡ n
+one-memory o m n e f = cc
+
 -- ---- the registers that an operand names
 abbrev Names : Operand → Type 0
 Names (OConst n) = Unit {0}

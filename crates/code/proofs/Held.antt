@@ -10,6 +10,8 @@ use lib.IntN.{ℤ, pos, negsuc}
 use lib.ListN.{length, getD, length-append}
 use lib.Seq.{getD-append-seam}
 use Rattle.machine.specs.Registers.{reg}
+use Rattle.machine.specs.Bytes.{byte}
+use Rattle.machine.proofs.SpellLaws.{byte-first, byte-next}
 use Rattle.machine.specs.declared.Maddr.{Maddr}
 use Rattle.machine.specs.declared.Maddr.the-variants.{MConst, MReg, MIndex}
 use Rattle.machine.specs.declared.Operand.{Operand}
@@ -18,6 +20,7 @@ use Rattle.code.specs.Records.{is-operand, body-length, register-fields,
 use Rattle.code.specs.Spells.{Fields, IsRecord, Operands}
 use Rattle.code.specs.WellFormed.{Signed, WfMaddr, WfOperand}
 use Rattle.code.specs.Writer.{bytes-of, signed-bytes, bytes-of-maddr, bytes-of-operand, bytes-of-operands}
+use Rattle.code.proofs.NumberLaws.{number-is}
 use Rattle.code.proofs.Complete.{behind-structure}
 use Rattle.code.proofs.Sound.{operands-le}
 
@@ -53,12 +56,15 @@ unfolding bytes-of
 length-bytes zero x = refl
 length-bytes (suc n) x = ap suc (length-bytes n (x / 256))
 
+byte-held : (n x : ℕ) (bs : List ℕ) (at : ℕ) → Holds bs at (bytes-of n x) → (j : ℕ) → j < n → byte-at bs (at + j) ≡ byte j x
+unfolding bytes-of
+byte-held zero x bs at h j l = absurd (omega arith)
+byte-held (suc n) x bs at h zero l = ap (byte-at bs) (omega arith) ∙ h .0 ∙ sym (byte-first x)
+byte-held (suc n) x bs at h (suc j) l =
+    ap (byte-at bs) (omega arith) ∙ byte-held n (x / 256) bs (suc at) (h .1) j (omega arith) ∙ sym (byte-next j x)
+
 pub number-held : (n x : ℕ) (bs : List ℕ) (at : ℕ) → Holds bs at (bytes-of n x) → x < 256 ^ n → number-at n bs at ≡ x
-unfolding bytes-of number-at
-number-held zero x bs at h l = omega arith
-number-held (suc n) x bs at h l =
-    let w = number-held n (x / 256) bs (suc at) (h .1) (omega arith) in
-    omega (arith, h .0)
+number-held n x bs at h l = number-is n x bs at l (byte-held n x bs at h)
 
 pub length-signed : (n : ℕ) (z : ℤ) → length (signed-bytes n z) ≡ n
 unfolding signed-bytes

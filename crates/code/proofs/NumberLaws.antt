@@ -1,4 +1,4 @@
--- Numbers of two, four and eight bytes from their halves, and two's complement. Assumes nothing.
+-- The numbers that stand in code are spelled as those in memory are, by the laws of `machine`; and two's complement. Assumes nothing.
 use Prim.Native.Nat.{ℕ, zero, suc, _+_, _-_, _*_, _^_, _≤_, _<_}
 use mathlib.Core.Path.{_≡_, refl, sym, ap, _∙_}
 use mathlib.Core.Bool.{cond}
@@ -10,21 +10,35 @@ use lib.IntN.{ℤ, pos, negsuc, _-ℤ_}
 use mir.Syntax.{Width}
 use mir.Val.{bits, hbits, SFits, toZ, ofZ}
 use mir.ValLaws.{toZ-pos, toZ-ofZ}
+use Rattle.machine.specs.Bytes.{byte, spelled}
+use Rattle.machine.proofs.SpellLaws.{spelled-one, spelled-cong, spelled-lt, spelled-bytes, spelled-split}
 use Rattle.code.specs.Records.{byte-at, number-at, signed-at}
+use Rattle.code.specs.WellFormed.{Bytes}
 
+-- ---- a number by its bytes
 module _ (bs : List ℕ) (at : ℕ) where
-  pub two-bytes : number-at 2 bs at ≡ byte-at bs at + byte-at bs (at + 1) * 256
+  pub one-byte : number-at 1 bs at ≡ byte-at bs at
   unfolding number-at
-  two-bytes = let e : at + 1 ≡ suc at = omega arith in rw e (omega arith)
+  one-byte = spelled-one (λ j. byte-at bs (at + j)) ∙ ap (byte-at bs) (omega arith)
 
-  pub four-bytes : number-at 4 bs at ≡ number-at 2 bs at + number-at 2 bs (at + 2) * 65536
+  -- m bytes, and the n behind them
+  pub number-split : (m n : ℕ) → number-at (m + n) bs at ≡ number-at m bs at + 256 ^ m * number-at n bs (at + m)
   unfolding number-at
-  four-bytes = let e : at + 2 ≡ suc (suc at) = omega arith in rw e (omega arith)
+  number-split m n =
+      spelled-split m n (λ j. byte-at bs (at + j))
+      ∙ ap (λ (x : ℕ). spelled m (λ j. byte-at bs (at + j)) + 256 ^ m * x)
+      (spelled-cong n (λ j. byte-at bs (at + (m + j))) (λ j. byte-at bs (at + m + j)) (λ j h. ap (byte-at bs) (omega arith)))
 
-  pub eight-bytes : number-at 8 bs at ≡ number-at 4 bs at + number-at 4 bs (at + 4) * 4294967296
-  unfolding number-at
-  eight-bytes = let e : at + 4 ≡ suc (suc (suc (suc at))) = omega arith in rw e (omega arith)
+pub number-lt : (bs : List ℕ) → Bytes bs → (n at : ℕ) → number-at n bs at < 256 ^ n
+unfolding number-at
+number-lt bs bytes n at = spelled-lt n (λ j. byte-at bs (at + j)) (λ j. bytes (at + j))
 
+-- bytes that are those of a number say it
+pub number-is : (n x : ℕ) (bs : List ℕ) (at : ℕ) → x < 256 ^ n → ((j : ℕ) → j < n → byte-at bs (at + j) ≡ byte j x) → number-at n bs at ≡ x
+unfolding number-at
+number-is n x bs at = spelled-bytes n x (λ j. byte-at bs (at + j))
+
+-- ---- two's complement
 less-one : (k : ℕ) → negsuc 0 -ℤ pos k ≡ negsuc k
 less-one zero = refl
 less-one (suc k) = ap (λ (n : ℕ). negsuc (suc n)) (omega arith)

@@ -6,6 +6,7 @@ use lib.Dec.{eqb, ltb, leb}
 use lib.IntN.{ℤ, pos, negsuc}
 use lib.ListN.{length, getD}
 use Rattle.machine.specs.Registers.{reg}
+use Rattle.machine.specs.Bytes.{spelled}
 use Rattle.machine.specs.declared.Maddr.the-variants.{MConst, MReg, MIndex}
 use Rattle.machine.specs.declared.Operand.{Operand}
 use Rattle.machine.specs.declared.Operand.the-variants.{OConst, OReg, OMem}
@@ -67,8 +68,7 @@ byte-at bs at = getD bs at 0
 
 -- the number that n bytes spell, low byte first
 unfoldable pub number-at : ℕ → List ℕ → ℕ → ℕ
-number-at zero bs at = 0
-number-at (suc n) bs at = byte-at bs at + 256 * number-at n bs (suc at)
+number-at n bs at = spelled n (λ j. byte-at bs (at + j))
 
 -- the signed number that n bytes spell, two's complement
 unfoldable pub signed-at : ℕ → List ℕ → ℕ → ℤ

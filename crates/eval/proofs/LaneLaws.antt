@@ -6,17 +6,17 @@ use mathlib.Core.List.{List}
 use native.Mathlib.Omega.{arith}
 use borrow.Author.Tests.{lt-ltb, le-ltb, eq-eqb, ne-eqb}
 use lib.Dec.{eqb, ltb}
-use Rattle.words.specs.Words.{Four, two-to-nat, two-select, four-to-two-two}
-use Rattle.words.specs.Types.{double32, quad32, quad32-xor, insert-nat32, insert-nat64, add-lanes, equal-lanes, shl-lanes, shr-lanes, shuffle-lanes, shift-quad}
-use Rattle.words.specs.declared.Double32.{Double32}
+use Rattle.words.proofs.LaneLaws.{extract-nat64-is}
+use Rattle.words.specs.Types.{quad32, quad32-xor, extract-nat64, insert-nat32, insert-nat64, add-lanes, equal-lanes, shl-lanes, shr-lanes, shuffle-lanes, shift-quad}
 use Rattle.words.specs.declared.Quad32.{Quad32}
 use Rattle.machine.specs.Registers.{xmm-at, set-xmm}
 use Rattle.machine.specs.declared.Operand.{Operand}
 use Rattle.code.specs.Tree.{Paddd, Pxor, Pcmpeqd, Pslld, Psrld, Pshufd, Pextrq, Pinsrd, Pinsrq, VPSLLDQ}
+use Rattle.code.specs.Families.{at-kind, quads-ins, shifts-ins, inserts-ins}
 use Rattle.eval.specs.Config.{Env, Config, End, ends, done, fault, check}
 use Rattle.eval.specs.Steps.{eval-operand, source, write-xmm, run-ins}
 use Rattle.eval.specs.Lent.{environment, held, Reads, Targets, put-regs, put-values}
-use Rattle.eval.specs.Families.{at-kind, quads-ins, quads-word, shifts-ins, shifts-word, inserts-ins, inserts-word}
+use Rattle.eval.specs.Families.{quads-word, shifts-word, inserts-word}
 use Rattle.eval.specs.declared.operand.Reading.{Reading}
 use Rattle.eval.specs.declared.operand.Slot.{Slot}
 use Rattle.eval.proofs.StepLaws.{readable, unreadable, unwritable, wrote}
@@ -107,16 +107,15 @@ module _ (addresses tags regs xmms values : List ℕ) (fill flags p : ℕ) where
 
     pub extract-done :
         t .valid ≡ true →
-        (x : Quad32) (d : Double32) (v : ℕ) (regs′ values′ : List ℕ) →
+        (x : Quad32) (v : ℕ) (regs′ values′ : List ℕ) →
         quad32 x ≡ xmm-at xmms src →
-        double32 d ≡ two-select (four-to-two-two (quad32 x)) (index % 2) →
-        v ≡ two-to-nat 32 (double32 d) →
+        v ≡ extract-nat64 (quad32 x) (index % 2) →
         regs′ ≡ put-regs t v regs →
         values′ ≡ put-values t v values →
         ends done (held regs′ xmms flags values′) ≡ run-ins env p (Pextrq dst src index) now-s
     unfolding run-ins
-    extract-done h x d v regs′ values′ a b c e f =
-        rw (e, f, c, b, a) (sym (wrote env now-s p dst n t targets h _ _))
+    extract-done h x v regs′ values′ a b e f =
+        rw (e, f, b, extract-nat64-is, a) (sym (wrote env now-s p dst n t targets h _ _))
 
   module _ (src : Operand) (dst index n : ℕ) (r : Reading) (reads : Reads env now-s src n r) where
     inserts-way :
@@ -141,12 +140,3 @@ module _ (addresses tags regs xmms values : List ℕ) (fill flags p : ℕ) where
     unfolding inserts-ins inserts-word
     inserts-done h k x q xmms′ a b c =
         rw (c, b, a, reads .word h) (sym (readable env now-s p src n r reads _ h) ∙ inserts-way (eqb k 0x16))
-
--- the pair that the low bit of an index names
-pub low-pair : (q : Quad32) (index : ℕ) → index % 2 ≡ 0 → four-to-two-two (quad32 q) .lo ≡ two-select (four-to-two-two (quad32 q)) (index % 2)
-unfolding two-select
-low-pair q index h = rw h
-
-pub high-pair : (q : Quad32) (index : ℕ) → (index % 2 ≡ 0 → ⊥) → four-to-two-two (quad32 q) .hi ≡ two-select (four-to-two-two (quad32 q)) (index % 2)
-unfolding two-select
-high-pair q index h = let e : index % 2 ≡ 1 = omega arith in rw e

@@ -1,4 +1,3 @@
-pub mod Ranges
 pub mod OperandLaws
 pub mod StepLaws
 pub mod LaneLaws

@@ -2,29 +2,29 @@
 -- written is the definition's. Assumes nothing.
 use Prim.Native.Nat.{ℕ, zero, suc, _+_, _*_, _^_, _%_, _≤_, _<_}
 use mathlib.Core.Path.{_≡_, refl, sym, ap, _∙_}
-use mathlib.Core.Bool.{Bool, true, false, not, _&&_, _||_, cond}
+use mathlib.Core.Bool.{Bool, true, false, _&&_, cond}
 use mathlib.Core.List.{List}
-use mathlib.Core.Logic.{_⊎_, inl, inr, ⊎-elim}
 use native.Mathlib.Nat.{add-zero}
 use native.Mathlib.Omega.{arith}
 use borrow.Author.Tests.{lt-ltb, le-ltb, le-leb, lt-leb, eq-eqb, ne-eqb, leb-true, leb-false}
 use lib.Dec.{eqb, ltb, leb}
-use lib.ListN.{length, getD, set}
-use lib.Seq.{set-set, set-getD}
+use lib.ListN.{getD, set}
 use Rattle.words.specs.Sums.{sum-mod, mul-div, mul-mod}
 use Rattle.machine.specs.Registers.{Rax, Rdx, reg-at, set-reg}
 use Rattle.machine.specs.declared.Operand.{Operand}
 use Rattle.code.specs.Tree.{AddLea64, Mul64, Mulx64}
-use Rattle.code.specs.Records.{between, operand-at, behind}
-use Rattle.code.proofs.Passing.{between-true, and-both, never}
+use Rattle.code.specs.Records.{operand-at, behind}
+use Rattle.code.specs.Families.{is-two, two-ins}
+use Rattle.code.proofs.Passing.{and-both}
+use Rattle.code.proofs.Families.{by-two, two-kind}
 use Rattle.eval.specs.Config.{Env, Config, with-regs, with-values, with-flags, End, ends, done, fault, check}
 use Rattle.eval.specs.Flags.{add-flags}
 use Rattle.eval.specs.Steps.{valid-operand, eval-operand, valid-dst-operand, update-operand, source, target, write, run-mulx, run-ins}
 use Rattle.eval.specs.Lent.{environment, held, Reads, Writes, Targets, put-regs, put-values}
-use Rattle.eval.specs.Families.{is-two, two-ins, two-word, two-flags}
+use Rattle.eval.specs.Families.{two-word, two-flags}
 use Rattle.eval.specs.declared.operand.Reading.{Reading}
 use Rattle.eval.specs.declared.operand.Slot.{Slot}
-use Rattle.eval.proofs.Ranges.{Each, each}
+use Rattle.eval.proofs.OperandLaws.{valid-whatever}
 
 -- a check of a source or of a destination, by what was found
 module _ (env : Env) (s : Config) (p : ℕ) (o : Operand) (n : ℕ) (r : Reading) (reads : Reads env s o n r) (k : End) where
@@ -51,40 +51,9 @@ module _ (env : Env) (s : Config) (p : ℕ) (o : Operand) (n : ℕ) (t : Slot) (
 
   pub wrote : t .valid ≡ true → (v flags : ℕ) → write env p o v flags s ≡ ends done (with-flags flags (put-in v))
   wrote h v flags =
-      writable h _ ∙ ap (λ (x : Config). ends done (with-flags flags x)) (targets .writes h .update v)
-
--- a word that goes back to its slot
-module _ (t : Slot) (v : ℕ) (regs values : List ℕ)
-    (old : t .word ≡ cond (t .register) (getD regs (t .index) 0) (getD values (t .index) 0)) where
-  pub put-back-regs : put-regs t (t .word) (put-regs t v regs) ≡ regs
-  put-back-regs = go (t .register) old
-    where
-      go : (b : Bool) → t .word ≡ cond b (getD regs (t .index) 0) (getD values (t .index) 0) → cond b (set (cond b (set regs (t .index) v) regs) (t .index) (t .word)) (cond b (set regs (t .index) v) regs) ≡ regs
-      go true e = rw (e, set-set, set-getD)
-      go false e = refl
-
-  pub put-back-values : put-values t (t .word) (put-values t v values) ≡ values
-  put-back-values = go (t .register) old
-    where
-      go : (b : Bool) → t .word ≡ cond b (getD regs (t .index) 0) (getD values (t .index) 0) → cond b (cond b values (set values (t .index) v)) (set (cond b values (set values (t .index) v)) (t .index) (t .word)) ≡ values
-      go true e = refl
-      go false e = rw (e, set-set, set-getD)
+      writable h _ ∙ ap (λ (x : Config). ends done (with-flags flags x)) (targets .writes h .update v (s .values))
 
 -- ---- instructions of a destination and a source
-or-cases : (a b : Bool) → (a || b) ≡ true → (a ≡ true) ⊎ (b ≡ true)
-or-cases true b h = inl refl
-or-cases false b h = inr h
-
-two-bounds : (k : ℕ) → is-two k ≡ true → (1 ≤ k) × (k < 1 + 14)
-two-bounds k h =
-    ⊎-elim
-    (λ e. ⊎-elim
-    (λ f. let w = between-true 0x01 0x02 k f in (omega arith, omega arith))
-    (λ f. let w = between-true 0x04 0x07 k f in (omega arith, omega arith))
-    (or-cases (between 0x01 0x02 k) (between 0x04 0x07 k) e))
-    (λ e. let w = between-true 0x0a 0x0e k e in (omega arith, omega arith))
-    (or-cases (between 0x01 0x02 k || between 0x04 0x07 k) (between 0x0a 0x0e k) h)
-
 module _ (env : Env) (p : ℕ) (dst src : Operand) (s : Config) where
   -- what they write
   abbrev pub two-write : ℕ → End
@@ -98,45 +67,14 @@ module _ (env : Env) (p : ℕ) (dst src : Operand) (s : Config) where
   abbrev pub amounts : ℕ → End → End
   amounts k e = cond (leb 0x0d k) (check (ltb (eval-operand env src s) 64) 33 p s e) e
 
-  Shape : ℕ → Type 0
-  Shape k = is-two k ≡ true → run-ins env p (two-ins k dst src) s ≡ source env p src s (amounts k (two-write k))
+  abbrev Shape : ℕ → Type 0
+  Shape k = run-ins env p (two-ins k dst src) s ≡ source env p src s (amounts k (two-write k))
 
   pub shape : (k : ℕ) → is-two k ≡ true → run-ins env p (two-ins k dst src) s ≡ source env p src s (amounts k (two-write k))
-  unfolding Shape run-ins two-ins two-word two-flags
+  unfolding run-ins two-ins two-word two-flags
   shape k h =
-      let w = two-bounds k h in
-      each Shape 14 1 (
-        (λ _. refl),
-        (
-          (λ _. refl),
-          (
-            (λ e. absurd (never (sym e))),
-            (
-              (λ _. refl),
-              (
-                (λ _. refl),
-                (
-                  (λ _. refl),
-                  (
-                    (λ _. refl),
-                    (
-                      (λ e. absurd (never (sym e))),
-                      (
-                        (λ e. absurd (never (sym e))),
-                        ((λ _. refl), ((λ _. refl), ((λ _. refl), ((λ _. refl), ((λ _. refl), tt))))),
-                      ),
-                    ),
-                  ),
-                ),
-              ),
-            ),
-          ),
-        ),
-      )
-      k
-      (w .0)
-      (w .1)
-      h
+      let w = two-kind k h in
+      by-two Shape refl refl refl refl refl refl refl refl refl refl refl k (w .low) (w .high) (w .no-lea) (w .no-mul) (w .no-mulx)
 
   -- an amount that is no shift's, or below 64, passes
   pub amount-passes : (k b : ℕ) (e : End) → b ≡ eval-operand env src s → (leb 0x0d k && leb 64 b) ≡ false → amounts k e ≡ e
@@ -256,21 +194,22 @@ module _ (addresses tags regs xmms values : List ℕ) (fill flags p : ℕ) where
         -- the configuration after the low half is written
         after-low : update-operand env dst-lo (mul-mod 64 (getD regs 3 0) (eval-operand env src s)) s ≡ held regs′ xmms flags values′
         after-low =
-            rw (a, b, is-lo, reads .word found) (targets .writes valid .update _)
+            rw (a, b, is-lo, reads .word found) (targets .writes valid .update _ values)
 
-        module _ (l : ℕ) (u : Slot) (above : Targets env (held regs′ xmms flags values′) dst-hi l u) where
-          pub mulx-undone :
-              u .valid ≡ false →
-              (regs″ values″ : List ℕ) →
-              regs″ ≡ put-regs t (t .word) regs′ →
-              values″ ≡ put-values t (t .word) values′ →
-              ends (fault 32 p) (held regs″ xmms flags values″) ≡ run-ins env p (Mulx64 dst-hi dst-lo src) s
+        -- the high destination, found before anything is written, in the registers as the low half leaves them
+        module _ (l : ℕ) (u : Slot) (above : Targets env (held regs′ xmms flags values) dst-hi l u) where
+          resolved : valid-dst-operand env dst-hi (update-operand env dst-lo (mul-mod 64 (getD regs 3 0) (eval-operand env src s)) s) ≡ u .valid
+          resolved =
+              ap (valid-dst-operand env dst-hi) after-low
+              ∙ valid-whatever env dst-hi (held regs′ xmms flags values) values′
+              ∙ sym (above .valid)
+
+          pub mulx-unresolved : u .valid ≡ false → ends (fault 32 p) s ≡ run-ins env p (Mulx64 dst-hi dst-lo src) s
           unfolding run-ins run-mulx check
-          mulx-undone h regs″ values″ c d =
-              rw (c, d, a, b, put-back-regs t lo regs values (targets .writes valid .old), put-back-values t lo regs values (targets .writes valid .old))
-              (sym (readable env s p src n r reads _ found
+          mulx-unresolved h =
+              sym (readable env s p src n r reads _ found
               ∙ writable env s p dst-lo m t targets valid _
-              ∙ rw (after-low, ← above .valid, h)))
+              ∙ rw (resolved, h))
 
           pub mulx-done :
               u .valid ≡ true →
@@ -283,7 +222,7 @@ module _ (addresses tags regs xmms values : List ℕ) (fill flags p : ℕ) where
               rw (c, d, is-hi, reads .word found)
               (sym (readable env s p src n r reads _ found
               ∙ writable env s p dst-lo m t targets valid _
-              ∙ rw (after-low, ← above .valid, h, above .writes h .update _)))
+              ∙ rw (resolved, h, after-low, above .writes h .update _ values′)))
 
 -- what was read at a place that is another's name
 module _ (env : Env) (s : Config) (bs : List ℕ) (a b : ℕ) (e : a ≡ b) where

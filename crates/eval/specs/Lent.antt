@@ -1,13 +1,11 @@
 -- What the evaluator is lent in parts, in the words of a run.
-use Prim.Native.Nat.{ℕ, zero, suc, _≤_, _<_}
+use Prim.Native.Nat.{ℕ, _<_}
 use mathlib.Core.Path.{_≡_}
 use mathlib.Core.Bool.{Bool, true, false, cond}
 use mathlib.Core.List.{List}
-use lib.ListN.{length, getD, set}
+use lib.ListN.{length, set}
 use Rattle.machine.specs.Cells.{Searchable}
 use Rattle.machine.specs.declared.Operand.{Operand}
-use Rattle.code.specs.Records.{is-operand, behind}
-use Rattle.code.specs.Spells.{IsRecord}
 use Rattle.eval.specs.Config.{Env, Config, with-regs, with-values}
 use Rattle.eval.specs.Steps.{valid-operand, eval-operand, valid-dst-operand, update-operand}
 use Rattle.eval.specs.declared.operand.Reading.{Reading}
@@ -25,11 +23,6 @@ held regs xmms flags values = record { regs = regs; xmms = xmms; flags = flags; 
 pub record Cells (addresses tags values : List ℕ) : Type 0 where
   pub searchable : Searchable addresses tags
   pub long : length values ≡ length addresses
-
--- n operand records stand from a place on
-abbrev pub OperandsFrom : ℕ → List ℕ → ℕ → Type 0
-OperandsFrom zero bs at = at ≤ length bs
-OperandsFrom (suc n) bs at = IsRecord is-operand bs at (length bs) × OperandsFrom n bs (behind bs at)
 
 -- what a Reading says of a source: whether it can be read, its word, and the place behind it
 pub record Reads (env : Env) (s : Config) (o : Operand) (end : ℕ) (r : Reading) : Type 0 where
@@ -54,11 +47,12 @@ pub record InBounds (t : Slot) (n : ℕ) : Type 0 where
   pub register : t .register ≡ true → t .index < 16
   pub cell : t .register ≡ false → t .index < n
 
--- what a valid Slot says of a destination: its word, and how it is written
+-- what a valid Slot says of a destination: its word, and how it is written, whatever the cells then hold
 pub record Writes (env : Env) (s : Config) (o : Operand) (t : Slot) : Type 0 where
   pub word : t .word ≡ eval-operand env o s
-  pub old : t .word ≡ cond (t .register) (getD (s .regs) (t .index) 0) (getD (s .values) (t .index) 0)
-  pub update : (v : ℕ) → update-operand env o v s ≡ with-values (put-values t v (s .values)) (with-regs (put-regs t v (s .regs)) s)
+  pub update :
+      (v : ℕ) (values : List ℕ) →
+      update-operand env o v (with-values values s) ≡ with-values (put-values t v values) (with-regs (put-regs t v (s .regs)) s)
 
 -- what a Slot says of a destination
 pub record Targets (env : Env) (s : Config) (o : Operand) (end : ℕ) (t : Slot) : Type 0 where

@@ -2,7 +2,6 @@ pub mod Config
 pub mod Flags
 pub mod Steps
 pub mod Running
-pub mod Found
 pub mod Lent
 pub mod Stepped
 pub mod Families

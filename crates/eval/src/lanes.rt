@@ -1,27 +1,28 @@
 // Instructions on the four words of an xmm.
 ghost use mathlib.Core.Path.{_≡_};
 ghost use mathlib.Core.List.{List};
-ghost use Prim.Native.Nat.{ℕ, _+_, _%_, _<_, _≤_};
+ghost use Prim.Native.Nat.{ℕ, _+_, _<_, _≤_};
 ghost use lib.ListN.{length, getD};
-ghost use Rattle.words.specs.Words.{two-select, four-to-two-two};
-ghost use Rattle.words.specs.Types.{double32, quad32};
-ghost use Rattle.machine.specs.Registers.{xmm-at, set-xmm};
+ghost use Rattle.words.specs.Types.{quad32};
 ghost use Rattle.code.specs.Tree.{Pshufd, VPSLLDQ, Pextrq};
-ghost use Rattle.code.specs.Records.{operand-at};
-ghost use Rattle.code.specs.Records as Records;
+ghost use Rattle.code.specs.Records.{operand-at, behind};
+ghost use Rattle.code.specs.Spells.{OperandsFrom};
+ghost use Rattle.code.specs.Families.{at-kind, quads-ins, shifts-ins, inserts-ins};
 ghost use Rattle.eval.specs.Config.{Env};
 ghost use Rattle.eval.specs.Steps.{run-ins};
-ghost use Rattle.eval.specs.Lent.{environment, held, Cells, OperandsFrom};
+ghost use Rattle.eval.specs.Lent.{environment, held, Cells};
 ghost use Rattle.eval.specs.Stepped.{Ran};
-ghost use Rattle.eval.specs.Families.{at-kind, quads-ins, quads-word, shifts-ins, shifts-word, inserts-ins, inserts-word};
+ghost use Rattle.eval.specs.Families.{quads-word, shifts-word, inserts-word};
 use crate::operand::put;
 use crate::operand::source;
 use crate::operand::target;
 use crate::step::Step;
-use words::Double32;
+use machine::set_xmm;
+use machine::xmm_at;
 use words::Quad32;
 use words::add_lanes;
 use words::equal_lanes;
+use words::extract_nat64;
 use words::insert_nat32;
 use words::insert_nat64;
 use words::quad32_xor;
@@ -29,37 +30,6 @@ use words::shift_quad;
 use words::shl_lanes;
 use words::shr_lanes;
 use words::shuffle_lanes;
-use words::two_to_nat;
-
-fn wide(x: u8) -> usize
-    ensures { λ r. ⌜ r ≡ x ⌝ }
-{
-    x as usize
-}
-
-fn quad(xmms: &[u32; 64], x: u8) -> Quad32
-    requires { ⌜ x < 16 ⌝ }
-    ensures { λ r. ⌜ quad32 r ≡ xmm-at (now (xmms .entry)) x ⌝ }
-{
-    let i = 4 * wide(x);
-    Quad32 {
-        lo0: xmms[i],
-        lo1: xmms[i + 1],
-        hi2: xmms[i + 2],
-        hi3: xmms[i + 3],
-    }
-}
-
-fn set_quad(xmms: &mut [u32; 64], x: u8, q: Quad32)
-    requires { ⌜ x < 16 ⌝ }
-    ensures { λ _. ⌜ now (xmms .exit) ≡ set-xmm (now (xmms .entry)) x (quad32 q) ⌝ }
-{
-    let i = 4 * wide(x);
-    xmms[i] = q.lo0;
-    xmms[i + 1] = q.lo1;
-    xmms[i + 2] = q.hi2;
-    xmms[i + 3] = q.hi3;
-}
 
 fn combined(kind: u8, x: Quad32, y: Quad32) -> Quad32
     ensures { λ r. ⌜ quad32 r ≡ quads-word kind (quad32 x) (quad32 y) ⌝ }
@@ -87,8 +57,8 @@ pub fn two_quads(code: &[u8], at: usize, fill: u64, xmms: &mut [u32; 64], flags:
 {
     let kind = code[at];
     let dst = code[at + 1];
-    let q = combined(kind, quad(xmms, dst), quad(xmms, code[at + 2]));
-    set_quad(xmms, dst, q);
+    let q = combined(kind, xmm_at(xmms, dst), xmm_at(xmms, code[at + 2]));
+    set_xmm(xmms, dst, q);
     *flags = quads_flags(kind, fill, *flags);
     Step {
         number: 0,
@@ -120,7 +90,7 @@ pub fn shift_words(code: &[u8], at: usize, xmms: &mut [u32; 64]) -> Step
             place: at,
         };
     }
-    set_quad(xmms, dst, shifted(code[at], quad(xmms, dst), amount));
+    set_xmm(xmms, dst, shifted(code[at], xmm_at(xmms, dst), amount));
     Step {
         number: 0,
         place: at + 3,
@@ -134,8 +104,8 @@ pub fn shuffle(code: &[u8], at: usize, xmms: &mut [u32; 64]) -> Step
     requires { ⌜ getD (now code) (at + 2) 0 < 16 ⌝ }
     ensures { λ r. ⌜ ((env : Env) (regs values : List ℕ) (flags : ℕ) → Ran (run-ins env at (Pshufd (getD (now (code .entry)) (at + 1) 0) (getD (now (code .entry)) (at + 2) 0) (getD (now (code .entry)) (at + 3) 0)) (held regs (now (xmms .entry)) flags values)) (at + 4) r (held regs (now (xmms .exit)) flags values)) ⌝ }
 {
-    let q = quad(xmms, code[at + 2]);
-    set_quad(xmms, code[at + 1], shuffle_lanes(q, code[at + 3]));
+    let q = xmm_at(xmms, code[at + 2]);
+    set_xmm(xmms, code[at + 1], shuffle_lanes(q, code[at + 3]));
     Step {
         number: 0,
         place: at + 4,
@@ -155,28 +125,11 @@ pub fn shift_by_word(code: &[u8], at: usize, xmms: &mut [u32; 64]) -> Step
             place: at,
         };
     }
-    let q = quad(xmms, code[at + 2]);
-    set_quad(xmms, code[at + 1], shift_quad(q));
+    let q = xmm_at(xmms, code[at + 2]);
+    set_xmm(xmms, code[at + 1], shift_quad(q));
     Step {
         number: 0,
         place: at + 4,
-    }
-}
-
-// The pair of words that the low bit of the index names.
-fn pair_of(q: Quad32, index: u8) -> Double32
-    ensures { λ r. ⌜ double32 r ≡ two-select (four-to-two-two (quad32 q)) (index % 2) ⌝ }
-{
-    if index % 2 == 0 {
-        Double32 {
-            lo: q.lo0,
-            hi: q.lo1,
-        }
-    } else {
-        Double32 {
-            lo: q.hi2,
-            hi: q.hi3,
-        }
     }
 }
 
@@ -193,7 +146,7 @@ pub fn extract(
     requires { ⌜ OperandsFrom 1 (now code) (at + 3) ⌝ }
     requires { ⌜ getD (now code) (at + 1) 0 < 16 ⌝ }
     requires { ⌜ Cells (now addresses) (now tags) (now values) ⌝ }
-    ensures { λ r. ⌜ ((fill flags : ℕ) → Ran (run-ins (environment (now (addresses .entry)) (now (tags .entry)) fill) at (Pextrq (operand-at (now (code .entry)) (at + 3)) (getD (now (code .entry)) (at + 1) 0) (getD (now (code .entry)) (at + 2) 0)) (held (now (regs .entry)) (now (xmms .entry)) flags (now (values .entry)))) (Records.behind (now (code .entry)) (at + 3)) r (held (now (regs .exit)) (now (xmms .entry)) flags (now (values .exit)))) ⌝ }
+    ensures { λ r. ⌜ ((fill flags : ℕ) → Ran (run-ins (environment (now (addresses .entry)) (now (tags .entry)) fill) at (Pextrq (operand-at (now (code .entry)) (at + 3)) (getD (now (code .entry)) (at + 1) 0) (getD (now (code .entry)) (at + 2) 0)) (held (now (regs .entry)) (now (xmms .entry)) flags (now (values .entry)))) (behind (now (code .entry)) (at + 3)) r (held (now (regs .exit)) (now (xmms .entry)) flags (now (values .exit)))) ⌝ }
 {
     let dst = target(code, at + 3, regs, addresses, tags, values);
     if !dst.valid {
@@ -202,8 +155,8 @@ pub fn extract(
             place: at,
         };
     }
-    let two = pair_of(quad(xmms, code[at + 1]), code[at + 2]);
-    put(dst, two_to_nat(two), regs, values);
+    let word = extract_nat64(xmm_at(xmms, code[at + 1]), code[at + 2]);
+    put(dst, word, regs, values);
     Step {
         number: 0,
         place: dst.next,
@@ -233,7 +186,7 @@ pub fn insert(
     requires { ⌜ OperandsFrom 1 (now code) (at + 3) ⌝ }
     requires { ⌜ getD (now code) (at + 1) 0 < 16 ⌝ }
     requires { ⌜ Cells (now addresses) (now tags) (now values) ⌝ }
-    ensures { λ r. ⌜ ((fill flags : ℕ) → Ran (run-ins (environment (now (addresses .entry)) (now (tags .entry)) fill) at (inserts-ins (getD (now (code .entry)) at 0) (getD (now (code .entry)) (at + 1) 0) (operand-at (now (code .entry)) (at + 3)) (getD (now (code .entry)) (at + 2) 0)) (held (now (regs .entry)) (now (xmms .entry)) flags (now (values .entry)))) (Records.behind (now (code .entry)) (at + 3)) r (held (now (regs .entry)) (now (xmms .exit)) flags (now (values .entry)))) ⌝ }
+    ensures { λ r. ⌜ ((fill flags : ℕ) → Ran (run-ins (environment (now (addresses .entry)) (now (tags .entry)) fill) at (inserts-ins (getD (now (code .entry)) at 0) (getD (now (code .entry)) (at + 1) 0) (operand-at (now (code .entry)) (at + 3)) (getD (now (code .entry)) (at + 2) 0)) (held (now (regs .entry)) (now (xmms .entry)) flags (now (values .entry)))) (behind (now (code .entry)) (at + 3)) r (held (now (regs .entry)) (now (xmms .exit)) flags (now (values .entry)))) ⌝ }
 {
     let src = source(code, at + 3, regs, addresses, tags, values);
     if !src.found {
@@ -243,8 +196,8 @@ pub fn insert(
         };
     }
     let dst = code[at + 1];
-    let q = inserted(code[at], quad(xmms, dst), src.word, code[at + 2]);
-    set_quad(xmms, dst, q);
+    let q = inserted(code[at], xmm_at(xmms, dst), src.word, code[at + 2]);
+    set_xmm(xmms, dst, q);
     Step {
         number: 0,
         place: src.next,

@@ -1,26 +1,24 @@
 // Operands: where a source is read, and where a destination is written.
 ghost use mathlib.Core.Path.{_≡_};
 ghost use mathlib.Core.List.{List};
-ghost use Prim.Native.Nat.{ℕ, _≤_};
-ghost use lib.ListN.{length, getD};
+ghost use mathlib.Core.Bool.{true};
+ghost use Prim.Native.Nat.{ℕ, _<_};
+ghost use lib.ListN.{length};
 ghost use Rattle.machine.specs.declared.Maddr.{Maddr};
 ghost use Rattle.machine.specs.declared.Operand.the-variants.{OMem};
-ghost use Rattle.machine.specs.Operands.{word-of, in-range, eval-maddr};
-ghost use Rattle.machine.specs.Cells.{Searchable, find-cell};
-ghost use Rattle.code.specs.Records as Records;
-ghost use Rattle.code.specs.Records.{is-operand, operand-at};
-ghost use Rattle.code.specs.Spells.{IsRecord};
-ghost use Rattle.eval.specs.Found.{IndexOf};
+ghost use Rattle.machine.specs.Operands.{eval-maddr};
+ghost use Rattle.machine.specs.Cells.{Searchable, find-cell, index-of};
+ghost use Rattle.code.specs.Records.{operand-at, behind};
+ghost use Rattle.code.specs.Spells.{OperandBytes};
+ghost use Rattle.code.specs.Forms.{form-of};
+ghost use Rattle.code.specs.declared.records.Form.the-variants.{Memory};
 ghost use Rattle.eval.specs.Lent.{environment, held, Cells, Reads, Targets, InBounds, no-slot, put-regs, put-values};
-use code::number8;
-use code::signed2;
-use code::signed8;
-use machine::Address;
+use code::Form;
+use code::form_at;
+use code::memory_at;
+use code::operand_behind;
 use machine::Found;
-use machine::Reg;
-use machine::exact_address;
-use machine::find_cell;
-use machine::register_address;
+use machine::cell_of;
 
 // A source: whether it can be read, its word, and the place behind its record.
 pub struct Reading {
@@ -39,58 +37,16 @@ pub struct Slot {
     pub next: usize,
 }
 
-fn wide(x: u8) -> usize
-    ensures { λ r. ⌜ r ≡ x ⌝ }
-{
-    x as usize
-}
-
-// The place behind an operand's record.
-pub fn behind(code: &[u8], at: usize) -> usize
-    requires { ⌜ IsRecord is-operand (now code) at (length (now code)) ⌝ }
-    ensures { λ r. ⌜ r ≡ Records.behind (now (code .entry)) at ⌝ }
-{
-    match code[at] {
-        0x41 => at + 2,
-        0x43 => at + 10,
-        0x44 => at + 13,
-        _ => at + 9,
-    }
-}
-
-// The address of the memory operand at a place.
-fn address_at(code: &[u8], at: usize, regs: &[u64; 16]) -> Address
-    requires { ⌜ IsRecord is-operand (now code) at (length (now code)) ⌝ }
-    requires { ⌜ 0x42 ≤ getD (now code) at 0 ⌝ }
-    ensures { λ r. ⌜ ((m : Maddr) → operand-at (now (code .entry)) at ≡ OMem m → word-of r ≡ in-range (eval-maddr m (now (regs .entry)))) ⌝ }
-{
-    let kind = code[at];
-    if kind == 0x42 {
-        return Address::Inside(number8(code, at + 1));
-    }
-    let base = regs[wide(code[at + 1])];
-    if kind == 0x43 {
-        return register_address(base, signed8(code, at + 2));
-    }
-    let index = regs[wide(code[at + 4])];
-    exact_address(base, signed2(code, at + 2), index, signed8(code, at + 5))
-}
-
-// The index of the cell of the memory operand at a place; the number of cells where there is none.
-// It stands apart, so that operands that are no memory are read in place.
-fn cell_at(code: &[u8], at: usize, regs: &[u64; 16], addresses: &[u64], tags: &[u8]) -> usize
-    requires { ⌜ IsRecord is-operand (now code) at (length (now code)) ⌝ }
-    requires { ⌜ 0x42 ≤ getD (now code) at 0 ⌝ }
+// The cell of the memory operand at a place. It stands apart, so that operands that are no memory are
+// read in place.
+fn cell_at(code: &[u8], at: usize, regs: &[u64; 16], addresses: &[u64], tags: &[u8]) -> Found
+    requires { ⌜ OperandBytes (now code) at ⌝ }
+    requires { ⌜ form-of (operand-at (now code) at) ≡ Memory ⌝ }
     requires { ⌜ Searchable (now addresses) (now tags) ⌝ }
-    ensures { λ r. ⌜ ((m : Maddr) → operand-at (now (code .entry)) at ≡ OMem m → IndexOf (find-cell (now (addresses .entry)) (now (tags .entry)) (eval-maddr m (now (regs .entry)))) (length (now (addresses .entry))) r) ⌝ }
+    ensures { λ r. ⌜ ((m : Maddr) → operand-at (now (code .entry)) at ≡ OMem m → index-of r ≡ find-cell (now (addresses .entry)) (now (tags .entry)) (eval-maddr m (now (regs .entry)))) ⌝ }
 {
-    match address_at(code, at, regs) {
-        Address::Inside(word) => match find_cell(addresses, tags, word) {
-            Found::At(i) => i,
-            Found::Nothing => addresses.len(),
-        },
-        Address::Outside => addresses.len(),
-    }
+    let m = memory_at(code, at);
+    cell_of(m, regs, addresses, tags)
 }
 
 pub fn source(
@@ -101,39 +57,38 @@ pub fn source(
     tags: &[u8],
     values: &[u64],
 ) -> Reading
-    requires { ⌜ IsRecord is-operand (now code) at (length (now code)) ⌝ }
+    requires { ⌜ OperandBytes (now code) at ⌝ }
     requires { ⌜ Cells (now addresses) (now tags) (now values) ⌝ }
-    ensures { λ r. ⌜ ((fill flags : ℕ) (xmms : List ℕ) → Reads (environment (now (addresses .entry)) (now (tags .entry)) fill) (held (now (regs .entry)) xmms flags (now (values .entry))) (operand-at (now (code .entry)) at) (Records.behind (now (code .entry)) at) r) ⌝ }
+    ensures { λ r. ⌜ ((fill flags : ℕ) (xmms : List ℕ) → Reads (environment (now (addresses .entry)) (now (tags .entry)) fill) (held (now (regs .entry)) xmms flags (now (values .entry))) (operand-at (now (code .entry)) at) (behind (now (code .entry)) at) r) ⌝ }
 {
-    let kind = code[at];
-    if kind == 0x41 {
-        return Reading {
+    let next = operand_behind(code, at);
+    let form = form_at(code, at);
+    match form {
+        Form::Const(word) => Reading {
             found: true,
-            word: regs[wide(code[at + 1])],
-            next: at + 2,
-        };
-    }
-    if kind == 0x40 {
-        return Reading {
-            found: true,
-            word: number8(code, at + 1),
-            next: at + 9,
-        };
-    }
-    let next = behind(code, at);
-    let cell = cell_at(code, at, regs, addresses, tags);
-    if cell < values.len() {
-        Reading {
-            found: true,
-            word: values[cell],
+            word,
             next,
+        },
+        Form::Register(register) => {
+            let index = register.number as usize;
+            Reading {
+                found: true,
+                word: regs[index],
+                next,
+            }
         }
-    } else {
-        Reading {
-            found: false,
-            word: 0,
-            next,
-        }
+        Form::Memory => match cell_at(code, at, regs, addresses, tags) {
+            Found::At(index) => Reading {
+                found: true,
+                word: values[index],
+                next,
+            },
+            Found::Nothing => Reading {
+                found: false,
+                word: 0,
+                next,
+            },
+        },
     }
 }
 
@@ -158,43 +113,51 @@ pub fn target(
     tags: &[u8],
     values: &[u64],
 ) -> Slot
-    requires { ⌜ IsRecord is-operand (now code) at (length (now code)) ⌝ }
+    requires { ⌜ OperandBytes (now code) at ⌝ }
     requires { ⌜ Cells (now addresses) (now tags) (now values) ⌝ }
-    ensures { λ r. ⌜ ((fill flags : ℕ) (xmms : List ℕ) → Targets (environment (now (addresses .entry)) (now (tags .entry)) fill) (held (now (regs .entry)) xmms flags (now (values .entry))) (operand-at (now (code .entry)) at) (Records.behind (now (code .entry)) at) r) ⌝ }
+    ensures { λ r. ⌜ ((fill flags : ℕ) (xmms : List ℕ) → Targets (environment (now (addresses .entry)) (now (tags .entry)) fill) (held (now (regs .entry)) xmms flags (now (values .entry))) (operand-at (now (code .entry)) at) (behind (now (code .entry)) at) r) ⌝ }
 {
-    let kind = code[at];
-    let next = behind(code, at);
-    if kind == 0x40 {
-        return nowhere(next);
-    }
-    if kind == 0x41 {
-        let register = Reg {
-            number: code[at + 1],
-        };
-        if register.is_rsp() {
-            return nowhere(next);
+    let next = operand_behind(code, at);
+    let form = form_at(code, at);
+    match form {
+        Form::Const(_) => nowhere(next),
+        Form::Register(register) => {
+            if register.is_rsp() {
+                return nowhere(next);
+            }
+            let index = register.number as usize;
+            Slot {
+                valid: true,
+                register: true,
+                index,
+                word: regs[index],
+                next,
+            }
         }
-        let index = wide(code[at + 1]);
-        return Slot {
-            valid: true,
-            register: true,
-            index,
-            word: regs[index],
-            next,
-        };
+        Form::Memory => match cell_at(code, at, regs, addresses, tags) {
+            Found::At(index) => Slot {
+                valid: true,
+                register: false,
+                index,
+                word: values[index],
+                next,
+            },
+            Found::Nothing => nowhere(next),
+        },
     }
-    let index = cell_at(code, at, regs, addresses, tags);
-    if index < values.len() {
-        Slot {
-            valid: true,
-            register: false,
-            index,
-            word: values[index],
-            next,
-        }
-    } else {
-        nowhere(next)
+}
+
+// The registers as `put` will leave them.
+pub fn registers_with(t: Slot, word: u64, regs: &[u64; 16]) -> [u64; 16]
+    requires { ⌜ (t .register ≡ true → t .index < 16) ⌝ }
+    ensures { λ r. ⌜ r ≡ put-regs t word (now (regs .entry)) ⌝ }
+{
+    let mut after = *regs;
+    if t.register {
+        let index = t.index;
+        after[index] = word;
     }
+    after
 }
 
 // The one place that writes a destination.

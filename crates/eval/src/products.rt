@@ -3,16 +3,17 @@ ghost use mathlib.Core.Path.{_≡_};
 ghost use mathlib.Core.List.{List};
 ghost use Prim.Native.Nat.{ℕ, _+_};
 ghost use Rattle.code.specs.Tree.{Mul64, Mulx64};
-ghost use Rattle.code.specs.Records.{operand-at};
-ghost use Rattle.code.specs.Records as Records;
+ghost use Rattle.code.specs.Records.{operand-at, behind};
+ghost use Rattle.code.specs.Spells.{OperandsFrom};
 ghost use Rattle.eval.specs.Steps.{run-ins};
-ghost use Rattle.eval.specs.Lent.{environment, held, Cells, OperandsFrom};
+ghost use Rattle.eval.specs.Lent.{environment, held, Cells};
 ghost use Rattle.eval.specs.Stepped.{Ran};
-use crate::operand::behind;
 use crate::operand::put;
+use crate::operand::registers_with;
 use crate::operand::source;
 use crate::operand::target;
 use crate::step::Step;
+use code::operand_behind;
 use machine::Reg;
 use words::mul_wide;
 
@@ -28,7 +29,7 @@ pub fn multiply(
 ) -> Step
     requires { ⌜ OperandsFrom 1 (now code) (at + 1) ⌝ }
     requires { ⌜ Cells (now addresses) (now tags) (now values) ⌝ }
-    ensures { λ r. ⌜ ((xmms : List ℕ) → Ran (run-ins (environment (now (addresses .entry)) (now (tags .entry)) fill) at (Mul64 (operand-at (now (code .entry)) (at + 1))) (held (now (regs .entry)) xmms (now (flags .entry)) (now (values .entry)))) (Records.behind (now (code .entry)) (at + 1)) r (held (now (regs .exit)) xmms (now (flags .exit)) (now (values .entry)))) ⌝ }
+    ensures { λ r. ⌜ ((xmms : List ℕ) → Ran (run-ins (environment (now (addresses .entry)) (now (tags .entry)) fill) at (Mul64 (operand-at (now (code .entry)) (at + 1))) (held (now (regs .entry)) xmms (now (flags .entry)) (now (values .entry)))) (behind (now (code .entry)) (at + 1)) r (held (now (regs .exit)) xmms (now (flags .exit)) (now (values .entry)))) ⌝ }
 {
     let src = source(code, at + 1, regs, addresses, tags, values);
     if !src.found {
@@ -51,8 +52,9 @@ pub fn multiply(
     }
 }
 
-// The low half is written, and the high destination is resolved in the state after that: where it is
-// invalid, the old word goes back.
+// The high destination is resolved in the state after the low half is written, which it depends on only where
+// that is a register: so it is looked for with the registers as they will be, and nothing is written until it is
+// found.
 pub fn multiply_into(
     code: &[u8],
     at: usize,
@@ -63,9 +65,9 @@ pub fn multiply_into(
 ) -> Step
     requires { ⌜ OperandsFrom 3 (now code) (at + 1) ⌝ }
     requires { ⌜ Cells (now addresses) (now tags) (now values) ⌝ }
-    ensures { λ r. ⌜ ((fill flags : ℕ) (xmms : List ℕ) → Ran (run-ins (environment (now (addresses .entry)) (now (tags .entry)) fill) at (Mulx64 (operand-at (now (code .entry)) (at + 1)) (operand-at (now (code .entry)) (Records.behind (now (code .entry)) (at + 1))) (operand-at (now (code .entry)) (Records.behind (now (code .entry)) (Records.behind (now (code .entry)) (at + 1))))) (held (now (regs .entry)) xmms flags (now (values .entry)))) (Records.behind (now (code .entry)) (Records.behind (now (code .entry)) (Records.behind (now (code .entry)) (at + 1)))) r (held (now (regs .exit)) xmms flags (now (values .exit)))) ⌝ }
+    ensures { λ r. ⌜ ((fill flags : ℕ) (xmms : List ℕ) → Ran (run-ins (environment (now (addresses .entry)) (now (tags .entry)) fill) at (Mulx64 (operand-at (now (code .entry)) (at + 1)) (operand-at (now (code .entry)) (behind (now (code .entry)) (at + 1))) (operand-at (now (code .entry)) (behind (now (code .entry)) (behind (now (code .entry)) (at + 1))))) (held (now (regs .entry)) xmms flags (now (values .entry)))) (behind (now (code .entry)) (behind (now (code .entry)) (behind (now (code .entry)) (at + 1)))) r (held (now (regs .exit)) xmms flags (now (values .exit)))) ⌝ }
 {
-    let second = behind(code, at + 1);
+    let second = operand_behind(code, at + 1);
     let low = target(code, second, regs, addresses, tags, values);
     let src = source(code, low.next, regs, addresses, tags, values);
     if !src.found {
@@ -83,15 +85,15 @@ pub fn multiply_into(
     let rdx = Reg::RDX;
     let from = rdx.number as usize;
     let product = mul_wide(regs[from], src.word);
-    put(low, product.low, regs, values);
-    let high = target(code, at + 1, regs, addresses, tags, values);
+    let after = registers_with(low, product.low, regs);
+    let high = target(code, at + 1, &after, addresses, tags, values);
     if !high.valid {
-        put(low, low.word, regs, values);
         return Step {
             number: 32,
             place: at,
         };
     }
+    put(low, product.low, regs, values);
     put(high, product.high, regs, values);
     Step {
         number: 0,

@@ -6,12 +6,12 @@ ghost use Prim.Native.Nat.{ℕ, _+_};
 ghost use lib.Dec.{leb};
 ghost use lib.ListN.{getD};
 ghost use Rattle.code.specs.Tree.{AddLea64};
-ghost use Rattle.code.specs.Records.{operand-at};
-ghost use Rattle.code.specs.Records as Records;
+ghost use Rattle.code.specs.Records.{operand-at, behind};
+ghost use Rattle.code.specs.Spells.{OperandsFrom};
+ghost use Rattle.code.specs.Families.{is-two, two-ins};
 ghost use Rattle.eval.specs.Steps.{run-ins};
-ghost use Rattle.eval.specs.Lent.{environment, held, Cells, OperandsFrom};
+ghost use Rattle.eval.specs.Lent.{environment, held, Cells};
 ghost use Rattle.eval.specs.Stepped.{Ran};
-ghost use Rattle.eval.specs.Families.{is-two, two-ins};
 use crate::arithmetic::effect_of;
 use crate::operand::put;
 use crate::operand::source;
@@ -41,7 +41,7 @@ pub fn two_operands(
     requires { ⌜ OperandsFrom 2 (now code) (at + 1) ⌝ }
     requires { ⌜ is-two (getD (now code) at 0) ≡ true ⌝ }
     requires { ⌜ Cells (now addresses) (now tags) (now values) ⌝ }
-    ensures { λ r. ⌜ ((xmms : List ℕ) → Ran (run-ins (environment (now (addresses .entry)) (now (tags .entry)) fill) at (two-ins (getD (now (code .entry)) at 0) (operand-at (now (code .entry)) (at + 1)) (operand-at (now (code .entry)) (Records.behind (now (code .entry)) (at + 1)))) (held (now (regs .entry)) xmms (now (flags .entry)) (now (values .entry)))) (Records.behind (now (code .entry)) (Records.behind (now (code .entry)) (at + 1))) r (held (now (regs .exit)) xmms (now (flags .exit)) (now (values .exit)))) ⌝ }
+    ensures { λ r. ⌜ ((xmms : List ℕ) → Ran (run-ins (environment (now (addresses .entry)) (now (tags .entry)) fill) at (two-ins (getD (now (code .entry)) at 0) (operand-at (now (code .entry)) (at + 1)) (operand-at (now (code .entry)) (behind (now (code .entry)) (at + 1)))) (held (now (regs .entry)) xmms (now (flags .entry)) (now (values .entry)))) (behind (now (code .entry)) (behind (now (code .entry)) (at + 1))) r (held (now (regs .exit)) xmms (now (flags .exit)) (now (values .exit)))) ⌝ }
 {
     let kind = code[at];
     let dst = target(code, at + 1, regs, addresses, tags, values);
@@ -83,7 +83,7 @@ pub fn add_lea(
 ) -> Step
     requires { ⌜ OperandsFrom 3 (now code) (at + 1) ⌝ }
     requires { ⌜ Cells (now addresses) (now tags) (now values) ⌝ }
-    ensures { λ r. ⌜ ((fill flags : ℕ) (xmms : List ℕ) → Ran (run-ins (environment (now (addresses .entry)) (now (tags .entry)) fill) at (AddLea64 (operand-at (now (code .entry)) (at + 1)) (operand-at (now (code .entry)) (Records.behind (now (code .entry)) (at + 1))) (operand-at (now (code .entry)) (Records.behind (now (code .entry)) (Records.behind (now (code .entry)) (at + 1))))) (held (now (regs .entry)) xmms flags (now (values .entry)))) (Records.behind (now (code .entry)) (Records.behind (now (code .entry)) (Records.behind (now (code .entry)) (at + 1)))) r (held (now (regs .exit)) xmms flags (now (values .exit)))) ⌝ }
+    ensures { λ r. ⌜ ((fill flags : ℕ) (xmms : List ℕ) → Ran (run-ins (environment (now (addresses .entry)) (now (tags .entry)) fill) at (AddLea64 (operand-at (now (code .entry)) (at + 1)) (operand-at (now (code .entry)) (behind (now (code .entry)) (at + 1))) (operand-at (now (code .entry)) (behind (now (code .entry)) (behind (now (code .entry)) (at + 1))))) (held (now (regs .entry)) xmms flags (now (values .entry)))) (behind (now (code .entry)) (behind (now (code .entry)) (behind (now (code .entry)) (at + 1)))) r (held (now (regs .exit)) xmms flags (now (values .exit)))) ⌝ }
 {
     let dst = target(code, at + 1, regs, addresses, tags, values);
     let one = source(code, dst.next, regs, addresses, tags, values);

@@ -5,6 +5,20 @@ use native.Mathlib.Nat.{zero-add, suc-add, add-assoc, mul-assoc, mul-comm, mul-a
 use native.Mathlib.Omega.{arith}
 use Rattle.machine.specs.Bytes.{byte, spelled}
 
+-- ---- the bytes of a number
+pub byte-first : (v : ℕ) → byte 0 v ≡ v % 256
+unfolding byte
+byte-first v = refl
+
+pub byte-next : (j v : ℕ) → byte (suc j) v ≡ byte j (v / 256)
+unfolding byte
+byte-next j v = refl
+
+-- ---- the number of some bytes
+pub spelled-one : (f : ℕ → ℕ) → spelled 1 f ≡ f 0
+unfolding spelled
+spelled-one f = omega arith
+
 pub spelled-cong : (n : ℕ) (f g : ℕ → ℕ) → ((j : ℕ) → j < n → f j ≡ g j) → spelled n f ≡ spelled n g
 unfolding spelled
 spelled-cong zero f g e = refl

@@ -1,57 +1,79 @@
--- A source that cannot be read is the fault 31; else the quad with its word is written.
-use mathlib.Core.Path.{refl}
+-- A source that cannot be read is the fault 31; else its word goes into the quad. Assumes nothing.
 use native.Mathlib.Omega.{arith}
-use Prim.Native.Nat.{_+_}
-use lib.ListN.{getD}
-use borrow.Author.Tests.{not-true, not-false}
-use Rattle.code.specs.Records.{operand-at, behind}
-use Rattle.eval.proofs.OperandLaws.{frame}
-use Rattle.eval.proofs.LaneLaws.{inserts-unread, inserts-done}
 use borrow.Author.Needs.{needs}
+use borrow.Author.Tests.{not-true, not-false}
+use Rattle.code.proofs.Frames.{operand-frame}
+use Rattle.eval.proofs.LaneLaws.{inserts-unread, inserts-done}
 use Rattle.eval.proofs.lanes.insert.Statement.{statement}
 use Rattle.eval.proofs.lanes.insert.Tie as tie
-use Rattle.eval.proofs.lanes.insert.Reads as reads
-use Rattle.eval.proofs.lanes.insert.Lts as lts
-use Rattle.eval.proofs.lanes.inserted.Reads as inserted-reads
-use Rattle.eval.proofs.lanes.quad.Reads as quad-reads
-use Rattle.eval.proofs.lanes.set_quad.Reads as set-quad-reads
-use Rattle.eval.proofs.operand.source.Reads as source-reads
 
 add-source : tie.Need-add-source
-add-source c = let w = frame (c .before .before .before .before .pre .0 .0) in omega arith
+add-source c =
+    let s = c .before .before .before .before in
+    omega (arith, operand-frame _ _ (s .pre .0 .0) .starts)
 
 source-requires : tie.Need-source-requires
 source-requires c κs = search needs
 
 returns : tie.Need-returns
-returns c = λ fill flags. let R = c .before .before .source .ensures fill flags (c .before .before .before .before .before .before .before .args .xmms .now) in record { ends = inserts-unread (c .before .before .before .before .before .before .before .args .addresses .now) (c .before .before .before .before .before .before .before .args .tags .now) (c .before .before .before .before .before .before .before .args .regs .now) (c .before .before .before .before .before .before .before .args .xmms .now) (c .before .before .before .before .before .before .before .args .values .now) fill flags (c .before .before .before .before .before .before .before .args .at) (operand-at (c .before .before .before .before .before .before .before .args .code .now) (c .before .before .before .before .before .before .before .args .at + 3)) (getD (c .before .before .before .before .before .before .before .args .code .now) (c .before .before .before .before .before .before .before .args .at + 1) 0) (getD (c .before .before .before .before .before .before .before .args .code .now) (c .before .before .before .before .before .before .before .args .at + 2) 0) (behind (c .before .before .before .before .before .before .before .args .code .now) (c .before .before .before .before .before .before .before .args .at + 3)) (c .before .before .source .result) R (not-true _ (c .if1 .taken)) (getD (c .before .before .before .before .before .before .before .args .code .now) (c .before .before .before .before .before .before .before .args .at) 0); next = λ h. absurd (omega arith) }
+returns c =
+    let src = c .before .before .source in
+    let s = c .before .before .before .before .before .before .before in
+    let if1 = c .if1 in
+    λ fill flags.
+    let R = src .ensures fill flags (s .args .xmms .now) in
+    record { ends = inserts-unread _ _ _ _ _ _ _ _ _ _ _ _ _ R (not-true _ (if1 .taken)) _; next = λ h. absurd (omega arith) }
 
 add-dst : tie.Need-add-dst
-add-dst c = let w = frame (c .before .before .before .before .before .before .before .pre .0 .0) in omega arith
+add-dst c =
+    let s = c .before .before .before .before .before .before .before in
+    omega (arith, operand-frame _ _ (s .pre .0 .0) .starts)
 
 shared-slice-read-dst : tie.Need-shared-slice-read-dst
-shared-slice-read-dst c = let w = frame (c .before .before .before .before .before .before .before .before .pre .0 .0) in omega arith
+shared-slice-read-dst c =
+    let s = c .before .before .before .before .before .before .before .before in
+    omega (arith, operand-frame _ _ (s .pre .0 .0) .starts)
 
 shared-slice-read-inserted : tie.Need-shared-slice-read-inserted
-shared-slice-read-inserted c = let w = frame (c .before .before .before .before .before .before .before .before .before .pre .0 .0) in omega arith
+shared-slice-read-inserted c =
+    let s = c .before .before .before .before .before .before .before .before .before in
+    omega (arith, operand-frame _ _ (s .pre .0 .0) .starts)
 
-quad-requires : tie.Need-quad-requires
-quad-requires c κs = search needs
+xmm-at-requires : tie.Need-xmm-at-requires
+xmm-at-requires c κs = search needs
 
 add-inserted : tie.Need-add-inserted
-add-inserted c = let w = frame (c .before .before .before .before .before .before .before .before .before .before .before .pre .0 .0) in omega arith
+add-inserted c =
+    let s = c .before .before .before .before .before .before .before .before .before .before .before in
+    omega (arith, operand-frame _ _ (s .pre .0 .0) .starts)
 
 shared-slice-read-inserted-2 : tie.Need-shared-slice-read-inserted-2
-shared-slice-read-inserted-2 c = let w = frame (c .before .before .before .before .before .before .before .before .before .before .before .before .pre .0 .0) in omega arith
+shared-slice-read-inserted-2 c =
+    let s = c .before .before .before .before .before .before .before .before .before .before .before .before in
+    omega (arith, operand-frame _ _ (s .pre .0 .0) .starts)
 
 inserted-requires : tie.Need-inserted-requires
 inserted-requires c κs = search needs
 
-set-quad-requires : tie.Need-set-quad-requires
-set-quad-requires c κs = search needs
+set-xmm-requires : tie.Need-set-xmm-requires
+set-xmm-requires c κs = search needs
 
 returns-2 : tie.Need-returns-2
-returns-2 c = λ fill flags. let R = c .before .before .before .before .before .before .before .before .before .before .source .ensures fill flags (c .before .before .before .before .before .before .before .before .before .before .before .before .before .before .before .args .xmms .now) in record { ends = inserts-done (c .before .before .before .before .before .before .before .before .before .before .before .before .before .before .before .args .addresses .now) (c .before .before .before .before .before .before .before .before .before .before .before .before .before .before .before .args .tags .now) (c .before .before .before .before .before .before .before .before .before .before .before .before .before .before .before .args .regs .now) (c .before .before .before .before .before .before .before .before .before .before .before .before .before .before .before .args .xmms .now) (c .before .before .before .before .before .before .before .before .before .before .before .before .before .before .before .args .values .now) fill flags (c .before .before .before .before .before .before .before .before .before .before .before .before .before .before .before .args .at) (operand-at (c .before .before .before .before .before .before .before .before .before .before .before .before .before .before .before .args .code .now) (c .before .before .before .before .before .before .before .before .before .before .before .before .before .before .before .args .at + 3)) (getD (c .before .before .before .before .before .before .before .before .before .before .before .before .before .before .before .args .code .now) (c .before .before .before .before .before .before .before .before .before .before .before .before .before .before .before .args .at + 1) 0) (getD (c .before .before .before .before .before .before .before .before .before .before .before .before .before .before .before .args .code .now) (c .before .before .before .before .before .before .before .before .before .before .before .before .before .before .before .args .at + 2) 0) (behind (c .before .before .before .before .before .before .before .before .before .before .before .before .before .before .before .args .code .now) (c .before .before .before .before .before .before .before .before .before .before .before .before .before .before .before .args .at + 3)) (c .before .before .before .before .before .before .before .before .before .before .source .result) R (not-false _ (c .before .before .before .before .before .before .before .before .if1 .left)) (getD (c .before .before .before .before .before .before .before .before .before .before .before .before .before .before .before .args .code .now) (c .before .before .before .before .before .before .before .before .before .before .before .before .before .before .before .args .at) 0) (c .before .before .before .before .quad .result) (c .before .before .inserted .result) _ (c .before .before .before .before .quad .ensures) (c .before .before .inserted .ensures) (c .set-quad .ensures); next = λ _. R .next }
+returns-2 c =
+    let src = c .before .before .before .before .before .before .before .before .before .before .source in
+    let s = c .before .before .before .before .before .before .before .before .before .before .before .before .before .before .before in
+    let if1 = c .before .before .before .before .before .before .before .before .if1 in
+    let quad = c .before .before .before .before .xmm-at in
+    let new = c .before .before .inserted in
+    let wrote = c .set-xmm in
+    λ fill flags.
+    let R = src .ensures fill flags (s .args .xmms .now) in
+    record {
+      ends =
+          inserts-done _ _ _ _ _ _ _ _ _ _ _ _ _ R (not-false _ (if1 .left)) _ (quad .result) (new .result) _ (quad .ensures)
+          (new .ensures) (wrote .ensures);
+      next = λ _. R .next;
+    }
 
 pub insert-spec : {M : Type 1} → statement M
 insert-spec =
@@ -63,9 +85,9 @@ insert-spec =
     add-dst
     shared-slice-read-dst
     shared-slice-read-inserted
-    quad-requires
+    xmm-at-requires
     add-inserted
     shared-slice-read-inserted-2
     inserted-requires
-    set-quad-requires
+    set-xmm-requires
     returns-2)

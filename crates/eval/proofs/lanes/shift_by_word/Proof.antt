@@ -1,17 +1,10 @@
--- A count other than 4 is the fault 35; else the shifted quad is written.
+-- A count that is not 4 is the fault 35; else the quad is shifted by a word. Assumes nothing.
 use mathlib.Core.Path.{refl}
 use native.Mathlib.Omega.{arith}
-use Prim.Native.Nat.{_+_}
-use lib.ListN.{getD}
-use Rattle.eval.proofs.LaneLaws.{word-shift-done, word-shift-fails}
 use borrow.Author.Needs.{needs}
+use Rattle.eval.proofs.LaneLaws.{word-shift-fails, word-shift-done}
 use Rattle.eval.proofs.lanes.shift_by_word.Statement.{statement}
 use Rattle.eval.proofs.lanes.shift_by_word.Tie as tie
-use Rattle.eval.proofs.lanes.shift_by_word.Reads as reads
-use Rattle.eval.proofs.lanes.shift_by_word.Lts as lts
-use Rattle.eval.proofs.lanes.quad.Reads as quad-reads
-use Rattle.eval.proofs.lanes.set_quad.Reads as set-quad-reads
-use Rattle.words.proofs.shift_quad.Reads as shift-quad-reads
 
 add-if1 : tie.Need-add-if1
 add-if1 c = search needs
@@ -20,34 +13,47 @@ shared-slice-read-if1 : tie.Need-shared-slice-read-if1
 shared-slice-read-if1 c = search needs
 
 returns : tie.Need-returns
-returns c = λ env regs values flags. record { ends = word-shift-fails env (c .before .before .before .args .at) regs (c .before .before .before .args .xmms .now) values flags (getD (c .before .before .before .args .code .now) (c .before .before .before .args .at + 1) 0) (getD (c .before .before .before .args .code .now) (c .before .before .before .args .at + 2) 0) (getD (c .before .before .before .args .code .now) (c .before .before .before .args .at + 3) 0) (c .if1 .taken); next = λ h. absurd (omega arith) }
+returns c =
+    let if1 = c .if1 in
+    λ env regs values flags. record { ends = word-shift-fails _ _ _ _ _ _ _ _ _ (if1 .taken); next = λ h. absurd (omega arith) }
 
-add-quad : tie.Need-add-quad
-add-quad c = search needs
+add-xmm-at : tie.Need-add-xmm-at
+add-xmm-at c = search needs
 
-shared-slice-read-quad : tie.Need-shared-slice-read-quad
-shared-slice-read-quad c = search needs
+shared-slice-read-xmm-at : tie.Need-shared-slice-read-xmm-at
+shared-slice-read-xmm-at c = search needs
 
-quad-requires : tie.Need-quad-requires
-quad-requires c κs = search needs
+xmm-at-requires : tie.Need-xmm-at-requires
+xmm-at-requires c κs = search needs
 
-add-set-quad : tie.Need-add-set-quad
-add-set-quad c = search needs
+add-set-xmm : tie.Need-add-set-xmm
+add-set-xmm c = search needs
 
-shared-slice-read-set-quad : tie.Need-shared-slice-read-set-quad
-shared-slice-read-set-quad c = search needs
+shared-slice-read-set-xmm : tie.Need-shared-slice-read-set-xmm
+shared-slice-read-set-xmm c = search needs
 
 shift-quad-requires : tie.Need-shift-quad-requires
 shift-quad-requires c κs = search needs
 
-set-quad-requires : tie.Need-set-quad-requires
-set-quad-requires c κs = search needs
+set-xmm-requires : tie.Need-set-xmm-requires
+set-xmm-requires c κs = search needs
 
 add-t5 : tie.Need-add-t5
 add-t5 c = search needs
 
 returns-2 : tie.Need-returns-2
-returns-2 c = λ env regs values flags. record { ends = word-shift-done env (c .before .before .before .before .before .before .before .before .before .before .args .at) regs (c .before .before .before .before .before .before .before .before .before .before .args .xmms .now) values flags (getD (c .before .before .before .before .before .before .before .before .before .before .args .code .now) (c .before .before .before .before .before .before .before .before .before .before .args .at + 1) 0) (getD (c .before .before .before .before .before .before .before .before .before .before .args .code .now) (c .before .before .before .before .before .before .before .before .before .before .args .at + 2) 0) (getD (c .before .before .before .before .before .before .before .before .before .before .args .code .now) (c .before .before .before .before .before .before .before .before .before .before .args .at + 3) 0) (c .before .before .before .before .quad .result) (c .before .shift-quad .result) _ (c .before .before .before .before .before .before .before .if1 .left) (c .before .before .before .before .quad .ensures) (c .before .shift-quad .ensures) (c .set-quad .ensures); next = λ _. refl }
+returns-2 c =
+    let quad = c .before .before .before .before .xmm-at in
+    let new = c .before .shift-quad in
+    let if1 = c .before .before .before .before .before .before .before .if1 in
+    let wrote = c .set-xmm in
+    λ env regs values flags.
+    record {
+      ends =
+          word-shift-done _ _ _ _ _ _ _ _ _ (quad .result) (new .result) _ (if1 .left) (quad .ensures) (new .ensures)
+          (wrote .ensures);
+      next = λ _. refl;
+    }
 
 pub shift-by-word-spec : {M : Type 1} → statement M
 shift-by-word-spec =
@@ -56,12 +62,12 @@ shift-by-word-spec =
     add-if1
     shared-slice-read-if1
     returns
-    add-quad
-    shared-slice-read-quad
-    quad-requires
-    add-set-quad
-    shared-slice-read-set-quad
+    add-xmm-at
+    shared-slice-read-xmm-at
+    xmm-at-requires
+    add-set-xmm
+    shared-slice-read-set-xmm
     shift-quad-requires
-    set-quad-requires
+    set-xmm-requires
     add-t5
     returns-2)

@@ -1,17 +1,10 @@
--- An amount above 31 is the fault 34; else the shifted quad is written.
+-- An amount above 31 is the fault 34; else each word is shifted. Assumes nothing.
 use mathlib.Core.Path.{refl}
 use native.Mathlib.Omega.{arith}
-use Prim.Native.Nat.{_+_}
-use lib.ListN.{getD}
-use Rattle.eval.proofs.LaneLaws.{shifts-done, shifts-fail}
 use borrow.Author.Needs.{needs}
+use Rattle.eval.proofs.LaneLaws.{shifts-fail, shifts-done}
 use Rattle.eval.proofs.lanes.shift_words.Statement.{statement}
 use Rattle.eval.proofs.lanes.shift_words.Tie as tie
-use Rattle.eval.proofs.lanes.shift_words.Reads as reads
-use Rattle.eval.proofs.lanes.shift_words.Lts as lts
-use Rattle.eval.proofs.lanes.quad.Reads as quad-reads
-use Rattle.eval.proofs.lanes.set_quad.Reads as set-quad-reads
-use Rattle.eval.proofs.lanes.shifted.Reads as shifted-reads
 
 add-dst : tie.Need-add-dst
 add-dst c = search needs
@@ -26,25 +19,37 @@ shared-slice-read-amount : tie.Need-shared-slice-read-amount
 shared-slice-read-amount c = search needs
 
 returns : tie.Need-returns
-returns c = λ env regs values flags. record { ends = shifts-fail env (c .before .before .before .before .args .at) regs (c .before .before .before .before .args .xmms .now) values flags (getD (c .before .before .before .before .args .code .now) (c .before .before .before .before .args .at + 1) 0) (getD (c .before .before .before .before .args .code .now) (c .before .before .before .before .args .at + 2) 0) (getD (c .before .before .before .before .args .code .now) (c .before .before .before .before .args .at) 0) (c .if1 .taken); next = λ h. absurd (omega arith) }
+returns c =
+    let if1 = c .if1 in
+    λ env regs values flags. record { ends = shifts-fail _ _ _ _ _ _ _ _ _ (if1 .taken); next = λ h. absurd (omega arith) }
 
 shared-slice-read-shifted : tie.Need-shared-slice-read-shifted
 shared-slice-read-shifted c = search needs
 
-quad-requires : tie.Need-quad-requires
-quad-requires c κs = search needs
+xmm-at-requires : tie.Need-xmm-at-requires
+xmm-at-requires c κs = search needs
 
 shifted-requires : tie.Need-shifted-requires
 shifted-requires c κs = search needs
 
-set-quad-requires : tie.Need-set-quad-requires
-set-quad-requires c κs = search needs
+set-xmm-requires : tie.Need-set-xmm-requires
+set-xmm-requires c κs = search needs
 
 add-t6 : tie.Need-add-t6
 add-t6 c = search needs
 
 returns-2 : tie.Need-returns-2
-returns-2 c = λ env regs values flags. record { ends = shifts-done env (c .before .before .before .before .before .before .before .before .before .before .args .at) regs (c .before .before .before .before .before .before .before .before .before .before .args .xmms .now) values flags (getD (c .before .before .before .before .before .before .before .before .before .before .args .code .now) (c .before .before .before .before .before .before .before .before .before .before .args .at + 1) 0) (getD (c .before .before .before .before .before .before .before .before .before .before .args .code .now) (c .before .before .before .before .before .before .before .before .before .before .args .at + 2) 0) (getD (c .before .before .before .before .before .before .before .before .before .before .args .code .now) (c .before .before .before .before .before .before .before .before .before .before .args .at) 0) (c .before .before .quad .result) (c .before .shifted .result) _ (c .before .before .before .before .before .before .if1 .left) (c .before .before .quad .ensures) (c .before .shifted .ensures) (c .set-quad .ensures); next = λ _. refl }
+returns-2 c =
+    let quad = c .before .before .xmm-at in
+    let new = c .before .shifted in
+    let if1 = c .before .before .before .before .before .before .if1 in
+    let wrote = c .set-xmm in
+    λ env regs values flags.
+    record {
+      ends =
+          shifts-done _ _ _ _ _ _ _ _ _ (quad .result) (new .result) _ (if1 .left) (quad .ensures) (new .ensures) (wrote .ensures);
+      next = λ _. refl;
+    }
 
 pub shift-words-spec : {M : Type 1} → statement M
 shift-words-spec =
@@ -56,8 +61,8 @@ shift-words-spec =
     shared-slice-read-amount
     returns
     shared-slice-read-shifted
-    quad-requires
+    xmm-at-requires
     shifted-requires
-    set-quad-requires
+    set-xmm-requires
     add-t6
     returns-2)

@@ -1,89 +1,134 @@
--- A constant and a register are read in place; memory is read where the search found its cell.
+-- What is decoded says which operand it is: its word is the constant, the register's or the cell's. Assumes nothing.
+use mathlib.Core.Path.{sym, _∙_}
+use mathlib.Core.List.{[]}
 use native.Mathlib.Omega.{arith}
-use Rattle.eval.proofs.OperandLaws.{frame, memory-there, source-register, source-constant, source-cell, source-none}
 use borrow.Author.Needs.{needs}
+use Rattle.code.proofs.Forms.{constant-is, register-is, memory-is, register-below}
+use Rattle.eval.proofs.OperandLaws.{source-constant, source-register, cell-inside, source-cell, source-none}
 use Rattle.eval.proofs.operand.source.Statement.{statement}
 use Rattle.eval.proofs.operand.source.Tie as tie
-use Rattle.eval.proofs.operand.source.Reads as reads
-use Rattle.eval.proofs.operand.source.Lts as lts
-use Rattle.code.proofs.number8.Reads as number8-reads
-use Rattle.eval.proofs.operand.behind.Reads as behind-reads
-use Rattle.eval.proofs.operand.cell_at.Reads as cell-at-reads
-use Rattle.eval.proofs.operand.wide.Reads as wide-reads
 
-shared-slice-read-kind : tie.Need-shared-slice-read-kind
-shared-slice-read-kind c = let w = frame (c .before .before .before .before .before .pre .0) in omega arith
+operand-behind-requires : tie.Need-operand-behind-requires
+operand-behind-requires c κs = search needs
 
-add-wide : tie.Need-add-wide
-add-wide c = let w = frame (c .before .before .before .before .before .before .pre .0) in omega arith
+form-at-requires : tie.Need-form-at-requires
+form-at-requires c κs = search needs
 
-shared-slice-read-wide : tie.Need-shared-slice-read-wide
-shared-slice-read-wide c = let w = frame (c .before .before .before .before .before .before .before .pre .0) in omega arith
+enum-known-form : tie.Need-enum-known-form
+enum-known-form c = search needs
 
-wide-requires : tie.Need-wide-requires
-wide-requires c κs = search needs
+enum-known-form-2 : tie.Need-enum-known-form-2
+enum-known-form-2 c = search needs
 
-mul-t17 : tie.Need-mul-t17
-mul-t17 c = let w = frame (c .before .before .before .before .before .before .before .before .pre .0) in let k = w .register (c .before .before .if1 .taken) in omega (arith, c .wide .ensures)
+cast-index : tie.Need-cast-index
+cast-index c = search needs
 
-element-copy-out-t20 : tie.Need-element-copy-out-t20
-element-copy-out-t20 c = let w = frame (c .before .before .before .before .before .before .before .before .pre .0) in let k = w .register (c .before .before .if1 .taken) in omega (arith, c .wide .ensures)
+mul-t14 : tie.Need-mul-t14
+mul-t14 c = search needs
 
-add-t21 : tie.Need-add-t21
-add-t21 c = let w = frame (c .before .before .before .before .before .before .before .before .before .pre .0) in let k = w .register (c .before .before .before .if1 .taken) in omega arith
+element-copy-out-t17 : tie.Need-element-copy-out-t17
+element-copy-out-t17 c =
+    let s = c .before .before .before .before .before .before .before .before .before .before in
+    let form = c .before .before .before .before .form-at in
+    let register = c .before .before .form2 in
+    register-below _ _ (s .pre .0) _ (register-is _ _ (sym (form .ensures) ∙ register .given .1))
 
-returns : tie.Need-returns
-returns c = let w = frame (c .before .before .before .before .before .before .before .before .before .pre .0) in let k = w .register (c .before .before .before .if1 .taken) in λ fill flags xmms. source-register (c .before .before .before .before .before .before .before .before .before .args .addresses .now) (c .before .before .before .before .before .before .before .before .before .args .tags .now) (c .before .before .before .before .before .before .before .before .before .args .regs .now) (c .before .before .before .before .before .before .before .before .before .args .values .now) (c .before .before .before .before .before .before .before .before .before .args .code .now) (c .before .before .before .before .before .before .before .before .before .args .at) fill flags xmms (c .before .before .before .if1 .taken) (c .before .wide .result) _ (c .before .wide .ensures) (omega arith)
-
-add-number8 : tie.Need-add-number8
-add-number8 c = let w = frame (c .before .before .before .before .before .before .before .pre .0) in let k = w .constant (c .if2 .taken) in omega arith
-
-number8-requires : tie.Need-number8-requires
-number8-requires c κs = let w = frame (c .before .before .before .before .before .before .before .pre .0) in let k = w .constant (c .if2 .taken) in omega arith
-
-add-t24 : tie.Need-add-t24
-add-t24 c = let w = frame (c .before .before .before .before .before .before .before .before .pre .0) in let k = w .constant (c .before .if2 .taken) in omega arith
-
-returns-2 : tie.Need-returns-2
-returns-2 c = let w = frame (c .before .before .before .before .before .before .before .before .pre .0) in let k = w .constant (c .before .if2 .taken) in λ fill flags xmms. source-constant (c .before .before .before .before .before .before .before .before .args .addresses .now) (c .before .before .before .before .before .before .before .before .args .tags .now) (c .before .before .before .before .before .before .before .before .args .regs .now) (c .before .before .before .before .before .before .before .before .args .values .now) (c .before .before .before .before .before .before .before .before .args .code .now) (c .before .before .before .before .before .before .before .before .args .at) fill flags xmms (c .before .if2 .taken) (c .number8 .result) _ (c .number8 .ensures) (omega arith)
-
-behind-requires : tie.Need-behind-requires
-behind-requires c κs = search needs
+enum-told : tie.Need-enum-told
+enum-told c = search needs
 
 cell-at-requires : tie.Need-cell-at-requires
-cell-at-requires c κs = let w = frame (c .before .before .before .before .before .before .before .before .pre .0) in (c .before .before .before .before .before .before .before .before .pre .0, (omega (arith, c .before .before .if1 .left, c .before .if2 .left), c .before .before .before .before .before .before .before .before .pre .1 .searchable))
+cell-at-requires c κs =
+    let s = c .before .before .before .before .before .before .before .before in
+    let form = c .before .before .form-at in
+    let memory = c .enum-told in
+    (s .pre .0, (sym (form .ensures) ∙ memory .given .1, s .pre .1 .searchable))
 
-mul-t27 : tie.Need-mul-t27
-mul-t27 c = search needs
+enum-known-index : tie.Need-enum-known-index
+enum-known-index c = search needs
 
-shared-slice-read-t29 : tie.Need-shared-slice-read-t29
-shared-slice-read-t29 c = search needs
+mul-t20 : tie.Need-mul-t20
+mul-t20 c =
+    let form = c .before .before .before .before .before .before .form-at in
+    let memory = c .before .before .before .before .enum-told in
+    let cell = c .before .before .before .cell-at in
+    let found = c .before .index in
+    let s = c .before .before .before .before .before .before .before .before .before .before .before .before in
+    let m = memory-is _ (sym (form .ensures) ∙ memory .given .1) in
+    omega (arith, cell-inside _ _ _ _ _ 0 0 0 [] (m .0) (m .1) (cell .result) (cell .ensures (m .0) (m .1)) _ (found .given .1) (s .pre .1))
+
+shared-slice-read-t22 : tie.Need-shared-slice-read-t22
+shared-slice-read-t22 c =
+    let form = c .before .before .before .before .before .before .before .form-at in
+    let memory = c .before .before .before .before .before .enum-told in
+    let cell = c .before .before .before .before .cell-at in
+    let found = c .before .before .index in
+    let s = c .before .before .before .before .before .before .before .before .before .before .before .before .before in
+    let m = memory-is _ (sym (form .ensures) ∙ memory .given .1) in
+    omega (arith, cell-inside _ _ _ _ _ 0 0 0 [] (m .0) (m .1) (cell .result) (cell .ensures (m .0) (m .1)) _ (found .given .1) (s .pre .1))
+
+enum-told-2 : tie.Need-enum-told-2
+enum-told-2 c = search needs
+
+returns : tie.Need-returns
+returns c =
+    let next = c .before .before .before .before .operand-behind in
+    let form = c .before .before .before .form-at in
+    let constant = c .before .form in
+    λ fill flags xmms.
+    rw (next .ensures)
+    (source-constant _ _ _ _ _ _ fill flags xmms _ (constant-is _ _ (sym (form .ensures) ∙ constant .given .1)))
+
+returns-2 : tie.Need-returns-2
+returns-2 c =
+    let next = c .before .before .before .before .before .before .operand-behind in
+    let form = c .before .before .before .before .before .form-at in
+    let register = c .before .before .before .form2 in
+    λ fill flags xmms.
+    rw (next .ensures)
+    (source-register _ _ _ _ _ _ fill flags xmms _ (register-is _ _ (sym (form .ensures) ∙ register .given .1)))
 
 returns-3 : tie.Need-returns-3
-returns-3 c = let w = frame (c .before .before .before .before .before .before .before .before .before .before .before .pre .0) in let n = memory-there (c .before .before .before .before .before .before .before .before .before .before .before .pre .0) (omega (arith, c .before .before .before .before .before .if1 .left, c .before .before .before .before .if2 .left)) in λ fill flags xmms. source-cell (c .before .before .before .before .before .before .before .before .before .before .before .args .addresses .now) (c .before .before .before .before .before .before .before .before .before .before .before .args .tags .now) (c .before .before .before .before .before .before .before .before .before .before .before .args .regs .now) (c .before .before .before .before .before .before .before .before .before .before .before .args .values .now) (c .before .before .before .before .before .before .before .before .before .before .before .args .code .now) (c .before .before .before .before .before .before .before .before .before .before .before .args .at) fill flags xmms (n .0) (n .1) (c .before .before .before .before .before .before .before .before .before .before .before .pre .1) (c .before .before .cell-at .result) (c .before .before .cell-at .ensures (n .0) (n .1)) (c .before .before .before .behind .result) (c .before .before .before .behind .ensures) (c .before .if3 .taken)
+returns-3 c =
+    let form = c .before .before .before .before .before .before .before .form-at in
+    let memory = c .before .before .before .before .before .enum-told in
+    let next = c .before .before .before .before .before .before .before .before .operand-behind in
+    let cell = c .before .before .before .before .cell-at in
+    let found = c .before .before .index in
+    λ fill flags xmms.
+    let m = memory-is _ (sym (form .ensures) ∙ memory .given .1) in
+    rw (next .ensures)
+    (source-cell _ _ _ _ _ _ fill flags xmms (m .0) (m .1) (cell .result) (cell .ensures (m .0) (m .1)) _ (found .given .1))
 
 returns-4 : tie.Need-returns-4
-returns-4 c = let w = frame (c .before .before .before .before .before .before .before .before .before .before .pre .0) in let n = memory-there (c .before .before .before .before .before .before .before .before .before .before .pre .0) (omega (arith, c .before .before .before .before .if1 .left, c .before .before .before .if2 .left)) in λ fill flags xmms. source-none (c .before .before .before .before .before .before .before .before .before .before .args .addresses .now) (c .before .before .before .before .before .before .before .before .before .before .args .tags .now) (c .before .before .before .before .before .before .before .before .before .before .args .regs .now) (c .before .before .before .before .before .before .before .before .before .before .args .values .now) (c .before .before .before .before .before .before .before .before .before .before .args .code .now) (c .before .before .before .before .before .before .before .before .before .before .args .at) fill flags xmms (n .0) (n .1) (c .before .before .before .before .before .before .before .before .before .before .pre .1) (c .before .cell-at .result) (c .before .cell-at .ensures (n .0) (n .1)) (c .before .before .behind .result) (c .before .before .behind .ensures) (c .if3 .left)
+returns-4 c =
+    let form = c .before .before .before .before .before .form-at in
+    let memory = c .before .before .before .enum-told in
+    let next = c .before .before .before .before .before .before .operand-behind in
+    let cell = c .before .before .cell-at in
+    let none = c .enum-told2 in
+    λ fill flags xmms.
+    let m = memory-is _ (sym (form .ensures) ∙ memory .given .1) in
+    rw (next .ensures)
+    (source-none _ _ _ _ _ _ fill flags xmms (m .0) (m .1) (cell .result) (cell .ensures (m .0) (m .1)) (none .given .1))
 
 pub source-spec : {M : Type 1} → statement M
 source-spec =
     tie.close
     (tie.spec
-    shared-slice-read-kind
-    add-wide
-    shared-slice-read-wide
-    wide-requires
-    mul-t17
-    element-copy-out-t20
-    add-t21
-    returns
-    add-number8
-    number8-requires
-    add-t24
-    returns-2
-    behind-requires
+    operand-behind-requires
+    form-at-requires
+    enum-known-form
+    enum-known-form-2
+    cast-index
+    mul-t14
+    element-copy-out-t17
+    enum-told
     cell-at-requires
-    mul-t27
-    shared-slice-read-t29
+    enum-known-index
+    mul-t20
+    shared-slice-read-t22
+    enum-told-2
+    returns
+    returns-2
     returns-3
     returns-4)

@@ -1,34 +1,28 @@
--- A constant and Rsp are no destination; memory is one where the search found its cell.
+-- What is decoded says which operand it is: a constant and Rsp are no destination, and memory is one where its cell is found. Assumes
+-- nothing.
+use mathlib.Core.Path.{sym, _∙_}
+use mathlib.Core.List.{[]}
 use native.Mathlib.Omega.{arith}
-use Rattle.eval.proofs.OperandLaws.{frame, memory-there, target-constant, target-rsp, target-register, target-cell, target-none}
 use borrow.Author.Needs.{needs}
+use Rattle.code.proofs.Forms.{constant-is, register-is, memory-is, register-below}
+use Rattle.eval.proofs.OperandLaws.{target-constant, target-rsp, target-register, cell-inside, target-cell, target-none}
 use Rattle.eval.proofs.operand.target.Statement.{statement}
 use Rattle.eval.proofs.operand.target.Tie as tie
-use Rattle.eval.proofs.operand.target.Reads as reads
-use Rattle.eval.proofs.operand.target.Lts as lts
-use Rattle.eval.proofs.operand.behind.Reads as behind-reads
-use Rattle.eval.proofs.operand.cell_at.Reads as cell-at-reads
-use Rattle.eval.proofs.operand.nowhere.Reads as nowhere-reads
-use Rattle.eval.proofs.operand.wide.Reads as wide-reads
-use Rattle.machine.proofs.reg.Reg.is_rsp.Reads as is-rsp-reads
 
-shared-slice-read-kind : tie.Need-shared-slice-read-kind
-shared-slice-read-kind c = let w = frame (c .before .before .before .before .before .pre .0) in omega arith
+operand-behind-requires : tie.Need-operand-behind-requires
+operand-behind-requires c κs = search needs
 
-behind-requires : tie.Need-behind-requires
-behind-requires c κs = search needs
+form-at-requires : tie.Need-form-at-requires
+form-at-requires c κs = search needs
+
+enum-told : tie.Need-enum-told
+enum-told c = search needs
 
 nowhere-requires : tie.Need-nowhere-requires
 nowhere-requires c κs = search needs
 
-returns : tie.Need-returns
-returns c = λ fill flags xmms. target-constant (c .before .before .before .before .before .before .before .before .args .addresses .now) (c .before .before .before .before .before .before .before .before .args .tags .now) (c .before .before .before .before .before .before .before .before .args .regs .now) (c .before .before .before .before .before .before .before .before .args .values .now) (c .before .before .before .before .before .before .before .before .args .code .now) (c .before .before .before .before .before .before .before .before .args .at) fill flags xmms (c .before .if1 .taken) (c .before .before .behind .result) (c .before .before .behind .ensures) (c .nowhere .result) (c .nowhere .ensures)
-
-add-wide : tie.Need-add-wide
-add-wide c = let w = frame (c .before .before .before .before .before .before .before .before .pre .0) in omega arith
-
-shared-slice-read-wide : tie.Need-shared-slice-read-wide
-shared-slice-read-wide c = let w = frame (c .before .before .before .before .before .before .before .before .before .pre .0) in omega arith
+enum-known-form : tie.Need-enum-known-form
+enum-known-form c = search needs
 
 is-rsp-requires : tie.Need-is-rsp-requires
 is-rsp-requires c κs = search needs
@@ -36,67 +30,144 @@ is-rsp-requires c κs = search needs
 nowhere-requires-2 : tie.Need-nowhere-requires-2
 nowhere-requires-2 c κs = search needs
 
-returns-2 : tie.Need-returns-2
-returns-2 c = λ fill flags xmms. target-rsp (c .before .before .before .before .before .before .before .before .before .before .before .before .args .addresses .now) (c .before .before .before .before .before .before .before .before .before .before .before .before .args .tags .now) (c .before .before .before .before .before .before .before .before .before .before .before .before .args .regs .now) (c .before .before .before .before .before .before .before .before .before .before .before .before .args .values .now) (c .before .before .before .before .before .before .before .before .before .before .before .before .args .code .now) (c .before .before .before .before .before .before .before .before .before .before .before .before .args .at) fill flags xmms (c .before .before .before .before .if2 .taken) (c .before .before .is-rsp .result) (c .before .before .is-rsp .ensures) (c .before .if3 .taken) (c .before .before .before .before .before .before .behind .result) (c .before .before .before .before .before .before .behind .ensures) (c .nowhere2 .result) (c .nowhere2 .ensures)
+returns : tie.Need-returns
+returns c =
+    let form = c .before .before .before .before .before .before .form-at in
+    let register = c .before .before .before .before .form in
+    let next = c .before .before .before .before .before .before .before .operand-behind in
+    let is-rsp = c .before .before .is-rsp in
+    let if1 = c .before .if1 in
+    let nowhere = c .nowhere2 in
+    λ fill flags xmms.
+    let q = register-is _ _ (sym (form .ensures) ∙ register .given .1) in
+    rw (← next .ensures)
+    (target-rsp _ _ _ _ _ _ fill flags xmms _ q (is-rsp .result) (is-rsp .ensures) (if1 .taken) (nowhere .result) (nowhere .ensures))
 
-add-wide-2 : tie.Need-add-wide-2
-add-wide-2 c = let w = frame (c .before .before .before .before .before .before .before .before .before .before .before .pre .0) in omega arith
+cast-index : tie.Need-cast-index
+cast-index c = search needs
 
-shared-slice-read-wide-2 : tie.Need-shared-slice-read-wide-2
-shared-slice-read-wide-2 c = let w = frame (c .before .before .before .before .before .before .before .before .before .before .before .before .pre .0) in omega arith
+mul-t14 : tie.Need-mul-t14
+mul-t14 c = search needs
 
-wide-requires : tie.Need-wide-requires
-wide-requires c κs = search needs
+element-copy-out-t17 : tie.Need-element-copy-out-t17
+element-copy-out-t17 c =
+    let s = c .before .before .before .before .before .before .before .before .before .before .before .before in
+    let form = c .before .before .before .before .before .before .form-at in
+    let register = c .before .before .before .before .form in
+    register-below _ _ (s .pre .0) _ (register-is _ _ (sym (form .ensures) ∙ register .given .1))
 
-mul-t15 : tie.Need-mul-t15
-mul-t15 c = let w = frame (c .before .before .before .before .before .before .before .before .before .before .before .before .before .pre .0) in let k = w .register (c .before .before .before .before .before .if2 .taken) in omega (arith, c .wide .ensures)
-
-element-copy-out-t22 : tie.Need-element-copy-out-t22
-element-copy-out-t22 c = let w = frame (c .before .before .before .before .before .before .before .before .before .before .before .before .before .pre .0) in let k = w .register (c .before .before .before .before .before .if2 .taken) in omega (arith, c .wide .ensures)
-
-returns-3 : tie.Need-returns-3
-returns-3 c = let w = frame (c .before .before .before .before .before .before .before .before .before .before .before .before .before .before .pre .0) in let k = w .register (c .before .before .before .before .before .before .if2 .taken) in λ fill flags xmms. target-register (c .before .before .before .before .before .before .before .before .before .before .before .before .before .before .args .addresses .now) (c .before .before .before .before .before .before .before .before .before .before .before .before .before .before .args .tags .now) (c .before .before .before .before .before .before .before .before .before .before .before .before .before .before .args .regs .now) (c .before .before .before .before .before .before .before .before .before .before .before .before .before .before .args .values .now) (c .before .before .before .before .before .before .before .before .before .before .before .before .before .before .args .code .now) (c .before .before .before .before .before .before .before .before .before .before .before .before .before .before .args .at) fill flags xmms (c .before .before .before .before .before .before .if2 .taken) (k .1) (c .before .before .before .before .is-rsp .result) (c .before .before .before .before .is-rsp .ensures) (c .before .before .before .if3 .left) (c .before .wide .result) (c .before .before .before .before .before .before .before .before .behind .result) (c .before .wide .ensures) (c .before .before .before .before .before .before .before .before .behind .ensures)
+enum-told-2 : tie.Need-enum-told-2
+enum-told-2 c = search needs
 
 cell-at-requires : tie.Need-cell-at-requires
-cell-at-requires c κs = let w = frame (c .before .before .before .before .before .before .before .before .pre .0) in (c .before .before .before .before .before .before .before .before .pre .0, (omega (arith, c .before .if1 .left, c .if2 .left), c .before .before .before .before .before .before .before .before .pre .1 .searchable))
+cell-at-requires c κs =
+    let s = c .before .before .before .before .before .before .before .before in
+    let form = c .before .before .form-at in
+    let memory = c .enum-told2 in
+    (s .pre .0, (sym (form .ensures) ∙ memory .given .1, s .pre .1 .searchable))
 
-mul-t25 : tie.Need-mul-t25
-mul-t25 c = search needs
+enum-known-index : tie.Need-enum-known-index
+enum-known-index c = search needs
 
-shared-slice-read-t27 : tie.Need-shared-slice-read-t27
-shared-slice-read-t27 c = search needs
+mul-t20 : tie.Need-mul-t20
+mul-t20 c =
+    let form = c .before .before .before .before .before .before .form-at in
+    let memory = c .before .before .before .before .enum-told2 in
+    let cell = c .before .before .before .cell-at in
+    let found = c .before .index in
+    let s = c .before .before .before .before .before .before .before .before .before .before .before .before in
+    let m = memory-is _ (sym (form .ensures) ∙ memory .given .1) in
+    omega (arith, cell-inside _ _ _ _ _ 0 0 0 [] (m .0) (m .1) (cell .result) (cell .ensures (m .0) (m .1)) _ (found .given .1) (s .pre .1))
+
+shared-slice-read-t22 : tie.Need-shared-slice-read-t22
+shared-slice-read-t22 c =
+    let form = c .before .before .before .before .before .before .before .form-at in
+    let memory = c .before .before .before .before .before .enum-told2 in
+    let cell = c .before .before .before .before .cell-at in
+    let found = c .before .before .index in
+    let s = c .before .before .before .before .before .before .before .before .before .before .before .before .before in
+    let m = memory-is _ (sym (form .ensures) ∙ memory .given .1) in
+    omega (arith, cell-inside _ _ _ _ _ 0 0 0 [] (m .0) (m .1) (cell .result) (cell .ensures (m .0) (m .1)) _ (found .given .1) (s .pre .1))
+
+enum-told-3 : tie.Need-enum-told-3
+enum-told-3 c = search needs
 
 nowhere-requires-3 : tie.Need-nowhere-requires-3
 nowhere-requires-3 c κs = search needs
 
+returns-2 : tie.Need-returns-2
+returns-2 c =
+    let next = c .before .before .before .before .operand-behind in
+    let form = c .before .before .before .form-at in
+    let constant = c .before .enum-told in
+    let nowhere = c .nowhere in
+    λ fill flags xmms.
+    rw (← next .ensures)
+    (target-constant _ _ _ _ _ _ fill flags xmms _ (constant-is _ _ (sym (form .ensures) ∙ constant .given .1)) (nowhere .result) (nowhere .ensures))
+
+returns-3 : tie.Need-returns-3
+returns-3 c =
+    let form = c .before .before .before .before .before .before .before .form-at in
+    let register = c .before .before .before .before .before .form in
+    let next = c .before .before .before .before .before .before .before .before .operand-behind in
+    let is-rsp = c .before .before .before .is-rsp in
+    let if1 = c .before .before .if1 in
+    let s = c .before .before .before .before .before .before .before .before .before .before .before .before .before in
+    λ fill flags xmms.
+    let q = register-is _ _ (sym (form .ensures) ∙ register .given .1) in
+    rw (next .ensures)
+    (target-register _ _ _ _ _ _ fill flags xmms _ q (is-rsp .result) (is-rsp .ensures) (if1 .left) (register-below _ _ (s .pre .0) _ q))
+
 returns-4 : tie.Need-returns-4
-returns-4 c = let w = frame (c .before .before .before .before .before .before .before .before .before .before .before .pre .0) in let n = memory-there (c .before .before .before .before .before .before .before .before .before .before .before .pre .0) (omega (arith, c .before .before .before .before .if1 .left, c .before .before .before .if2 .left)) in λ fill flags xmms. target-cell (c .before .before .before .before .before .before .before .before .before .before .before .args .addresses .now) (c .before .before .before .before .before .before .before .before .before .before .before .args .tags .now) (c .before .before .before .before .before .before .before .before .before .before .before .args .regs .now) (c .before .before .before .before .before .before .before .before .before .before .before .args .values .now) (c .before .before .before .before .before .before .before .before .before .before .before .args .code .now) (c .before .before .before .before .before .before .before .before .before .before .before .args .at) fill flags xmms (n .0) (n .1) (c .before .before .before .before .before .before .before .before .before .before .before .pre .1) (c .before .before .cell-at .result) (c .before .before .cell-at .ensures (n .0) (n .1)) (c .before .before .before .before .before .behind .result) (c .before .before .before .before .before .behind .ensures) (c .before .if4 .taken)
+returns-4 c =
+    let form = c .before .before .before .before .before .before .before .form-at in
+    let memory = c .before .before .before .before .before .enum-told2 in
+    let next = c .before .before .before .before .before .before .before .before .operand-behind in
+    let cell = c .before .before .before .before .cell-at in
+    let found = c .before .before .index in
+    let s = c .before .before .before .before .before .before .before .before .before .before .before .before .before in
+    λ fill flags xmms.
+    let m = memory-is _ (sym (form .ensures) ∙ memory .given .1) in
+    rw (next .ensures)
+    (target-cell _ _ _ _ _ _ fill flags xmms (m .0) (m .1) (cell .result) (cell .ensures (m .0) (m .1)) _ (found .given .1) (s .pre .1))
 
 returns-5 : tie.Need-returns-5
-returns-5 c = let w = frame (c .before .before .before .before .before .before .before .before .before .before .before .pre .0) in let n = memory-there (c .before .before .before .before .before .before .before .before .before .before .before .pre .0) (omega (arith, c .before .before .before .before .if1 .left, c .before .before .before .if2 .left)) in λ fill flags xmms. target-none (c .before .before .before .before .before .before .before .before .before .before .before .args .addresses .now) (c .before .before .before .before .before .before .before .before .before .before .before .args .tags .now) (c .before .before .before .before .before .before .before .before .before .before .before .args .regs .now) (c .before .before .before .before .before .before .before .before .before .before .before .args .values .now) (c .before .before .before .before .before .before .before .before .before .before .before .args .code .now) (c .before .before .before .before .before .before .before .before .before .before .before .args .at) fill flags xmms (n .0) (n .1) (c .before .before .before .before .before .before .before .before .before .before .before .pre .1) (c .before .before .cell-at .result) (c .before .before .cell-at .ensures (n .0) (n .1)) (c .before .before .before .before .before .behind .result) (c .before .before .before .before .before .behind .ensures) (c .before .if4 .left) (c .nowhere3 .result) (c .nowhere3 .ensures)
+returns-5 c =
+    let form = c .before .before .before .before .before .before .form-at in
+    let memory = c .before .before .before .before .enum-told2 in
+    let next = c .before .before .before .before .before .before .before .operand-behind in
+    let cell = c .before .before .before .cell-at in
+    let none = c .before .enum-told3 in
+    let nowhere = c .nowhere3 in
+    λ fill flags xmms.
+    let m = memory-is _ (sym (form .ensures) ∙ memory .given .1) in
+    rw (← next .ensures)
+    (target-none _ _ _ _ _ _ fill flags xmms (m .0) (m .1) (cell .result) (cell .ensures (m .0) (m .1)) (none .given .1)
+    (nowhere .result) (nowhere .ensures))
 
 pub target-spec : {M : Type 1} → statement M
 target-spec =
     tie.close
     (tie.spec
-    shared-slice-read-kind
-    behind-requires
+    operand-behind-requires
+    form-at-requires
+    enum-told
     nowhere-requires
-    returns
-    add-wide
-    shared-slice-read-wide
+    enum-known-form
     is-rsp-requires
     nowhere-requires-2
-    returns-2
-    add-wide-2
-    shared-slice-read-wide-2
-    wide-requires
-    mul-t15
-    element-copy-out-t22
-    returns-3
+    returns
+    cast-index
+    mul-t14
+    element-copy-out-t17
+    enum-told-2
     cell-at-requires
-    mul-t25
-    shared-slice-read-t27
+    enum-known-index
+    mul-t20
+    shared-slice-read-t22
+    enum-told-3
     nowhere-requires-3
+    returns-2
+    returns-3
     returns-4
     returns-5)
