@@ -8,10 +8,10 @@ use native.Mathlib.Nat.{eq-or-lt-of-le}
 use native.Mathlib.Omega.{arith}
 use lib.ListN.{length}
 use Rattle.machine.specs.declared.Operand.{Operand}
-use Rattle.code.specs.Tree.{Instruction, AddLea64, Mul64, Mulx64, Pshufd, VPSLLDQ, Pextrq}
+use Rattle.code.specs.Tree.{Instruction, Mov64, Add64, AddLea64, AddCarry64, Adcx64, Adox64, Sub64, Mul64, Mulx64, IMul64, Xor64, And64, Shr64, Shl64, Paddd, Pxor, Pslld, Psrld, Pshufd, Pcmpeqd, Pextrq, Pinsrd, Pinsrq, VPSLLDQ}
 use Rattle.code.specs.Records.{between, is-ins, body-length, operand-count, register-fields, byte-at, operand-at, operands-at, behind, ins-at}
 use Rattle.code.specs.Spells.{Fields, Operands, OperandsFrom, Stands}
-use Rattle.code.specs.Families.{is-two, two-ins, quads-ins, shifts-ins, inserts-ins}
+use Rattle.code.specs.Families.{at-kind, is-two, two-ins, quads-ins, shifts-ins, inserts-ins}
 use Rattle.code.proofs.Passing.{between-true, never}
 use Rattle.code.proofs.Accepted.{each, _▹_}
 use Rattle.code.proofs.Frames.{inside}
@@ -78,6 +78,30 @@ pub kind-two : (k : ℕ) → TwoKind k → is-two k ≡ true
 kind-two k w =
     by-two (λ (n : ℕ). is-two n ≡ true) refl refl refl refl refl refl refl refl refl refl refl k
     (w .low) (w .high) (w .no-lea) (w .no-mul) (w .no-mulx)
+
+-- what holds of each instruction of a destination and a source holds of the one of a kind
+pub by-two-ins :
+    (P : ℕ → Instruction → Type 0) (a b : Operand) →
+    P 0x01 (Mov64 a b) → P 0x02 (Add64 a b) → P 0x04 (AddCarry64 a b) → P 0x05 (Adcx64 a b) → P 0x06 (Adox64 a b) → P 0x07 (Sub64 a b) →
+    P 0x0a (IMul64 a b) → P 0x0b (Xor64 a b) → P 0x0c (And64 a b) → P 0x0d (Shr64 a b) → P 0x0e (Shl64 a b) →
+    (k : ℕ) → TwoKind k → P k (two-ins k a b)
+unfolding two-ins
+by-two-ins P a b p1 p2 p4 p5 p6 p7 pa pb pc pd pe k w =
+    by-two (λ (k : ℕ). P k (two-ins k a b)) p1 p2 p4 p5 p6 p7 pa pb pc pd pe k (w .low) (w .high) (w .no-lea) (w .no-mul) (w .no-mulx)
+
+-- the instructions of the other families, by their kind
+pub quads-ins-is : (k dst src : ℕ) → quads-ins k dst src ≡ at-kind k 0x0f (Paddd dst src) (at-kind k 0x10 (Pxor dst src) (Pcmpeqd dst src))
+unfolding quads-ins
+quads-ins-is k dst src = refl
+
+pub shifts-ins-is : (k dst amount : ℕ) → shifts-ins k dst amount ≡ at-kind k 0x11 (Pslld dst amount) (Psrld dst amount)
+unfolding shifts-ins
+shifts-ins-is k dst amount = refl
+
+pub inserts-ins-is :
+    (k dst : ℕ) (src : Operand) (index : ℕ) → inserts-ins k dst src index ≡ at-kind k 0x16 (Pinsrd dst src index) (Pinsrq dst src index)
+unfolding inserts-ins
+inserts-ins-is k dst src index = refl
 
 -- which kinds are those of two quads
 pub which-quads : (k : ℕ) → 0x0f ≤ k → (k < 0x11) ⊎ (k ≡ 0x14) → (k ≡ 0x0f) ⊎ ((k ≡ 0x10) ⊎ (k ≡ 0x14))

@@ -13,6 +13,7 @@ use Rattle.machine.specs.Registers.{xmm-at, set-xmm}
 use Rattle.machine.specs.declared.Operand.{Operand}
 use Rattle.code.specs.Tree.{Paddd, Pxor, Pcmpeqd, Pslld, Psrld, Pshufd, Pextrq, Pinsrd, Pinsrq, VPSLLDQ}
 use Rattle.code.specs.Families.{at-kind, quads-ins, shifts-ins, inserts-ins}
+use Rattle.code.proofs.Families.{quads-ins-is, shifts-ins-is, inserts-ins-is}
 use Rattle.eval.specs.Config.{Env, Config, End, ends, done, fault, check}
 use Rattle.eval.specs.Steps.{eval-operand, source, write-xmm, run-ins}
 use Rattle.eval.specs.Lent.{environment, held, Reads, Targets, put-regs, put-values}
@@ -43,8 +44,8 @@ module _ (env : Env) (p : ℕ) (regs xmms values : List ℕ) (flags : ℕ) where
         xmms′ ≡ set-xmm xmms dst (quad32 q) →
         f ≡ at-kind k 0x0f (env .fill) flags →
         ends done (held regs xmms′ f values) ≡ run-ins env p (quads-ins k dst src) s
-    unfolding quads-ins quads-word
-    quads-done k x y q xmms′ f a b c d e = rw (d, e, c, a, b) (quads-way (eqb k 0x0f) (eqb k 0x10))
+    unfolding quads-word
+    quads-done k x y q xmms′ f a b c d e = rw (quads-ins-is, d, e, c, a, b) (quads-way (eqb k 0x0f) (eqb k 0x10))
 
     pub shuffle-done :
         (imm8 : ℕ) (x q : Quad32) (xmms′ : List ℕ) →
@@ -85,13 +86,13 @@ module _ (env : Env) (p : ℕ) (regs xmms values : List ℕ) (flags : ℕ) where
         quad32 q ≡ shifts-word k (quad32 x) amount →
         xmms′ ≡ set-xmm xmms dst (quad32 q) →
         ends done (held regs xmms′ flags values) ≡ run-ins env p (shifts-ins k dst amount) s
-    unfolding shifts-ins shifts-word check
+    unfolding shifts-word check
     shifts-done k x q xmms′ l a b c =
-        rw (c, b, a) (rw (lt-ltb amount 32 (omega arith)) at (shifts-way (eqb k 0x11)))
+        rw (shifts-ins-is, c, b, a) (rw (lt-ltb amount 32 (omega arith)) at (shifts-way (eqb k 0x11)))
 
     pub shifts-fail : (k : ℕ) → 31 < amount → ends (fault 34 p) s ≡ run-ins env p (shifts-ins k dst amount) s
-    unfolding shifts-ins check
-    shifts-fail k l = rw (le-ltb amount 32 (omega arith)) at (shifts-way (eqb k 0x11))
+    unfolding check
+    shifts-fail k l = rw shifts-ins-is (rw (le-ltb amount 32 (omega arith)) at (shifts-way (eqb k 0x11)))
 
 module _ (addresses tags regs xmms values : List ℕ) (fill flags p : ℕ) where
   abbrev env : Env
@@ -127,8 +128,7 @@ module _ (addresses tags regs xmms values : List ℕ) (fill flags p : ℕ) where
     inserts-way false = refl
 
     pub inserts-unread : r .found ≡ false → (k : ℕ) → ends (fault 31 p) now-s ≡ run-ins env p (inserts-ins k dst src index) now-s
-    unfolding inserts-ins
-    inserts-unread h k = sym (unreadable env now-s p src n r reads _ h) ∙ inserts-way (eqb k 0x16)
+    inserts-unread h k = rw inserts-ins-is (sym (unreadable env now-s p src n r reads _ h) ∙ inserts-way (eqb k 0x16))
 
     pub inserts-done :
         r .found ≡ true →
@@ -137,6 +137,6 @@ module _ (addresses tags regs xmms values : List ℕ) (fill flags p : ℕ) where
         quad32 q ≡ inserts-word k (quad32 x) (r .word) index →
         xmms′ ≡ set-xmm xmms dst (quad32 q) →
         ends done (held regs xmms′ flags values) ≡ run-ins env p (inserts-ins k dst src index) now-s
-    unfolding inserts-ins inserts-word
+    unfolding inserts-word
     inserts-done h k x q xmms′ a b c =
-        rw (c, b, a, reads .word h) (sym (readable env now-s p src n r reads _ h) ∙ inserts-way (eqb k 0x16))
+        rw (inserts-ins-is, c, b, a, reads .word h) (sym (readable env now-s p src n r reads _ h) ∙ inserts-way (eqb k 0x16))

@@ -12,11 +12,11 @@ use lib.ListN.{getD, set}
 use Rattle.words.specs.Sums.{sum-mod, mul-div, mul-mod}
 use Rattle.machine.specs.Registers.{Rax, Rdx, reg-at, set-reg}
 use Rattle.machine.specs.declared.Operand.{Operand}
-use Rattle.code.specs.Tree.{AddLea64, Mul64, Mulx64}
+use Rattle.code.specs.Tree.{Instruction, AddLea64, Mul64, Mulx64}
 use Rattle.code.specs.Records.{operand-at, behind}
 use Rattle.code.specs.Families.{is-two, two-ins}
 use Rattle.code.proofs.Passing.{and-both}
-use Rattle.code.proofs.Families.{by-two, two-kind}
+use Rattle.code.proofs.Families.{by-two-ins, two-kind}
 use Rattle.eval.specs.Config.{Env, Config, with-regs, with-values, with-flags, End, ends, done, fault, check}
 use Rattle.eval.specs.Flags.{add-flags}
 use Rattle.eval.specs.Steps.{valid-operand, eval-operand, valid-dst-operand, update-operand, source, target, write, run-mulx, run-ins}
@@ -67,14 +67,12 @@ module _ (env : Env) (p : ℕ) (dst src : Operand) (s : Config) where
   abbrev pub amounts : ℕ → End → End
   amounts k e = cond (leb 0x0d k) (check (ltb (eval-operand env src s) 64) 33 p s e) e
 
-  abbrev Shape : ℕ → Type 0
-  Shape k = run-ins env p (two-ins k dst src) s ≡ source env p src s (amounts k (two-write k))
+  abbrev Shape : ℕ → Instruction → Type 0
+  Shape k i = run-ins env p i s ≡ source env p src s (amounts k (two-write k))
 
-  pub shape : (k : ℕ) → is-two k ≡ true → run-ins env p (two-ins k dst src) s ≡ source env p src s (amounts k (two-write k))
-  unfolding run-ins two-ins two-word two-flags
-  shape k h =
-      let w = two-kind k h in
-      by-two Shape refl refl refl refl refl refl refl refl refl refl refl k (w .low) (w .high) (w .no-lea) (w .no-mul) (w .no-mulx)
+  pub shape : (k : ℕ) → is-two k ≡ true → Shape k (two-ins k dst src)
+  unfolding run-ins two-word two-flags
+  shape k h = by-two-ins Shape dst src refl refl refl refl refl refl refl refl refl refl refl k (two-kind k h)
 
   -- an amount that is no shift's, or below 64, passes
   pub amount-passes : (k b : ℕ) (e : End) → b ≡ eval-operand env src s → (leb 0x0d k && leb 64 b) ≡ false → amounts k e ≡ e
