@@ -56,7 +56,9 @@ follow-of i last (a ∷ xs) (t ∷ ts) [] s h e = absurd (omega (arith, s .value
 follow-of i last (a ∷ xs) (t ∷ ts) (v ∷ vs) s h e =
     go (eqb (cell-rule last a t v) 0) refl (follow-of (suc i) (a + t / 8) xs ts vs (same-tail a t v xs ts vs s))
   where
-    go : (b : Bool) → eqb (cell-rule last a t v) 0 ≡ b → (a + t / 8 ≤ 2 ^ 64 → check-from (suc i) (a + t / 8) xs ts vs ≡ accepted → Follow (a + t / 8) xs ts vs) → Follow last (a ∷ xs) (t ∷ ts) (v ∷ vs)
+    go : (b : Bool) → eqb (cell-rule last a t v) 0 ≡ b
+        → (a + t / 8 ≤ 2 ^ 64 → check-from (suc i) (a + t / 8) xs ts vs ≡ accepted → Follow (a + t / 8) xs ts vs)
+        → Follow last (a ∷ xs) (t ∷ ts) (v ∷ vs)
     go true p f =
         let r : cell-rule last a t v ≡ 0 = eqb-true (cell-rule last a t v) 0 p in
         let g = good-of last a t v r in
@@ -143,9 +145,11 @@ check-split i last (a ∷ xs) (t ∷ ts) (v ∷ vs) ys us ws s =
     go (eqb (cell-rule last a t v) 0) (check-split (suc i) (a + t / 8) xs ts vs ys us ws (same-tail a t v xs ts vs s))
   where
     go : (b : Bool)
-        → check-from (suc i) (a + t / 8) (xs ++ ys) (ts ++ us) (vs ++ ws) ≡ and-then (check-from (suc i) (a + t / 8) xs ts vs) (check-from (suc i + length xs) (end-from (a + t / 8) xs ts) ys us ws)
+        → check-from (suc i) (a + t / 8) (xs ++ ys) (ts ++ us) (vs ++ ws)
+        ≡ and-then (check-from (suc i) (a + t / 8) xs ts vs) (check-from (suc i + length xs) (end-from (a + t / 8) xs ts) ys us ws)
         → cond b (check-from (suc i) (a + t / 8) (xs ++ ys) (ts ++ us) (vs ++ ws)) (refused (cell-rule last a t v) i)
-        ≡ and-then (cond b (check-from (suc i) (a + t / 8) xs ts vs) (refused (cell-rule last a t v) i)) (check-from (i + suc (length xs)) (end-from (a + t / 8) xs ts) ys us ws)
+        ≡ and-then (cond b (check-from (suc i) (a + t / 8) xs ts vs) (refused (cell-rule last a t v) i))
+        (check-from (i + suc (length xs)) (end-from (a + t / 8) xs ts) ys us ws)
     go true e = rw add-suc (rw suc-add at e)
     go false e = refl
 

@@ -140,7 +140,8 @@ place-at last xs ts b i r o =
 end-64 : (a t : ℕ) (xs ts : List ℕ) → Ordered (a + t / 8) xs ts → t ≡ 64 → a + 8 ≤ 2 ^ 64
 end-64 a t xs ts o e = omega (arith, ordered-le (a + t / 8) xs ts o)
 
-at-read : (last : ℕ) (xs ts vs : List ℕ) (m : ByteMemory) (b i : ℕ) → At xs ts (pos b) i → Ordered last xs ts → length xs ≤ length vs → getD vs i 0 < 2 ^ 64 → read-bytes 8 b (over xs ts vs m) ≡ getD vs i 0
+at-read : (last : ℕ) (xs ts vs : List ℕ) (m : ByteMemory) (b i : ℕ) → At xs ts (pos b) i → Ordered last xs ts → length xs ≤ length vs → getD vs i 0 < 2 ^ 64
+    → read-bytes 8 b (over xs ts vs m) ≡ getD vs i 0
 unfolding over
 at-read last xs ts [] m b i (hit e q) o h f = absurd (not-suc-le-zero h)
 at-read last xs ts (v ∷ vs) m b i (hit {a = a} {t = t} {xs = ys} {ts = us} e q) o h f =
@@ -151,14 +152,16 @@ at-read last xs ts [] m b i (miss e r) o h f = absurd (not-suc-le-zero h)
 at-read last xs ts (v ∷ vs) m b i (miss {a = a} {t = t} {i = j} {xs = ys} {ts = us} e r) o h f =
     go (eqb t 64) refl (at-read (a + t / 8) ys us vs m b j r (o .1) (le-of-suc-le-suc h) f)
   where
-    go : (c : Bool) → eqb t 64 ≡ c → read-bytes 8 b (over ys us vs m) ≡ getD vs j 0 → read-bytes 8 b (cond c (write-bytes a v (over ys us vs m)) (over ys us vs m)) ≡ getD vs j 0
+    go : (c : Bool) → eqb t 64 ≡ c → read-bytes 8 b (over ys us vs m) ≡ getD vs j 0
+        → read-bytes 8 b (cond c (write-bytes a v (over ys us vs m)) (over ys us vs m)) ≡ getD vs j 0
     go true p g =
         let u : t ≡ 64 = eqb-true t 64 p in
         let k = place-at (a + t / 8) ys us b j r (o .1) in
         write-other a b v (over ys us vs m) (omega (arith, k .0)) (k .1) ∙ g
     go false p g = g
 
-at-write : (last : ℕ) (xs ts vs : List ℕ) (m : ByteMemory) (b i v : ℕ) → At xs ts (pos b) i → Ordered last xs ts → length xs ≤ length vs → write-bytes b v (over xs ts vs m) ≡ over xs ts (set vs i v) m
+at-write : (last : ℕ) (xs ts vs : List ℕ) (m : ByteMemory) (b i v : ℕ) → At xs ts (pos b) i → Ordered last xs ts → length xs ≤ length vs
+    → write-bytes b v (over xs ts vs m) ≡ over xs ts (set vs i v) m
 unfolding over
 at-write last xs ts [] m b i v (hit e q) o h = absurd (not-suc-le-zero h)
 at-write last xs ts (w ∷ vs) m b i v (hit {a = a} {t = t} {xs = ys} {ts = us} e q) o h =
@@ -169,7 +172,8 @@ at-write last xs ts (w ∷ vs) m b i v (miss {a = a} {t = t} {i = j} {xs = ys} {
     go (eqb t 64) refl (at-write (a + t / 8) ys us vs m b j v r (o .1) (le-of-suc-le-suc h))
   where
     go : (c : Bool) → eqb t 64 ≡ c → write-bytes b v (over ys us vs m) ≡ over ys us (set vs j v) m
-        → write-bytes b v (cond c (write-bytes a w (over ys us vs m)) (over ys us vs m)) ≡ cond c (write-bytes a w (over ys us (set vs j v) m)) (over ys us (set vs j v) m)
+        → write-bytes b v (cond c (write-bytes a w (over ys us vs m)) (over ys us vs m))
+        ≡ cond c (write-bytes a w (over ys us (set vs j v) m)) (over ys us (set vs j v) m)
     go true p g =
         let u : t ≡ 64 = eqb-true t 64 p in
         let k = place-at (a + t / 8) ys us b j r (o .1) in
@@ -216,7 +220,8 @@ agree-over last (a ∷ xs) (t ∷ ts) (v ∷ vs) m o g = go (eqb t 64) refl (agr
     go false p e = e
 
 -- a word before the cells leaves their agreement
-agree-write-before : (last : ℕ) (xs ts vs : List ℕ) (m : ByteMemory) (a v : ℕ) → Ordered last xs ts → a + 8 ≤ last → Agree xs ts vs m → Agree xs ts vs (write-bytes a v m)
+agree-write-before : (last : ℕ) (xs ts vs : List ℕ) (m : ByteMemory) (a v : ℕ) → Ordered last xs ts → a + 8 ≤ last → Agree xs ts vs m
+    → Agree xs ts vs (write-bytes a v m)
 agree-write-before last [] ts vs m a v o k g = tt
 agree-write-before last (b ∷ xs) [] vs m a v o k g = tt
 agree-write-before last (b ∷ xs) (t ∷ ts) [] m a v o k g = tt
@@ -245,7 +250,8 @@ abbrev pub Kept : List ℕ → List ℕ → List ℕ → Type 0
 Kept ts vs ws = (k : ℕ) → k < length ts → (getD ts k 0 ≡ 64 → ⊥) → getD ws k 0 ≡ getD vs k 0
 
 -- where a memory agrees with the cells, the 64-bit cells of later values over it agree with those
-pub over-agree : (last : ℕ) (xs ts vs ws : List ℕ) (m : ByteMemory) → Ordered last xs ts → length ws ≡ length vs → Kept ts vs ws → Agree xs ts vs m → Agree xs ts ws (over xs ts ws m)
+pub over-agree : (last : ℕ) (xs ts vs ws : List ℕ) (m : ByteMemory) → Ordered last xs ts → length ws ≡ length vs → Kept ts vs ws → Agree xs ts vs m
+    → Agree xs ts ws (over xs ts ws m)
 unfolding over
 over-agree last [] ts vs ws m o s k g = tt
 over-agree last (a ∷ xs) [] vs ws m o s k g = tt
@@ -254,7 +260,8 @@ over-agree last (a ∷ xs) (t ∷ ts) [] (w ∷ ws) m o s k g = absurd (omega ar
 over-agree last (a ∷ xs) (t ∷ ts) (v ∷ vs) (w ∷ ws) m o s k g =
     go (eqb t 64) refl (over-agree (a + t / 8) xs ts vs ws m (o .1) (omega arith) (λ n h. k (suc n) (omega arith)) (g .1))
   where
-    go : (c : Bool) → eqb t 64 ≡ c → Agree xs ts ws (over xs ts ws m) → Agree (a ∷ xs) (t ∷ ts) (w ∷ ws) (cond c (write-bytes a w (over xs ts ws m)) (over xs ts ws m))
+    go : (c : Bool) → eqb t 64 ≡ c → Agree xs ts ws (over xs ts ws m)
+        → Agree (a ∷ xs) (t ∷ ts) (w ∷ ws) (cond c (write-bytes a w (over xs ts ws m)) (over xs ts ws m))
     go true p r =
         let u : t ≡ 64 = eqb-true t 64 p in (
           λ j n. write-here a w j (over xs ts ws m) (end-64 a t xs ts (o .1) u) (omega arith),
@@ -279,7 +286,8 @@ over-outside last (a ∷ xs) (t ∷ ts) (v ∷ vs) m o x h = go (eqb t 64) refl 
     go false p e = e
 
 -- ---- an agreeing memory, read and written at a cell that is found
-module _ (xs ts : List ℕ) (ordered : Ordered 0 xs ts) (z : ℤ) (i : ℕ) (found : find-cell xs ts z ≡ some i) (vs : List ℕ) (long : length xs ≤ length vs) (m : ByteMemory) (agree : Agree xs ts vs m) where
+module _ (xs ts : List ℕ) (ordered : Ordered 0 xs ts) (z : ℤ) (i : ℕ) (found : find-cell xs ts z ≡ some i)
+    (vs : List ℕ) (long : length xs ≤ length vs) (m : ByteMemory) (agree : Agree xs ts vs m) where
   pub agree-read : getD vs i 0 < 2 ^ 64 → read-bytes 8 (wrap z) m ≡ getD vs i 0
   agree-read f =
       ap (read-bytes 8 (wrap z)) (sym (agree-over 0 xs ts vs m ordered agree)) ∙ over-read xs ts ordered z i found vs m long f

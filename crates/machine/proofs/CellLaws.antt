@@ -95,14 +95,17 @@ module _ (last a t v top : ℕ) (is : top ≡ cond (is-tag t) (2 ^ t - 1) 0) whe
 
   pub rule-none : (top ≡ 0 → ⊥) → v ≤ top → a < 2 ^ 64 → ltb a last ≡ false → t / 8 - 1 ≤ 18446744073709551615 - a → 0 ≡ cell-rule last a t v
   unfolding cell-rule
-  rule-none n h k e l = rw (known n, lt-leb (2 ^ t) v (omega (arith, top-is n, above-one t (known n))), e, le-ltb (2 ^ 64) (a + t / 8) (omega (arith, bytes-pos n)))
+  rule-none n h k e l =
+      rw (known n, lt-leb (2 ^ t) v (omega (arith, top-is n, above-one t (known n))), e, le-ltb (2 ^ 64) (a + t / 8) (omega (arith, bytes-pos n)))
 
 -- ---- the cells in turn
-pub check-on : (i last a t v : ℕ) (xs ts vs : List ℕ) → cell-rule last a t v ≡ 0 → check-from i last (a ∷ xs) (t ∷ ts) (v ∷ vs) ≡ check-from (suc i) (a + t / 8) xs ts vs
+pub check-on : (i last a t v : ℕ) (xs ts vs : List ℕ) → cell-rule last a t v ≡ 0
+    → check-from i last (a ∷ xs) (t ∷ ts) (v ∷ vs) ≡ check-from (suc i) (a + t / 8) xs ts vs
 unfolding check-from
 check-on i last a t v xs ts vs e = rw (eq-eqb (cell-rule last a t v) 0 e)
 
-pub check-stop : (i last a t v : ℕ) (xs ts vs : List ℕ) → (cell-rule last a t v ≡ 0 → ⊥) → check-from i last (a ∷ xs) (t ∷ ts) (v ∷ vs) ≡ refused (cell-rule last a t v) i
+pub check-stop : (i last a t v : ℕ) (xs ts vs : List ℕ) → (cell-rule last a t v ≡ 0 → ⊥)
+    → check-from i last (a ∷ xs) (t ∷ ts) (v ∷ vs) ≡ refused (cell-rule last a t v) i
 unfolding check-from
 check-stop i last a t v xs ts vs n = rw (ne-eqb (cell-rule last a t v) 0 n)
 

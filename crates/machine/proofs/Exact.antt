@@ -160,7 +160,8 @@ pub two-words : (x : ℕ) (w : Wide) → x < 2 ^ 64 → (w .high ≡ 0 → ⊥) 
 two-words x w h n = omega arith
 
 -- their difference: the difference of the low words, where the high ones are equal with its borrow taken
-module _ (u d : Wide) (word : ℕ) (borrow : Bool) (low : Subtracted 64 (u .low) (d .low) word borrow) (small : u .low < 2 ^ 64) (little : d .low < 2 ^ 64) where
+module _ (u d : Wide) (word : ℕ) (borrow : Bool) (low : Subtracted 64 (u .low) (d .low) word borrow)
+    (small : u .low < 2 ^ 64) (little : d .low < 2 ^ 64) where
   spelled : word + d .low ≡ u .low + bit borrow * 2 ^ 64
   spelled = subtracted-number 64 (u .low) (d .low) word borrow low small little
 
@@ -178,7 +179,8 @@ module _ (u d : Wide) (word : ℕ) (borrow : Bool) (low : Subtracted 64 (u .low)
       go false p = sym (above (number u) (number d) (omega (arith, spelled, ltb-false (u .high) (d .high + bit borrow) p)))
 
 -- an exact address, from the difference that the code makes
-pub gathered : (word : Option ℕ) (z : ℤ) (u d : Wide) (m n : ℕ) → word ≡ in-range (subℕ (number u) (number d)) → number u ≡ m → number d ≡ n → z ≡ subℕ m n → word ≡ in-range z
+pub gathered : (word : Option ℕ) (z : ℤ) (u d : Wide) (m n : ℕ) → word ≡ in-range (subℕ (number u) (number d)) → number u ≡ m → number d ≡ n → z ≡ subℕ m n
+    → word ≡ in-range z
 gathered word z u d m n e p q x = e ∙ ap₂ (λ (a b : ℕ). in-range (subℕ a b)) p q ∙ ap in-range (sym x)
 
 -- ---- the three memory operands
@@ -187,11 +189,13 @@ module _ (m : Maddr) (regs : List ℕ) (word : Option ℕ) where
   unfolding eval-maddr in-range
   at-const n e h = rw (e, lt-ltb n (2 ^ 64) h)
 
-  pub at-register : (r : Reg) (o : ℤ) → m ≡ MReg r o → SFits w64 o → word ≡ in-range (pos (reg-at regs r) +ℤ toZ w64 (ofZ w64 o)) → word ≡ in-range (eval-maddr m regs)
+  pub at-register : (r : Reg) (o : ℤ) → m ≡ MReg r o → SFits w64 o
+      → word ≡ in-range (pos (reg-at regs r) +ℤ toZ w64 (ofZ w64 o)) → word ≡ in-range (eval-maddr m regs)
   unfolding eval-maddr
   at-register r o e f q = rw e (q ∙ ap (λ (y : ℤ). in-range (pos (reg-at regs r) +ℤ y)) (toZ-ofZ w64 o f))
 
-  pub at-index : (b : Reg) (s : ℤ) (i : Reg) (o : ℤ) → m ≡ MIndex b s i o → SFits w16 s → SFits w64 o → word ≡ in-range (exact (reg-at regs b) (toZ w16 (ofZ w16 s)) (reg-at regs i) (toZ w64 (ofZ w64 o))) → word ≡ in-range (eval-maddr m regs)
+  pub at-index : (b : Reg) (s : ℤ) (i : Reg) (o : ℤ) → m ≡ MIndex b s i o → SFits w16 s → SFits w64 o
+      → word ≡ in-range (exact (reg-at regs b) (toZ w16 (ofZ w16 s)) (reg-at regs i) (toZ w64 (ofZ w64 o))) → word ≡ in-range (eval-maddr m regs)
   unfolding eval-maddr
   at-index b s i o e f g q =
       rw e (q ∙ ap₂ (λ (x y : ℤ). in-range (exact (reg-at regs b) x (reg-at regs i) y)) (toZ-ofZ w16 s f) (toZ-ofZ w64 o g))

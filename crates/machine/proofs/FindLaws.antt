@@ -133,7 +133,8 @@ at-of [] ts z i e = absurd (let n : _≡_ {A = ℕ} 0 1 = cc in omega arith)
 at-of (a ∷ xs) [] z i e = absurd (let n : _≡_ {A = ℕ} 0 1 = cc in omega arith)
 at-of (a ∷ xs) (t ∷ ts) z i e = go (eqℤ (pos a) z) refl (eqb t 64) refl (find-cell xs ts z) (at-of xs ts z) i e
   where
-    go : (b : Bool) → eqℤ (pos a) z ≡ b → (c : Bool) → eqb t 64 ≡ c → (o : Option ℕ) → ((j : ℕ) → o ≡ some j → At xs ts z j) → (i : ℕ) → cond b (cond c (some 0) none) (later o) ≡ some i → At (a ∷ xs) (t ∷ ts) z i
+    go : (b : Bool) → eqℤ (pos a) z ≡ b → (c : Bool) → eqb t 64 ≡ c → (o : Option ℕ) → ((j : ℕ) → o ≡ some j → At xs ts z j)
+        → (i : ℕ) → cond b (cond c (some 0) none) (later o) ≡ some i → At (a ∷ xs) (t ∷ ts) z i
     go true p true q o f i e = let n : 0 ≡ i = cc in subst (λ k. At (a ∷ xs) (t ∷ ts) z k) n (hit p q)
     go true p false q o f i e = absurd (let n : _≡_ {A = ℕ} 0 1 = cc in omega arith)
     go false p c q none f i e = absurd (let n : _≡_ {A = ℕ} 0 1 = cc in omega arith)

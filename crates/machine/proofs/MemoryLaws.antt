@@ -57,11 +57,13 @@ pub memory-at : (xs ts vs : List ℕ) (z : ℤ) (i : ℕ) → find-cell xs ts z 
 memory-at xs ts vs z i e = at-memory xs ts vs z i (at-of xs ts z i e)
 
 -- what a load gives there, whichever load it is
-pub load-at : (load : ℤ → Memory → ℕ) → LoadsMem64 load → (xs ts vs : List ℕ) (z : ℤ) (i : ℕ) → find-cell xs ts z ≡ some i → length xs ≤ length vs → load z (memory-of xs ts vs) ≡ getD vs i 0
+pub load-at : (load : ℤ → Memory → ℕ) → LoadsMem64 load → (xs ts vs : List ℕ) (z : ℤ) (i : ℕ) → find-cell xs ts z ≡ some i → length xs ≤ length vs
+    → load z (memory-of xs ts vs) ≡ getD vs i 0
 load-at load loads xs ts vs z i e h = loads z (memory-of xs ts vs) (getD vs i 0) (memory-at xs ts vs z i e h)
 
 -- ---- a store
-at-store : (xs ts vs : List ℕ) (z : ℤ) (i v : ℕ) → At xs ts z i → length xs ≤ length vs → (x : ℤ) → store-mem64 z v (memory-of xs ts vs) x ≡ memory-of xs ts (set vs i v) x
+at-store : (xs ts vs : List ℕ) (z : ℤ) (i v : ℕ) → At xs ts z i → length xs ≤ length vs
+    → (x : ℤ) → store-mem64 z v (memory-of xs ts vs) x ≡ memory-of xs ts (set vs i v) x
 unfolding memory-of store-mem64
 at-store xs ts [] z i v (hit e q) h x = absurd (not-suc-le-zero h)
 at-store xs ts (w ∷ vs) z i v (hit {a = a} {t = t} {xs = ys} {ts = us} e q) h x =
@@ -84,7 +86,8 @@ at-store xs ts (w ∷ vs) z i v (miss {a = a} {t = t} {i = j} {xs = ys} {ts = us
     go false p true q f = refl
     go false p false q f = f
 
-pub memory-store : (xs ts vs : List ℕ) (z : ℤ) (i v : ℕ) → find-cell xs ts z ≡ some i → length xs ≤ length vs → store-mem64 z v (memory-of xs ts vs) ≡ memory-of xs ts (set vs i v)
+pub memory-store : (xs ts vs : List ℕ) (z : ℤ) (i v : ℕ) → find-cell xs ts z ≡ some i → length xs ≤ length vs
+    → store-mem64 z v (memory-of xs ts vs) ≡ memory-of xs ts (set vs i v)
 memory-store xs ts vs z i v e h = fun-ext (at-store xs ts vs z i v (at-of xs ts z i e) h)
 
 -- ---- some load meets the clause of `load_mem64`: the one that gives 0 elsewhere

@@ -18,20 +18,25 @@ module _ (ws : List ℕ) (k a b c d : ℕ) where
   four-other : (m : ℕ) → (m ≡ k → ⊥) → (m ≡ k + 1 → ⊥) → (m ≡ k + 2 → ⊥) → (m ≡ k + 3 → ⊥) → getD four-set m 0 ≡ getD ws m 0
   unfolding four-set
   four-other m n0 n1 n2 n3 =
-      getD-set-other (set (set (set ws k a) (k + 1) b) (k + 2) c) (k + 3) m d 0 n3 ∙ getD-set-other (set (set ws k a) (k + 1) b) (k + 2) m c 0 n2 ∙ getD-set-other (set ws k a) (k + 1) m b 0 n1 ∙ getD-set-other ws k m a 0 n0
+      getD-set-other (set (set (set ws k a) (k + 1) b) (k + 2) c) (k + 3) m d 0 n3
+      ∙ getD-set-other (set (set ws k a) (k + 1) b) (k + 2) m c 0 n2
+      ∙ getD-set-other (set ws k a) (k + 1) m b 0 n1
+      ∙ getD-set-other ws k m a 0 n0
 
   module _ (h : k + 3 < length ws) where
     four-0 : getD four-set k 0 ≡ a
     unfolding four-set
     four-0 =
-        getD-set-other (set (set (set ws k a) (k + 1) b) (k + 2) c) (k + 3) k d 0 (λ e. omega arith) ∙ getD-set-other (set (set ws k a) (k + 1) b) (k + 2) k c 0 (λ e. omega arith)
+        getD-set-other (set (set (set ws k a) (k + 1) b) (k + 2) c) (k + 3) k d 0 (λ e. omega arith)
+        ∙ getD-set-other (set (set ws k a) (k + 1) b) (k + 2) k c 0 (λ e. omega arith)
         ∙ getD-set-other (set ws k a) (k + 1) k b 0 (λ e. omega arith)
         ∙ getD-set-same ws k a 0 (omega arith)
 
     four-1 : getD four-set (k + 1) 0 ≡ b
     unfolding four-set
     four-1 =
-        getD-set-other (set (set (set ws k a) (k + 1) b) (k + 2) c) (k + 3) (k + 1) d 0 (λ e. omega arith) ∙ getD-set-other (set (set ws k a) (k + 1) b) (k + 2) (k + 1) c 0 (λ e. omega arith)
+        getD-set-other (set (set (set ws k a) (k + 1) b) (k + 2) c) (k + 3) (k + 1) d 0 (λ e. omega arith)
+        ∙ getD-set-other (set (set ws k a) (k + 1) b) (k + 2) (k + 1) c 0 (λ e. omega arith)
         ∙ getD-set-same (set ws k a) (k + 1) b 0 (rw length-set (omega arith))
 
     four-2 : getD four-set (k + 2) 0 ≡ c
@@ -57,7 +62,13 @@ xmm-same ws i q h =
 
 pub xmm-other : (ws : List ℕ) (i j : ℕ) (q : Four ℕ) → (j ≡ i → ⊥) → xmm-at (set-xmm ws i q) j ≡ xmm-at ws j
 unfolding xmm-at set-xmm four-set
-xmm-other ws i j q n = rw (at 0 (omega arith) (4 * j) (omega arith), at 1 (omega arith) (4 * j + 1) (omega arith), at 2 (omega arith) (4 * j + 2) (omega arith), at 3 (omega arith) (4 * j + 3) (omega arith))
+xmm-other ws i j q n =
+    rw (
+      at 0 (omega arith) (4 * j) (omega arith),
+      at 1 (omega arith) (4 * j + 1) (omega arith),
+      at 2 (omega arith) (4 * j + 2) (omega arith),
+      at 3 (omega arith) (4 * j + 3) (omega arith),
+    )
   where
     at : (r : ℕ) → r < 4 → (m : ℕ) → m ≡ 4 * j + r
         → getD (set (set (set (set ws (4 * i) (q .lo0)) (4 * i + 1) (q .lo1)) (4 * i + 2) (q .hi2)) (4 * i + 3) (q .hi3)) m 0 ≡ getD ws m 0

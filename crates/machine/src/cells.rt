@@ -132,8 +132,8 @@ fn place_of(addresses: &[u64], address: u64) -> usize
     only_place(addresses, address)
 }
 
-// The index of the 64-bit cell at an address. Of 1,024 cells it looks at 13 addresses at most, at 3 where the cells are 64-bit words
-// in a row, and at most at one tag.
+// The index of the 64-bit cell at an address. Of 1,024 cells it looks at 13 addresses at most, at 3 where the first look is right,
+// and at one tag at most.
 pub fn find_cell(addresses: &[u64], tags: &[u8], address: u64) -> Found
     requires { ⌜ Searchable (now addresses) (now tags) ⌝ }
     ensures { λ r. ⌜ index-of r ≡ find-cell (now (addresses .entry)) (now (tags .entry)) (pos address) ⌝ }

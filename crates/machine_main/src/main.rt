@@ -1,9 +1,10 @@
-// Executes the boundary cases of cells, exact addresses, searches and destinations. A line that does not say "N of N" is an error.
+// Executes the boundary cases of cells, exact addresses, searches, destinations and xmms. A line that does not say "N of N" is an error.
 
 mod addresses;
 mod cells;
 mod searches;
 mod tally;
+mod xmms;
 
 use tally::none_yet;
 use tally::tell;
@@ -27,9 +28,19 @@ fn check_addresses() {
     tell(b"operands", addresses::operands(none_yet()));
 }
 
+fn check_searches() {
+    tell(b"searches", searches::searches(none_yet()));
+    tell(b"searches, in a row", searches::rows(none_yet()));
+    tell(b"searches, gaps", searches::gaps(none_yet()));
+    tell(b"searches, the end", searches::tops(none_yet()));
+    tell(b"searches, no cells", searches::empties(none_yet()));
+    tell(b"cells of operands", searches::operands(none_yet()));
+}
+
 fn main() {
     check_cells();
     check_addresses();
-    tell(b"searches", searches::searches(none_yet()));
+    check_searches();
     tell(b"destinations", searches::destinations(none_yet()));
+    tell(b"xmms", xmms::xmms(none_yet()));
 }

@@ -1,4 +1,4 @@
-// Finding cells, and the destination rule. The expected answers are by hand.
+// Finding cells, by address and by operand, and the destination rule. The expected answers are by hand.
 
 use crate::tally::Tally;
 use crate::tally::counted;
@@ -7,6 +7,7 @@ use machine::Found;
 use machine::Maddr;
 use machine::Operand;
 use machine::Reg;
+ghost use Rattle.machine.specs.Operands.{NamesRegisters};
 
 const TOP: u64 = 18446744073709551615;
 
@@ -64,6 +65,131 @@ pub fn searches(t: Tally) -> Tally {
     let t = search(t, TOP - 6, Found::Nothing);
     let t = search(t, TOP, Found::Nothing);
     t
+}
+
+fn in_row(t: Tally, address: u64, expected: Found) -> Tally {
+    let addresses: [u64; 4] = [4096, 4104, 4112, 4120];
+    let got = find(&addresses, &[64, 64, 64, 64], &[1, 2, 3, 4], address);
+    counted(t, is_found(got, expected))
+}
+
+// 64-bit words in a row: the first look finds each, and nothing below, between and behind them.
+pub fn rows(t: Tally) -> Tally {
+    let t = in_row(t, 0, Found::Nothing);
+    let t = in_row(t, 4088, Found::Nothing);
+    let t = in_row(t, 4095, Found::Nothing);
+    let t = in_row(t, 4096, Found::At(0));
+    let t = in_row(t, 4097, Found::Nothing);
+    let t = in_row(t, 4103, Found::Nothing);
+    let t = in_row(t, 4104, Found::At(1));
+    let t = in_row(t, 4108, Found::Nothing);
+    let t = in_row(t, 4112, Found::At(2));
+    let t = in_row(t, 4120, Found::At(3));
+    let t = in_row(t, 4128, Found::Nothing);
+    let t = in_row(t, TOP - 7, Found::Nothing);
+    let t = in_row(t, TOP, Found::Nothing);
+    t
+}
+
+fn uneven(t: Tally, address: u64, expected: Found) -> Tally {
+    let addresses: [u64; 8] = [100, 108, 112, 114, 115, 123, 200, 208];
+    let tags: [u8; 8] = [64, 32, 16, 8, 64, 64, 64, 64];
+    let values: [u64; 8] = [1, 2, 3, 4, 5, 6, 7, 8];
+    let got = find(&addresses, &tags, &values, address);
+    counted(t, is_found(got, expected))
+}
+
+// Narrow cells and a gap: the first look is at a cell of another tag, at another cell, or at none.
+pub fn gaps(t: Tally) -> Tally {
+    let t = uneven(t, 92, Found::Nothing);
+    let t = uneven(t, 99, Found::Nothing);
+    let t = uneven(t, 100, Found::At(0));
+    let t = uneven(t, 108, Found::Nothing);
+    let t = uneven(t, 112, Found::Nothing);
+    let t = uneven(t, 114, Found::Nothing);
+    let t = uneven(t, 115, Found::At(4));
+    let t = uneven(t, 116, Found::Nothing);
+    let t = uneven(t, 123, Found::At(5));
+    let t = uneven(t, 131, Found::Nothing);
+    let t = uneven(t, 192, Found::Nothing);
+    let t = uneven(t, 200, Found::At(6));
+    let t = uneven(t, 208, Found::At(7));
+    let t = uneven(t, 216, Found::Nothing);
+    t
+}
+
+fn at_top(t: Tally, address: u64, expected: Found) -> Tally {
+    let addresses: [u64; 4] = [TOP - 10, TOP - 9, TOP - 8, TOP - 7];
+    let got = find(&addresses, &[8, 8, 8, 64], &[1, 2, 3, 4], address);
+    counted(t, is_found(got, expected))
+}
+
+// Cells at the end of the memory: the distance of a low address wraps to a small one.
+pub fn tops(t: Tally) -> Tally {
+    let t = at_top(t, 0, Found::Nothing);
+    let t = at_top(t, 20, Found::Nothing);
+    let t = at_top(t, 21, Found::Nothing);
+    let t = at_top(t, TOP - 10, Found::Nothing);
+    let t = at_top(t, TOP - 7, Found::At(3));
+    let t = at_top(t, TOP, Found::Nothing);
+    t
+}
+
+// The cell of an operand, of cells that the check accepts. Rax is 1000, Rdx 3 and R15 the largest word.
+fn named(m: Maddr, addresses: &[u64], tags: &[u8], values: &[u64]) -> Found
+    requires { ⌜ NamesRegisters m ⌝ }
+{
+    let regs: [u64; 16] = [1000, 0, 0, 3, 0, 0, 0, 0, 0, 0, 0, 0, 0, 0, 0, TOP];
+    let checked = machine::check_cells(addresses, tags, values);
+    match checked {
+        Checked::Accepted => machine::cell_of(m, &regs, addresses, tags),
+        Checked::Refused(_, _) => Found::Nothing,
+    }
+}
+
+fn operand(t: Tally, m: Maddr, expected: Found) -> Tally
+    requires { ⌜ NamesRegisters m ⌝ }
+{
+    let addresses: [u64; 5] = [0, 992, 1000, 1008, TOP - 7];
+    let got = named(m, &addresses, &[64, 64, 64, 32, 64], &[1, 2, 3, 4, 5]);
+    counted(t, is_found(got, expected))
+}
+
+// Inside, and outside where the address modulo 2^64 is that of a cell.
+pub fn operands(t: Tally) -> Tally {
+    let t = operand(t, Maddr::MConst(1000), Found::At(2));
+    let t = operand(t, Maddr::MConst(1001), Found::Nothing);
+    let t = operand(t, Maddr::MConst(TOP - 7), Found::At(4));
+    let t = operand(t, Maddr::MReg(Reg::RAX, 0), Found::At(2));
+    let t = operand(t, Maddr::MReg(Reg::RAX, -8), Found::At(1));
+    let t = operand(t, Maddr::MReg(Reg::RAX, 8), Found::Nothing);
+    let t = operand(t, Maddr::MReg(Reg::RAX, -1000), Found::At(0));
+    let t = operand(t, Maddr::MReg(Reg::RAX, -1008), Found::Nothing);
+    let t = operand(t, Maddr::MReg(Reg::R15, -7), Found::At(4));
+    let t = operand(t, Maddr::MReg(Reg::R15, 1), Found::Nothing);
+    let t = operand(t, Maddr::MReg(Reg::R15, 1001), Found::Nothing);
+    let t = operand(t, Maddr::MIndex(Reg::RAX, 8, Reg::RDX, -24), Found::At(2));
+    let t = operand(t, Maddr::MIndex(Reg::RDX, -1, Reg::RAX, 997), Found::At(0));
+    let t = operand(
+        t,
+        Maddr::MIndex(Reg::RDX, -1, Reg::RAX, 989),
+        Found::Nothing,
+    );
+    let t = operand(t, Maddr::MIndex(Reg::RAX, 1, Reg::R15, 1), Found::Nothing);
+    let t = operand(
+        t,
+        Maddr::MIndex(Reg::R15, 32767, Reg::R15, 32768),
+        Found::Nothing,
+    );
+    t
+}
+
+// Where there is no cell, none is found.
+pub fn empties(t: Tally) -> Tally {
+    let t = counted(t, is_found(find(&[], &[], &[], 0), Found::Nothing));
+    let t = counted(t, is_found(find(&[], &[], &[], TOP), Found::Nothing));
+    let got = named(Maddr::MConst(0), &[], &[], &[]);
+    counted(t, is_found(got, Found::Nothing))
 }
 
 fn register(t: Tally, r: Reg, expected: bool) -> Tally {

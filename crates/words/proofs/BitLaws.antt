@@ -1,4 +1,5 @@
--- `iand` and `ixor` go through two lists of n bits, and the language's `&` and `^` through the binary digits of two numbers: both give the lowest bit and go on with the halves, so induction on n shows them equal.
+-- `iand` and `ixor` go through two lists of n bits, and the language's `&` and `^` through the binary digits of two numbers: both give the
+-- lowest bit and go on with the halves, so induction on n shows them equal.
 use Prim.Native.Nat.{ℕ, zero, suc, _+_, _*_, _/_, _%_, _^_, _<_, min}
 use mathlib.Core.Path.{_≡_, refl, sym, ap, ap₂, _∙_}
 use mathlib.Core.Bool.{Bool, true, false, _&&_, xor}
@@ -70,12 +71,14 @@ module _ (f : Bool → Bool → Bool) where
       ∙ ap₂ f (sym (bit-next x j)) (sym (bit-next y j))
 
   -- op is f, digit by digit
-  module _ (op : ℕ → ℕ → ℕ) (g : ℕ → ℕ → ℕ) (step : (a b : ℕ) → op a b ≡ op (a / 2) (b / 2) * 2 + g (a % 2) (b % 2)) (zeros : op 0 0 ≡ 0) (digit : (a b : ℕ) → a < 2 → b < 2 → bit (f (eqb a 1) (eqb b 1)) ≡ g a b) where
+  module _ (op : ℕ → ℕ → ℕ) (g : ℕ → ℕ → ℕ) (step : (a b : ℕ) → op a b ≡ op (a / 2) (b / 2) * 2 + g (a % 2) (b % 2))
+      (zeros : op 0 0 ≡ 0) (digit : (a b : ℕ) → a < 2 → b < 2 → bit (f (eqb a 1) (eqb b 1)) ≡ g a b) where
     both-op : (n x y : ℕ) → x < 2 ^ n → y < 2 ^ n → both n x y ≡ op x y
     unfolding from-vec map2 to-vec
     both-op zero x y hx hy = sym (ap₂ op (lt-one hx) (lt-one hy) ∙ zeros)
     both-op (suc n) x y hx hy =
-        ap₂ (λ (d r : ℕ). d + 2 * r) (digit (x % 2) (y % 2) (mod-lt x (zero-lt-suc 1)) (mod-lt y (zero-lt-suc 1))) (both-op n (x / 2) (y / 2) (half-lt n hx) (half-lt n hy))
+        ap₂ (λ (d r : ℕ). d + 2 * r) (digit (x % 2) (y % 2) (mod-lt x (zero-lt-suc 1)) (mod-lt y (zero-lt-suc 1)))
+        (both-op n (x / 2) (y / 2) (half-lt n hx) (half-lt n hy))
         ∙ turned (g (x % 2) (y % 2)) (op (x / 2) (y / 2))
         ∙ sym (step x y)
       where

@@ -1,4 +1,5 @@
--- An update takes one bit out of the flags and puts the new one in: f - f % 2 + b for the carry, and the same at 2048 for overflow. What is said of the other bits is then arithmetic.
+-- An update takes one bit out of the flags and puts the new one in: f - f % 2 + b for the carry, and the same at 2048 for overflow. What is
+-- said of the other bits is then arithmetic.
 use Prim.Native.Nat.{ℕ, _+_, _-_, _*_, _/_, _%_, _^_, _<_}
 use mathlib.Core.Path.{_≡_, refl, ap, _∙_}
 use mathlib.Core.Bool.{Bool, true, false, cond}

@@ -1,4 +1,5 @@
--- Each lane definition keeps words words: a sum, a shift left and an exclusive or are cut to 32 bits, and the others move words, shrink them or write constants.
+-- Each lane definition keeps words words: a sum, a shift left and an exclusive or are cut to 32 bits, and the others move words, shrink them
+-- or write constants.
 use Prim.Native.Nat.{ℕ, zero, suc, _/_, _%_, _^_, _<_}
 use mathlib.Core.Bool.{Bool, true, false, cond}
 use mathlib.Core.Path.{_≡_, refl, ap, _∙_}
@@ -66,7 +67,12 @@ equal-word-lt a b = chosen-lt (eqb a b)
 pub equal-lanes-quad : (x y : Four ℕ) → Quad (equal-lanes x y)
 unfolding equal-lanes
 equal-lanes-quad x y =
-    record { lo0-lt = equal-word-lt (x .lo0) (y .lo0); lo1-lt = equal-word-lt (x .lo1) (y .lo1); hi2-lt = equal-word-lt (x .hi2) (y .hi2); hi3-lt = equal-word-lt (x .hi3) (y .hi3) }
+    record {
+      lo0-lt = equal-word-lt (x .lo0) (y .lo0);
+      lo1-lt = equal-word-lt (x .lo1) (y .lo1);
+      hi2-lt = equal-word-lt (x .hi2) (y .hi2);
+      hi3-lt = equal-word-lt (x .hi3) (y .hi3);
+    }
 
 pub shl-lanes-quad : (x : Four ℕ) (s : ℕ) → Quad (shl-lanes x s)
 unfolding shl-lanes
@@ -88,8 +94,11 @@ unfolding shift-quad
 shift-quad-quad x h = record { lo0-lt = pow-pos 32; lo1-lt = h .lo0-lt; hi2-lt = h .lo1-lt; hi3-lt = h .hi2-lt }
 
 -- what the code shuffles by: a part of a byte is below 4 already
-pub shuffle-lanes-is : (x : Four ℕ) (imm8 : ℕ) (order : Four ℕ) → order ≡ byte-to-twobits imm8 → four-map (λ (k : ℕ). select-word x (k % 4)) order ≡ shuffle-lanes x imm8
+pub shuffle-lanes-is : (x : Four ℕ) (imm8 : ℕ) (order : Four ℕ) → order ≡ byte-to-twobits imm8
+    → four-map (λ (k : ℕ). select-word x (k % 4)) order ≡ shuffle-lanes x imm8
 unfolding shuffle-lanes nat-to-four
 shuffle-lanes-is x imm8 order e =
-    ap (four-map (λ (k : ℕ). select-word x (k % 4))) e
-    ∙ (λ i. mkfour (select-word x (mod-mod imm8 4 i)) (select-word x (mod-mod (imm8 / 4) 4 i)) (select-word x (mod-mod (imm8 / 16) 4 i)) (select-word x (mod-mod (imm8 / 64) 4 i)))
+    ap (four-map (λ (k : ℕ). select-word x (k % 4))) e ∙ (λ i. mkfour (word imm8 i) (word (imm8 / 4) i) (word (imm8 / 16) i) (word (imm8 / 64) i))
+  where
+    word : (n : ℕ) → select-word x (n % 4 % 4) ≡ select-word x (n % 4)
+    word n = ap (select-word x) (mod-mod n 4)

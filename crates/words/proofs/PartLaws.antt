@@ -4,7 +4,7 @@ use mathlib.Core.Path.{_≡_, refl, ap, _∙_}
 use native.Mathlib.Nat.{add-comm, mod-lt, mod-eq-of-lt}
 use lib.Arith.{digits-lt}
 use lib.Pow.{pow-pos, pow-add, recompose, high, low}
-use Rattle.words.specs.Words.{Two, Four, mktwo, two-two-to-four, four-to-two-two, nat-to-two, two-to-nat, two-select, four-select}
+use Rattle.words.specs.Words.{Two, Four, mktwo, mkfour, two-two-to-four, four-to-two-two, nat-to-two, two-to-nat, two-select, four-select}
 
 pub nat-to-two-lo-lt : (size n : ℕ) → nat-to-two size n .lo < 2 ^ size
 unfolding nat-to-two
@@ -32,6 +32,10 @@ nat-to-two-of size x hl hh =
   where
     upper : (x .hi * 2 ^ size + x .lo) / 2 ^ size % 2 ^ size ≡ x .hi
     upper = ap (λ (n : ℕ). n % 2 ^ size) (high (x .hi) size hl) ∙ mod-eq-of-lt hh
+
+-- quads of equal parts
+pub four-eq : {A : Type 0} {a b c d a′ b′ c′ d′ : A} → a ≡ a′ → b ≡ b′ → c ≡ c′ → d ≡ d′ → mkfour a b c d ≡ mkfour a′ b′ c′ d′
+four-eq p q r s i = mkfour (p i) (q i) (r i) (s i)
 
 pub four-of-twos : {A : Type 0} (x : Four A) → two-two-to-four (four-to-two-two x) ≡ x
 four-of-twos x = refl

@@ -1,4 +1,5 @@
--- Two numbers of two digits each in a base P are multiplied column by column, each column handing its carry to the next: the upper two digits are the high word, the lower two the low word.
+-- Two numbers of two digits each in a base P are multiplied column by column, each column handing its carry to the next: the upper two digits
+-- are the high word, the lower two the low word.
 use Prim.Native.Nat.{ℕ, _+_, _*_, _/_, _%_, _^_, _<_, zero-le}
 use mathlib.Core.Path.{_≡_, refl, sym, ap, ap₂, _∙_}
 use native.Mathlib.Nat.{add-assoc, add-comm, add-left-comm, mul-assoc, mul-comm, mul-left-comm, mul-add, add-mul, mod-lt, div-add-mod', div-lt-iff-lt-mul, mul-le-mul-left, le-of-lt, lt-of-le-of-lt, add-le-add, le-add-right, le-refl, mul-lt-mul-of-pos-right}

@@ -31,7 +31,8 @@ once m s h (no p) =
 
 -- ---- the sum in two steps: first the words, then the carry
 
-module _ (n a b : ℕ) (carry : Bool) (part word : ℕ) (wide : 1 < 2 ^ n) (ha : a < 2 ^ n) (hb : b < 2 ^ n) (hp : part ≡ (a + b) % 2 ^ n) (hw : word ≡ (part + bit carry) % 2 ^ n) where
+module _ (n a b : ℕ) (carry : Bool) (part word : ℕ) (wide : 1 < 2 ^ n) (ha : a < 2 ^ n) (hb : b < 2 ^ n)
+    (hp : part ≡ (a + b) % 2 ^ n) (hw : word ≡ (part + bit carry) % 2 ^ n) where
   add-word : word ≡ sum-mod n (a + b + bit carry)
   unfolding sum-mod
   add-word = hw ∙ ap (λ (x : ℕ). (x + bit carry) % 2 ^ n) hp ∙ mod-add-mod (a + b) (2 ^ n) (bit carry)

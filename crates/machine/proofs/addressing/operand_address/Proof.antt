@@ -39,13 +39,17 @@ mul-exact-address : tie.Need-mul-exact-address
 mul-exact-address c = search needs
 
 element-copy-out-exact-address : tie.Need-element-copy-out-exact-address
-element-copy-out-exact-address c = subst NamesRegisters (c .before .before .before .m3 .given .1) (c .before .before .before .before .before .pre) .0
+element-copy-out-exact-address c =
+    let k = c .before .before .before in
+    subst NamesRegisters (k .m3 .given .1) (k .before .before .pre) .0
 
 mul-exact-address-2 : tie.Need-mul-exact-address-2
 mul-exact-address-2 c = search needs
 
 element-copy-out-exact-address-2 : tie.Need-element-copy-out-exact-address-2
-element-copy-out-exact-address-2 c = subst NamesRegisters (c .before .before .before .before .m3 .given .1) (c .before .before .before .before .before .before .pre) .1
+element-copy-out-exact-address-2 c =
+    let k = c .before .before .before .before in
+    subst NamesRegisters (k .m3 .given .1) (k .before .before .pre) .1
 
 exact-address-requires : tie.Need-exact-address-requires
 exact-address-requires c κs = search needs
@@ -58,12 +62,15 @@ returns c =
 returns-2 : tie.Need-returns-2
 returns-2 c =
     let s = c .before .before .before .before .before .before in
-    at-register (s .args .m) (now (s .args .regs)) _ _ _ (c .before .before .before .before .m2 .given .1) (record { sfits = c .before .before .before .known-told2 .given .1 .0 .1 }) (c .register-address .ensures)
+    at-register (s .args .m) (now (s .args .regs)) _ _ _ (c .before .before .before .before .m2 .given .1)
+    (record { sfits = c .before .before .before .known-told2 .given .1 .0 .1 }) (c .register-address .ensures)
 
 returns-3 : tie.Need-returns-3
 returns-3 c =
     let s = c .before .before .before .before .before .before .before .before in
-    at-index (s .args .m) (now (s .args .regs)) _ _ _ _ _ (c .before .before .before .before .before .before .m3 .given .1) (record { sfits = c .before .before .before .before .before .known-told3 .given .1 .0 .1 }) (record { sfits = c .before .before .before .before .before .known-told3 .given .1 .1 .1 .0 .1 }) (c .exact-address .ensures)
+    let fields = c .before .before .before .before .before .known-told3 in
+    at-index (s .args .m) (now (s .args .regs)) _ _ _ _ _ (c .before .before .before .before .before .before .m3 .given .1)
+    (record { sfits = fields .given .1 .0 .1 }) (record { sfits = fields .given .1 .1 .1 .0 .1 }) (c .exact-address .ensures)
 
 pub operand-address-spec : {M : Type 1} → statement M
 operand-address-spec =

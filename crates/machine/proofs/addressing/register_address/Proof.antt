@@ -42,7 +42,8 @@ returns c =
     let k = c .before .before .before .before in
     let s = k .before in
     let o = size k in
-    gathered _ _ (c .before .before .of-word .result) (c .before .of-word2 .result) (s .args .base) (natAbs (s .args .offset)) (c .difference .ensures) (cc) (cc)
+    gathered _ _ (c .before .before .of-word .result) (c .before .of-word2 .result) (s .args .base) (natAbs (s .args .offset))
+    (c .difference .ensures) (cc) (cc)
     (base-minus (s .args .base) (s .args .offset) (sign w64 _ (s .fits .offset) true (c .before .before .before .if1 .taken)))
 
 returns-2 : tie.Need-returns-2
@@ -50,7 +51,8 @@ returns-2 c =
     let k = c .before .before .before .before .before in
     let s = k .before in
     let o = size k in
-    gathered _ _ (c .before .before .plus .result) (c .before .of-word4 .result) (s .args .base + natAbs (s .args .offset)) 0 (c .difference2 .ensures) (cc) (cc)
+    gathered _ _ (c .before .before .plus .result) (c .before .of-word4 .result) (s .args .base + natAbs (s .args .offset)) 0
+    (c .difference2 .ensures) (cc) (cc)
     (base-plus (s .args .base) (s .args .offset) (sign w64 _ (s .fits .offset) false (c .before .before .before .before .if1 .left)))
 
 pub register-address-spec : {M : Type 1} → statement M

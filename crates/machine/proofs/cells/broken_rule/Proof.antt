@@ -13,12 +13,14 @@ largest-requires c κs = search needs
 returns : tie.Need-returns
 returns c =
     let top = c .before .largest in
-    let a = c .before .before .args in rule-13 (number (a .last)) (a .address) (a .tag) (a .value) (top .result) (top .ensures) (c .if1 .taken)
+    let a = c .before .before .args in
+    rule-13 (number (a .last)) (a .address) (a .tag) (a .value) (top .result) (top .ensures) (c .if1 .taken)
 
 returns-2 : tie.Need-returns-2
 returns-2 c =
     let top = c .before .before .largest in
-    let a = c .before .before .before .args in rule-14 (number (a .last)) (a .address) (a .tag) (a .value) (top .result) (top .ensures) (c .before .if1 .left) (c .if2 .taken)
+    let a = c .before .before .before .args in
+    rule-14 (number (a .last)) (a .address) (a .tag) (a .value) (top .result) (top .ensures) (c .before .if1 .left) (c .if2 .taken)
 
 cast-bytes : tie.Need-cast-bytes
 cast-bytes c = search needs

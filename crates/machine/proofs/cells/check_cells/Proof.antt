@@ -18,7 +18,8 @@ returns-2 c =
 returns-3 : tie.Need-returns-3
 returns-3 c =
     let s = c .before .before .before .before .before .before in
-    too-many (s .args .addresses .now) (s .args .tags .now) (s .args .values .now) (record { tags = c .before .before .if1 .left; values = c .before .if2 .left }) (c .if3 .taken)
+    too-many (s .args .addresses .now) (s .args .tags .now) (s .args .values .now)
+    (record { tags = c .before .before .if1 .left; values = c .before .if2 .left }) (c .if3 .taken)
 
 check-each-requires : tie.Need-check-each-requires
 check-each-requires c κs = search needs
@@ -26,7 +27,10 @@ check-each-requires c κs = search needs
 returns-4 : tie.Need-returns-4
 returns-4 c =
     let s = c .before .before .before .before .before .before .before in
-    c .check-each .ensures ∙ sym (check-all (s .args .addresses .now) (s .args .tags .now) (s .args .values .now) (record { tags = c .before .before .before .if1 .left; values = c .before .before .if2 .left }) (c .before .if3 .left))
+    c .check-each .ensures
+    ∙ sym
+    (check-all (s .args .addresses .now) (s .args .tags .now) (s .args .values .now)
+    (record { tags = c .before .before .before .if1 .left; values = c .before .before .if2 .left }) (c .before .if3 .left))
 
 pub check-cells-spec : {M : Type 1} → statement M
 check-cells-spec = tie.close (tie.spec returns returns-2 returns-3 check-each-requires returns-4)

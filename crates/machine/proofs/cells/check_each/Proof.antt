@@ -53,7 +53,8 @@ returns c =
     ap (λ (n : ℕ). refused n (l .i)) (c .before .broken-rule .ensures)
     ∙ sym
     (l .inv .1
-    ∙ from-stop (s .args .addresses .now) (s .args .tags .now) (s .args .values .now) (s .pre) (l .i) (number (l .last)) (c .before .before .before .before .before .loop-test .taken)
+    ∙ from-stop (s .args .addresses .now) (s .args .tags .now) (s .args .values .now) (s .pre) (l .i) (number (l .last))
+    (c .before .before .before .before .before .loop-test .taken)
     (λ e. c .if1 .taken (c .before .broken-rule .ensures ∙ e)))
 
 end-requires : tie.Need-end-requires Inv-loop μ-loop
@@ -71,7 +72,8 @@ loop-again c =
     let l = c .before .before .before .before .before .before .before .loop in (
       omega arith,
       l .inv .1
-          ∙ from-next (s .args .addresses .now) (s .args .tags .now) (s .args .values .now) (s .pre) (l .i) (number (l .last)) (c .before .before .before .before .before .before .loop-test .taken)
+          ∙ from-next (s .args .addresses .now) (s .args .tags .now) (s .args .values .now) (s .pre) (l .i) (number (l .last))
+          (c .before .before .before .before .before .before .loop-test .taken)
           (number (c .end .result)) (c .end .ensures) (sym (c .before .before .broken-rule .ensures) ∙ c .before .if1 .left),
     )
 

@@ -26,7 +26,8 @@ shared-slice-read-if2 c = search needs
 returns-2 : tie.Need-returns-2
 returns-2 c =
     let s = c .before .before .before .before .before .before in
-    sym (find-elsewhere (s .args .addresses .now) (s .args .tags .now) (s .args .address) (c .before .before .place-of .result) (c .before .before .place-of .ensures .1) (c .if2 .taken))
+    let p = c .before .before .place-of in
+    sym (find-elsewhere (s .args .addresses .now) (s .args .tags .now) (s .args .address) (p .result) (p .ensures .1) (c .if2 .taken))
 
 shared-slice-read-if3 : tie.Need-shared-slice-read-if3
 shared-slice-read-if3 c = search needs
@@ -34,15 +35,19 @@ shared-slice-read-if3 c = search needs
 returns-3 : tie.Need-returns-3
 returns-3 c =
     let s = c .before .before .before .before .before .before .before .before in
+    let p = c .before .before .before .before .place-of in
     sym
-    (find-here (s .args .addresses .now) (s .args .tags .now) (s .args .address) (c .before .before .before .before .place-of .result) (c .before .before .before .before .place-of .ensures .1) (c .before .before .before .before .place-of .ensures .0) (s .pre .tags) (c .before .before .if2 .left)
+    (find-here (s .args .addresses .now) (s .args .tags .now) (s .args .address) (p .result) (p .ensures .1) (p .ensures .0)
+    (s .pre .tags) (c .before .before .if2 .left)
     ∙ rw (eq-eqb _ 64 (c .if3 .taken)))
 
 returns-4 : tie.Need-returns-4
 returns-4 c =
     let s = c .before .before .before .before .before .before .before .before in
+    let p = c .before .before .before .before .place-of in
     sym
-    (find-here (s .args .addresses .now) (s .args .tags .now) (s .args .address) (c .before .before .before .before .place-of .result) (c .before .before .before .before .place-of .ensures .1) (c .before .before .before .before .place-of .ensures .0) (s .pre .tags) (c .before .before .if2 .left)
+    (find-here (s .args .addresses .now) (s .args .tags .now) (s .args .address) (p .result) (p .ensures .1) (p .ensures .0)
+    (s .pre .tags) (c .before .before .if2 .left)
     ∙ rw (ne-eqb _ 64 (c .if3 .left)))
 
 pub find-cell-spec : {M : Type 1} → statement M

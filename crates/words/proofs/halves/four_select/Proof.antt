@@ -21,7 +21,9 @@ returns-3 c = sym (ap (four-select (quad32 (c .before .args .x))) (c .match .key
 
 returns-4 : tie.Need-returns-4
 unfolding four-select
-returns-4 c = let three : c .before .args .selector % 4 ≡ 3 = omega (arith, c .match .rest .1, c .match .rest .0 .1, c .match .rest .0 .0 .1) in sym (ap (four-select (quad32 (c .before .args .x))) three)
+returns-4 c =
+    let three : c .before .args .selector % 4 ≡ 3 = omega (arith, c .match .rest .1, c .match .rest .0 .1, c .match .rest .0 .0 .1) in
+    sym (ap (four-select (quad32 (c .before .args .x))) three)
 
 pub four-select-spec : {M : Type 1} → statement M
 four-select-spec = tie.close (tie.spec returns returns-2 returns-3 returns-4)

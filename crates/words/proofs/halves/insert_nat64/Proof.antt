@@ -13,11 +13,16 @@ nat-to-two-requires c κs = search needs
 
 returns : tie.Need-returns
 unfolding insert-nat64 two-insert
-returns c = ap₂ (λ (d : Two ℕ) (k : ℕ). two-two-to-four (two-insert (four-to-two-two (quad32 (c .before .before .args .q))) d k)) (c .before .nat-to-two .ensures) (sym (c .if1 .taken))
+returns c =
+    let x = four-to-two-two (quad32 (c .before .before .args .q)) in
+    ap₂ (λ (d : Two ℕ) (k : ℕ). two-two-to-four (two-insert x d k)) (c .before .nat-to-two .ensures) (sym (c .if1 .taken))
 
 returns-2 : tie.Need-returns-2
 unfolding insert-nat64 two-insert
-returns-2 c = let one : c .before .before .args .i % 2 ≡ 1 = omega arith in ap₂ (λ (d : Two ℕ) (k : ℕ). two-two-to-four (two-insert (four-to-two-two (quad32 (c .before .before .args .q))) d k)) (c .before .nat-to-two .ensures) (sym one)
+returns-2 c =
+    let one : c .before .before .args .i % 2 ≡ 1 = omega arith in
+    let x = four-to-two-two (quad32 (c .before .before .args .q)) in
+    ap₂ (λ (d : Two ℕ) (k : ℕ). two-two-to-four (two-insert x d k)) (c .before .nat-to-two .ensures) (sym one)
 
 pub insert-nat64-spec : {M : Type 1} → statement M
 insert-nat64-spec = tie.close (tie.spec nat-to-two-requires returns returns-2)

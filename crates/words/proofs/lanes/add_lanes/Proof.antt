@@ -1,7 +1,7 @@
 -- Word by word.
 use borrow.Author.Needs.{needs}
-use Rattle.words.specs.Words.{mkfour}
 use Rattle.words.specs.Types.{add-lanes}
+use Rattle.words.proofs.PartLaws.{four-eq}
 use Rattle.words.proofs.lanes.add_lanes.Statement.{statement}
 use Rattle.words.proofs.lanes.add_lanes.Tie as tie
 
@@ -19,7 +19,9 @@ wrapping-add-u32-requires-4 c κs = search needs
 
 returns : tie.Need-returns
 unfolding add-lanes
-returns c = (λ i. mkfour ((c .before .before .before .wrapping-add-u32 .ensures) i) ((c .before .before .wrapping-add-u322 .ensures) i) ((c .before .wrapping-add-u323 .ensures) i) ((c .wrapping-add-u324 .ensures) i))
+returns c =
+    four-eq (c .before .before .before .wrapping-add-u32 .ensures) (c .before .before .wrapping-add-u322 .ensures)
+    (c .before .wrapping-add-u323 .ensures) (c .wrapping-add-u324 .ensures)
 
 pub add-lanes-spec : {M : Type 1} → statement M
 add-lanes-spec = tie.close (tie.spec wrapping-add-u32-requires wrapping-add-u32-requires-2 wrapping-add-u32-requires-3 wrapping-add-u32-requires-4 returns)

@@ -1,7 +1,7 @@
 -- Word by word.
 use borrow.Author.Needs.{needs}
-use Rattle.words.specs.Words.{mkfour}
 use Rattle.words.specs.Types.{quad32-xor}
+use Rattle.words.proofs.PartLaws.{four-eq}
 use Rattle.words.proofs.lanes.quad32_xor.Statement.{statement}
 use Rattle.words.proofs.lanes.quad32_xor.Tie as tie
 
@@ -19,7 +19,8 @@ ixor32-requires-4 c κs = search needs
 
 returns : tie.Need-returns
 unfolding quad32-xor
-returns c = (λ i. mkfour ((c .before .before .before .ixor32 .ensures) i) ((c .before .before .ixor322 .ensures) i) ((c .before .ixor323 .ensures) i) ((c .ixor324 .ensures) i))
+returns c =
+    four-eq (c .before .before .before .ixor32 .ensures) (c .before .before .ixor322 .ensures) (c .before .ixor323 .ensures) (c .ixor324 .ensures)
 
 pub quad32-xor-spec : {M : Type 1} → statement M
 quad32-xor-spec = tie.close (tie.spec ixor32-requires ixor32-requires-2 ixor32-requires-3 ixor32-requires-4 returns)

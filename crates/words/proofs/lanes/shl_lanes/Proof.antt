@@ -1,7 +1,7 @@
 -- Word by word.
 use borrow.Author.Needs.{needs}
-use Rattle.words.specs.Words.{mkfour}
 use Rattle.words.specs.Types.{shl-lanes}
+use Rattle.words.proofs.PartLaws.{four-eq}
 use Rattle.words.proofs.lanes.shl_lanes.Statement.{statement}
 use Rattle.words.proofs.lanes.shl_lanes.Tie as tie
 
@@ -19,7 +19,8 @@ ishl32-requires-4 c κs = search needs
 
 returns : tie.Need-returns
 unfolding shl-lanes
-returns c = (λ i. mkfour ((c .before .before .before .ishl32 .ensures) i) ((c .before .before .ishl322 .ensures) i) ((c .before .ishl323 .ensures) i) ((c .ishl324 .ensures) i))
+returns c =
+    four-eq (c .before .before .before .ishl32 .ensures) (c .before .before .ishl322 .ensures) (c .before .ishl323 .ensures) (c .ishl324 .ensures)
 
 pub shl-lanes-spec : {M : Type 1} → statement M
 shl-lanes-spec = tie.close (tie.spec ishl32-requires ishl32-requires-2 ishl32-requires-3 ishl32-requires-4 returns)

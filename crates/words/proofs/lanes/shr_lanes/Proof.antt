@@ -1,7 +1,7 @@
 -- Word by word.
 use borrow.Author.Needs.{needs}
-use Rattle.words.specs.Words.{mkfour}
 use Rattle.words.specs.Types.{shr-lanes}
+use Rattle.words.proofs.PartLaws.{four-eq}
 use Rattle.words.proofs.lanes.shr_lanes.Statement.{statement}
 use Rattle.words.proofs.lanes.shr_lanes.Tie as tie
 
@@ -19,7 +19,8 @@ ishr32-requires-4 c κs = search needs
 
 returns : tie.Need-returns
 unfolding shr-lanes
-returns c = (λ i. mkfour ((c .before .before .before .ishr32 .ensures) i) ((c .before .before .ishr322 .ensures) i) ((c .before .ishr323 .ensures) i) ((c .ishr324 .ensures) i))
+returns c =
+    four-eq (c .before .before .before .ishr32 .ensures) (c .before .before .ishr322 .ensures) (c .before .ishr323 .ensures) (c .ishr324 .ensures)
 
 pub shr-lanes-spec : {M : Type 1} → statement M
 shr-lanes-spec = tie.close (tie.spec ishr32-requires ishr32-requires-2 ishr32-requires-3 ishr32-requires-4 returns)

@@ -15,10 +15,16 @@ wrapping-add-u32-requires-2 : tie.Need-wrapping-add-u32-requires-2
 wrapping-add-u32-requires-2 c κs = search needs
 
 returns : tie.Need-returns
-returns c = added-wraps 32 (c .before .before .before .args .a) (c .before .before .before .args .b) (c .before .before .before .args .carry) _ _ (lit< tt) (c .before .before .before .fits .a .fits) (c .before .before .before .fits .b .fits) (c .before .before .wrapping-add-u32 .ensures) (c .before .wrapping-add-u322 .ensures) (c .if1 .taken)
+returns c =
+    let s = c .before .before .before in
+    added-wraps 32 (s .args .a) (s .args .b) (s .args .carry) _ _ (lit< tt) (s .fits .a .fits) (s .fits .b .fits)
+    (c .before .before .wrapping-add-u32 .ensures) (c .before .wrapping-add-u322 .ensures) (c .if1 .taken)
 
 returns-2 : tie.Need-returns-2
-returns-2 c = added-stays 32 (c .before .before .before .args .a) (c .before .before .before .args .b) (c .before .before .before .args .carry) _ _ (lit< tt) (c .before .before .before .fits .a .fits) (c .before .before .before .fits .b .fits) (c .before .before .wrapping-add-u32 .ensures) (c .before .wrapping-add-u322 .ensures) (c .if1 .left)
+returns-2 c =
+    let s = c .before .before .before in
+    added-stays 32 (s .args .a) (s .args .b) (s .args .carry) _ _ (lit< tt) (s .fits .a .fits) (s .fits .b .fits)
+    (c .before .before .wrapping-add-u32 .ensures) (c .before .wrapping-add-u322 .ensures) (c .if1 .left)
 
 pub add32-spec : {M : Type 1} → statement M
 add32-spec = tie.close (tie.spec wrapping-add-u32-requires cast-wrapping-add-u32 wrapping-add-u32-requires-2 returns returns-2)
