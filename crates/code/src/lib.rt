@@ -7,6 +7,7 @@ mod records;
 
 pub use kinds::Class;
 pub use kinds::class_of;
+pub use numbers::number2;
 pub use numbers::number4;
 pub use numbers::number8;
 pub use numbers::signed2;

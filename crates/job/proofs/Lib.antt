@@ -5,3 +5,4 @@ pub mod Rests
 pub mod Numbers
 pub mod Checking
 pub mod Outputs
+pub mod Inputs

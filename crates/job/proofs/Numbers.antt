@@ -1,4 +1,4 @@
--- A number of one or two bytes, and a list of numbers that is read from the front: it grows by the number that stands next.
+-- A list of numbers that is read from the front grows by the number that stands next.
 use Prim.Native.Nat.{ℕ, zero, suc, _+_, _*_, _≤_, _<_}
 use mathlib.Core.Path.{_≡_, refl, sym, ap, _∙_}
 use mathlib.Core.List.{List, [], _∷_, _++_}
@@ -9,14 +9,6 @@ use lib.ListN.{length, getD, set, take}
 use lib.Seq.{take-suc-set, take-all}
 use Rattle.code.specs.Records.{number-at}
 use Rattle.job.specs.Job.{numbers}
-
-pub number-of-byte : (bs : List ℕ) (at : ℕ) → getD bs at 0 ≡ number-at 1 bs at
-unfolding number-at
-number-of-byte bs at = omega arith
-
-pub number-of-bytes : (bs : List ℕ) (at : ℕ) → getD bs at 0 + 256 * getD bs (at + 1) 0 ≡ number-at 2 bs at
-unfolding number-at
-number-of-bytes bs at = let e = ap (λ (k : ℕ). getD bs k 0) (add-one at) in omega arith
 
 -- one step more
 pub steps-more : (step i : ℕ) → step * (i + 1) ≡ step * i + step

@@ -16,7 +16,7 @@ use Rattle.job.specs.Text.{first-line, render}
 use Rattle.job.specs.Job.{numbers, fuel-of, fill-of, env-of, start-of, code-at, check-job, end-checked, run-of-job, printed, output, lent-list}
 use Rattle.job.specs.Written.{Wrote, Printed}
 
-length-numbers : (size step n : ℕ) (bs : List ℕ) (at : ℕ) → length (numbers size step n bs at) ≡ n
+pub length-numbers : (size step n : ℕ) (bs : List ℕ) (at : ℕ) → length (numbers size step n bs at) ≡ n
 unfolding numbers
 length-numbers size step zero bs at = refl
 length-numbers size step (suc n) bs at = ap suc (length-numbers size step n bs (at + step))

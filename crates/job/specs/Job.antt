@@ -8,7 +8,9 @@ use lib.ListN.{length, drop}
 use Rattle.machine.specs.Cells.{Verdict}
 use Rattle.machine.specs.Cells.{accepted as job-accepted, refused as job-refused}
 use Rattle.code.specs.Records.{number-at}
-use Rattle.eval.specs.Config.{Env, Config, End, ends, refused}
+use Rattle.machine.specs.declared.State.{State}
+use Rattle.eval.specs.Config.{Env, Config, config, End, ends, refused}
+use Rattle.eval.specs.declared.answer.Setting.{Setting}
 use Rattle.eval.specs.Running.{run-of}
 use Rattle.job.specs.Text.{render}
 
@@ -38,19 +40,25 @@ env-of bs =
       fill = fill-of bs;
     }
 
+-- the state that the run starts from
+abbrev pub state-of : List ℕ → State
+state-of bs = record { regs = numbers 8 8 16 bs 20; xmms = numbers 4 4 64 bs 148; flags = number-at 8 bs 12 }
+
+-- what the job names for the run beside code, cells and start
+abbrev pub setting-of : List ℕ → Setting
+setting-of bs = record { fill = fill-of bs; fuel = fuel-of bs }
+
 -- the start, with the cells' values
 abbrev pub start-of : List ℕ → Config
-start-of bs =
-    record {
-      regs = numbers 8 8 16 bs 20;
-      xmms = numbers 4 4 64 bs 148;
-      flags = number-at 8 bs 12;
-      values = numbers 8 17 (count-of bs) bs 415;
-    }
+start-of bs = config (state-of bs) (numbers 8 17 (count-of bs) bs 415)
 
 -- where the cells end and the code begins
 abbrev pub code-at : List ℕ → ℕ
 code-at bs = 406 + 17 * count-of bs
+
+-- the code
+abbrev pub code-of : List ℕ → List ℕ
+code-of bs = drop (code-at bs) bs
 
 -- Checking a job: 42, 41, 12, 41 in this order, all at place 0
 unfoldable pub check-job : List ℕ → Verdict
@@ -68,7 +76,7 @@ pub record Complete (bs : List ℕ) : Type 0 where
 
 -- the end of an accepted job: the run's
 abbrev pub run-of-job : List ℕ → End
-run-of-job bs = run-of (drop (code-at bs) bs) (env-of bs) (fuel-of bs) (start-of bs)
+run-of-job bs = run-of (code-of bs) (env-of bs) (fuel-of bs) (start-of bs)
 
 -- the end of a job that was checked
 unfoldable pub end-checked : Verdict → List ℕ → End

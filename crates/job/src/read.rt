@@ -1,28 +1,15 @@
 // The fields of a job's bytes, low byte first.
 ghost use mathlib.Core.Path.{_≡_};
-ghost use Prim.Native.Nat.{_+_, _*_, _^_, _≤_, _<_};
+ghost use Prim.Native.Nat.{_+_, _*_, _≤_};
 ghost use lib.ListN.{length};
 ghost use Rattle.machine.specs.Cells.{verdict};
-ghost use Rattle.code.specs.Records.{number-at};
 ghost use Rattle.job.specs.Job.{numbers, fuel-of, fill-of, start-of, check-job};
+use code::number2;
 use code::number4;
 use code::number8;
 use eval::Setting;
 use machine::Checked;
 use machine::State;
-
-fn wide(byte: u8) -> usize
-    ensures { λ r. ⌜ (r ≡ byte) × (r < 256) ⌝ }
-{
-    byte as usize
-}
-
-pub fn number2(input: &[u8], at: usize) -> usize
-    requires { ⌜ at + 2 ≤ length (now input) ⌝ }
-    ensures { λ r. ⌜ (r ≡ number-at 2 (now (input .entry)) at) × (r < 2 ^ 16) ⌝ }
-{
-    wide(input[at]) + 256 * wide(input[at + 1])
-}
 
 // Numbers of eight bytes, `step` bytes apart.
 pub fn read_words(input: &[u8], from: usize, step: usize, to: &mut [u64])

@@ -3,15 +3,16 @@ ghost use mathlib.Core.Path.{_≡_};
 ghost use Prim.Native.Nat.{_≤_};
 ghost use lib.ListN.{length};
 ghost use Rattle.machine.specs.Cells.{accepted};
-ghost use Rattle.job.specs.Job.{Complete, count-of, env-of, start-of, check-job, output, printed, run-of-job, Lists};
+ghost use Rattle.job.specs.Job.{Complete, count-of, env-of, code-of, state-of, setting-of, start-of, check-job, output, printed, run-of-job, Lists};
+ghost use Rattle.eval.specs.Inputs.{IsInput};
 ghost use Rattle.job.specs.Written.{Wrote, Printed};
 use crate::cells::read_cells;
 use crate::lines::put_answer;
 use crate::read::check_job;
-use crate::read::number2;
 use crate::read::read_setting;
 use crate::read::read_state;
 use crate::render::render;
+use code::number2;
 use eval::Answer;
 use machine::Checked;
 
@@ -93,6 +94,7 @@ pub fn job(
 ) -> usize
     ensures { λ r. ⌜ Printed (output (now (input .entry))) (now (out .entry)) (now (out .exit)) r ⌝ }
     ensures { λ _. ⌜ Lists (now (input .entry)) (now (addresses .entry)) (now (tags .entry)) (now (values .entry)) (now (addresses .exit)) (now (tags .exit)) (now (values .exit)) ⌝ }
+    ensures { λ _. ⌜ IsInput (code-of (now (input .entry))) (state-of (now (input .entry))) (setting-of (now (input .entry))) ⌝ }
 {
     size(out);
     let checked = check_job(input);

@@ -4,7 +4,8 @@ use mathlib.Core.Path.{_≡_, refl, sym, ap, _∙_}
 use native.Mathlib.Omega.{arith}
 use borrow.Author.Needs.{needs}
 use lib.ListN.{length, length-set}
-use Rattle.job.proofs.Numbers.{Got, got-none, got-more, got-all, number-of-byte}
+use Rattle.job.proofs.Numbers.{Got, got-none, got-more, got-all}
+use Rattle.code.proofs.NumberLaws.{one-byte}
 use Rattle.job.proofs.read.read_tags.Statement.{statement}
 use Rattle.job.proofs.read.read_tags.Tie as tie
 
@@ -43,7 +44,7 @@ loop-again c =
     let inside : loop .i < length (loop .to) = omega arith in (
       omega arith,
       length-set (loop .to) (loop .i) _ ∙ loop .inv .1,
-      got-more 1 17 (args .input .now) (args .from) (loop .i) (loop .to) (loop .inv .2) inside (number-of-byte (args .input .now) (args .from + 17 * loop .i)),
+      got-more 1 17 (args .input .now) (args .from) (loop .i) (loop .to) (loop .inv .2) inside (sym (one-byte (args .input .now) (args .from + 17 * loop .i))),
     )
 
 same-length : tie.Need-same-length Inv-loop μ-loop
