@@ -1,8 +1,11 @@
 -- What the C interface says of an answer, in numbers.
 use Prim.Native.Nat.{ℕ}
+use mathlib.Core.List.{List}
+use Rattle.machine.specs.declared.State.{State}
 use Rattle.machine.specs.Cells.{Verdict}
 use Rattle.machine.specs.Cells.{accepted as check-accepted, refused as check-refused}
 use Rattle.eval.specs.Config.{Config, Outcome, done, fault, spent, refused, End}
+use Rattle.eval.specs.declared.answer.Setting.{Setting}
 
 -- a number with a place or an index
 pub record Refusal : Type 0 where
@@ -44,3 +47,11 @@ ending t s = record { how = t; config = s }
 -- the numbers of an end
 abbrev pub ending-of : End → Ending
 ending-of e = ending (told-of (e .how)) (e .config)
+
+-- the state that is lent in parts
+abbrev pub lent-state : List ℕ → List ℕ → ℕ → State
+lent-state regs xmms flags = record { regs = regs; xmms = xmms; flags = flags }
+
+-- fill word and fuel
+abbrev pub lent-setting : ℕ → ℕ → Setting
+lent-setting fill fuel = record { fill = fill; fuel = fuel }

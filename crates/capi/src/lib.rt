@@ -5,9 +5,10 @@ ghost use Rattle.code.specs.Reader.{check-code};
 ghost use Rattle.eval.specs.Config.{outcome};
 ghost use Rattle.eval.specs.Lent.{environment, held};
 ghost use Rattle.eval.specs.Running.{run-of};
-ghost use Rattle.job.specs.Job.{output};
+ghost use Rattle.eval.specs.Inputs.{IsInput};
+ghost use Rattle.job.specs.Job.{output, code-of, state-of, setting-of};
 ghost use Rattle.job.specs.Written.{Printed};
-ghost use Rattle.capi.specs.Told.{refusal, refusal-of, told, told-of, ending, ending-of};
+ghost use Rattle.capi.specs.Told.{refusal, refusal-of, told, told-of, ending, ending-of, lent-state, lent-setting};
 use code::check_code;
 use eval::Answer;
 use eval::Setting;
@@ -105,6 +106,7 @@ pub extern "C" fn pokchrei_run(
     place: &mut usize,
 ) -> u8
     ensures { λ r. ⌜ ending (told r (now (number .exit)) (now (place .exit))) (held (now (regs .exit)) (now (xmms .exit)) (now (flags .exit)) (now (values .exit))) ≡ ending-of (run-of (now (code .entry)) (environment (now (addresses .entry)) (now (tags .entry)) fill) fuel (held (now (regs .entry)) (now (xmms .entry)) (now (flags .entry)) (now (values .entry)))) ⌝ }
+    ensures { λ _. ⌜ IsInput (now (code .entry)) (lent-state (now (regs .entry)) (now (xmms .entry)) (now (flags .entry))) (lent-setting fill fuel) ⌝ }
 {
     let first_regs = *regs;
     let first_xmms = *xmms;
@@ -129,6 +131,7 @@ pub extern "C" fn pokchrei_run(
 #[no_mangle]
 pub extern "C" fn pokchrei_job(input: &[u8], out: &mut [u8; 65536]) -> usize
     ensures { λ r. ⌜ Printed (output (now (input .entry))) (now (out .entry)) (now (out .exit)) r ⌝ }
+    ensures { λ _. ⌜ IsInput (code-of (now (input .entry))) (state-of (now (input .entry))) (setting-of (now (input .entry))) ⌝ }
 {
     let mut addresses = [0u64; 1024];
     let mut tags = [0u8; 1024];

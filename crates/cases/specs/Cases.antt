@@ -10,6 +10,7 @@ use Rattle.words.specs.Bits.{to-vec, from-vec, map2, ixor, ishl}
 use Rattle.words.specs.Types.{shl-lanes, shuffle-lanes, shift-quad}
 use Rattle.words.specs.Sums.{sum-mod, sum-carry, sub-mod, mul-div, mul-mod}
 use Rattle.words.specs.Flags.{cf, overflow, update-cf, update-of}
+use Rattle.machine.specs.Bytes.{spelled}
 use Rattle.machine.specs.Registers.{Rax, xmm-at, set-xmm}
 use Rattle.machine.specs.Operands.{eval-maddr, valid-dst}
 use Rattle.machine.specs.Cells.{Verdict, accepted, refused, is-tag, cell-rule, check-from, check-cells, find-cell, eqℤ}
@@ -107,7 +108,7 @@ kernels =
 
 -- Running, with all that it computes with opened
 unfoldable pub ran : Kernel → End
-unfolding run-of run-read run-checked run-code rounds run-ocmp continue check choose cell-of valid-operand eval-operand valid-dst-operand update-operand run-mulx run-ins valid-ocmp eval-ocmp add-flags find-cell eqℤ eval-maddr valid-dst xmm-at set-xmm cf overflow update-cf update-of sum-mod sum-carry sub-mod mul-div mul-mod shl-lanes shuffle-lanes shift-quad to-vec from-vec map2 xor ixor ishl nat-to-four two-select two-to-nat four-select four-insert followed with-fields read-record read-operands read-with read-ocmp read-part read-codes read-block read-if read-while read-structure read-body read-code parse verdict-of check-code body-length operand-count register-fields number-at signed-at operand-at behind operands-at ins-at ocmp-at is-tag cell-rule check-from check-cells
+unfolding run-of run-read run-checked run-code rounds run-ocmp continue check choose cell-of valid-operand eval-operand valid-dst-operand update-operand run-mulx run-ins valid-ocmp eval-ocmp add-flags find-cell eqℤ eval-maddr valid-dst xmm-at set-xmm cf overflow update-cf update-of sum-mod sum-carry sub-mod mul-div mul-mod shl-lanes shuffle-lanes shift-quad to-vec from-vec map2 xor ixor ishl nat-to-four two-select two-to-nat four-select four-insert followed with-fields read-record read-operands read-with read-ocmp read-part read-codes read-block read-if read-while read-structure read-body read-code parse verdict-of check-code body-length operand-count register-fields number-at spelled signed-at operand-at behind operands-at ins-at ocmp-at is-tag cell-rule check-from check-cells
 ran k = run-of (k .code) (k .env) (k .fuel) (k .start)
 
 -- what Running makes of each row

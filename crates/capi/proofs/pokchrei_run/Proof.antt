@@ -22,7 +22,7 @@ same-length c = search needs
 returns : tie.Need-returns
 returns c =
     let after-run = c .before .before .before .before .before .before .before .before in
-    numbered (c .tell .ensures) (after-run .run .ensures .0)
+    (numbered (c .tell .ensures) (after-run .run .ensures .0), after-run .run .ensures .1)
 
 pub pokchrei-run-spec : {M : Type 1} → statement M
 pokchrei-run-spec = tie.close (tie.spec run-requires tell-requires same-length returns)
