@@ -45,7 +45,7 @@ pub fn eval_codes(
             }
             next = step.place;
         } else {
-            let step = eval_code(
+            let ran = eval_code(
                 code,
                 next,
                 fuel,
@@ -57,10 +57,10 @@ pub fn eval_codes(
                 tags,
                 values,
             );
-            if step.number != 0 {
-                return step;
+            if ran.number != 0 {
+                return ran;
             }
-            next = step.place;
+            next = ran.place;
         }
     }
     Step {
@@ -183,12 +183,12 @@ fn eval_while(
 {
     let mut left = fuel;
     while left != 0 {
-        let test = at + 5;
-        let compared = compare(code, test, regs, cells, tags, values);
+        let condition = at + 5;
+        let compared = compare(code, condition, regs, cells, tags, values);
         if compared.how == 2 {
             return Step {
                 number: 31,
-                place: test,
+                place: condition,
             };
         }
         *flags = fill;

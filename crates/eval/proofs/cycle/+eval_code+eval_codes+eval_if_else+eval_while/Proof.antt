@@ -465,8 +465,8 @@ eval-while-μ-loop code at fuel fill regs₀ xmms₀ flags₀ cells tags values�
 eval-while-loop-holds : (t : ℕ) → eval-while-lts.Need-loop-holds (eval-while-claims t) (eval-while-at t) eval-while.Post eval-while-Inv-loop eval-while-μ-loop
 eval-while-loop-holds t c = record { same = λ _ _ _. refl; long = refl; less = omega arith }
 
-eval-while-add-test : (t : ℕ) → eval-while-lts.Need-add-test (eval-while-claims t) (eval-while-at t) eval-while.Post eval-while-Inv-loop eval-while-μ-loop
-eval-while-add-test t c =
+eval-while-add-condition : (t : ℕ) → eval-while-lts.Need-add-condition (eval-while-claims t) (eval-while-at t) eval-while.Post eval-while-Inv-loop eval-while-μ-loop
+eval-while-add-condition t c =
     let s = c .before .before .before .before .before .before in
     let w = loop-inside _ _ (s .pre .1 .0) (s .pre .1 .1 .0) in
     omega arith
@@ -728,7 +728,7 @@ pub +eval-code+eval-codes+eval-if-else+eval-while-spec : {M : Type 1} → statem
     eval-while-Inv-loop
     eval-while-μ-loop
     (eval-while-loop-holds t)
-    (eval-while-add-test t)
+    (eval-while-add-condition t)
     (eval-while-compare-requires t)
     (eval-while-same-length t)
     (eval-while-returns t)
