@@ -1,5 +1,5 @@
 #!/bin/sh
-# Times the proved evaluator beside a plain interpreter in one run, and writes docs/COST.md and docs/cost.svg.
+# Times the proved evaluator beside two interpreters in one run, and writes docs/COST.md and docs/cost.svg.
 # `bench/run.sh quick` takes fewer steps and writes nothing into docs.
 set -eu
 cd "$(dirname "$0")/.."
