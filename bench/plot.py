@@ -21,7 +21,7 @@ WIDTH, HEIGHT, LEFT, TOP, GAP = 300, 180, 60, 40, 80
 
 INTRODUCTION = """\
 Times of one run of `bench/run.sh`, which builds the proved static library and writes this page and the plot. Three
-evaluators run in one process, take turns, and are held to the same end of every kernel:
+evaluators run in one process, take turns, and are held to the same end of every kernel and of the stored jobs:
 
 - proved: the static library. It checks code and cells, and then runs from the bytes.
 - plain (`bench/src/plain.rs`): safe Rust that reads the bytes as it goes and checks nothing beforehand.

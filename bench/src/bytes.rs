@@ -1,4 +1,4 @@
-//! Fields of code, low byte first.
+//! Fields of code and of jobs, low byte first.
 
 pub fn u32_at(bytes: &[u8], at: usize) -> u32 {
     u32::from_le_bytes(bytes[at..at + 4].try_into().unwrap())

@@ -3,7 +3,7 @@
 use crate::encode::*;
 use pokchrei::{Setting, State};
 
-/// Code with its start, its cells, and fill word and fuel.
+/// Code with its start, its cells, and fill word and fuel. `steps` is 0 where it is not timed.
 pub struct Kernel {
     pub name: String,
     pub steps: u64,

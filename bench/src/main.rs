@@ -2,6 +2,7 @@
 //!
 //!     bench                  the kernels and the growth of cost, as lines of fields divided by tabs
 //!     bench quick            the same with fewer steps
+//!     bench agree FILE...    holds the interpreters to the proved evaluator on stored jobs
 //!     bench stack N          one deep run of N rounds at the largest fuel
 
 mod bytes;
@@ -9,6 +10,7 @@ mod clock;
 mod decoded;
 mod encode;
 mod ends;
+mod jobs;
 mod kernels;
 mod machine;
 mod plain;
@@ -100,6 +102,7 @@ fn main() {
     let words: Vec<String> = std::env::args().skip(1).collect();
     let words: Vec<&str> = words.iter().map(String::as_str).collect();
     match words[..] {
+        ["agree", ref paths @ ..] => paths.iter().for_each(|path| jobs::agree(path)),
         ["stack", rounds] => deep_run(rounds.parse().expect("a number of rounds")),
         ["quick"] => {
             kernels(2_400_000, 5);
