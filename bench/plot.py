@@ -1,10 +1,10 @@
 #!/usr/bin/env python3
-"""Writes the cost page and its plot from the lines that `bench` prints.
+"""Writes the cost page and its plot from the lines that `bench` and size.py print.
 
     plot.py LINES COST.md cost.svg
 
 A line is: group, name, size, then three numbers or -. Of a time they are the nanoseconds of the proved evaluator, the
-plain and the decoded interpreter.
+plain and the decoded interpreter; of a stack the first is bytes, and the size is the depth of nesting.
 """
 
 import sys
@@ -36,6 +36,16 @@ KERNELS = """\
 `straight` has registers alone, `mixed` IfElse, memory, lanes and products, `deep` 13 IfElse in each other. `memory` has
 64-bit cells in a row; `scattered` has cells of every tag with gaps, so that no cell is where it would be in a row. Both
 interpreters find a cell by bisection alone.
+"""
+
+SIZE = """\
+Bytes of code of `libcapi.a` by crate and module, from its symbols. What was inlined counts where it was inlined, and
+padding only in the sum.
+"""
+
+STACK = """\
+Bytes of stack from the frame that calls the Rust wrapper to the deepest byte written, on a stack that was painted
+before. One kind of structure stands inside another, with every instruction innermost; at 33 deep the code is refused.
 """
 
 
@@ -87,6 +97,38 @@ def growth_table(group, rows):
     yield from table(head, body)
 
 
+def size_section(groups):
+    sums = {row.name: row.size for row in groups["section"]}
+    calls = " and ".join(f"`{row.name}`" for row in groups.get("call", [])) or "nothing"
+    rows = [[f"`{row.name}`", f"{row.size:,}"] for row in groups["size"]]
+    rows.append(["all text sections", f"{sums['text']:,}"])
+    yield SIZE
+    yield from table(["part", "bytes"], rows)
+    yield ""
+    yield f"Constants take {sums['constants']:,} bytes and data {sums['data']:,}. Of other libraries it calls {calls}."
+
+
+def stack_section(rows):
+    bytes_of = {}
+    for row in rows:
+        call, shape = row.name.split(", ", 1)
+        bytes_of.setdefault((call, row.size), {})[shape] = int(row.proved)
+    shapes = bytes_of["run", 32]
+    body = [
+        [f"{call}, {what}"] + [f"{bytes_of[call, depth][shape]:,}" for shape in shapes]
+        for call in ("run", "job")
+        for depth, what in ((32, "32 deep"), (33, "refused at 33"))
+    ]
+    yield STACK
+    yield from table(["call", *shapes], body)
+    yield ""
+    for call in ("run", "job"):
+        (one,) = bytes_of[call, 1].values()
+        most = max(bytes_of[call, 32].values())
+        level = (most - one) / 31
+        yield f"The deepest {call} takes {most:,} bytes, one instruction alone {one:,}: about {level:.0f} a level."
+
+
 def document(groups):
     yield "# Cost"
     yield ""
@@ -104,6 +146,14 @@ def document(groups):
         yield f"### {TITLES[group][0]}"
         yield ""
         yield from growth_table(group, groups[group])
+    yield ""
+    yield "## Size"
+    yield ""
+    yield from size_section(groups)
+    yield ""
+    yield "## Stack"
+    yield ""
+    yield from stack_section(groups["stack"])
 
 
 def curve(rows, evaluator, top):

@@ -1,4 +1,5 @@
-//! Stored jobs, in the job program's bytes, over which the three evaluators have to agree on every kind of end.
+//! Jobs, in the job program's bytes: a kernel written as one, and stored ones, over which the three evaluators have to
+//! agree on every kind of end.
 
 use crate::bytes::{length_at, u32_at, u64_at};
 use crate::ends;
@@ -12,6 +13,22 @@ const XMMS: usize = 148;
 const COUNT: usize = 404;
 const CELLS: usize = 406;
 const CELL: usize = 17;
+
+pub fn written(kernel: &Kernel) -> Vec<u8> {
+    let mut job = kernel.setting.fuel.to_le_bytes().to_vec();
+    job.extend(kernel.setting.fill.to_le_bytes());
+    job.extend(kernel.state.flags.to_le_bytes());
+    job.extend(kernel.state.regs.iter().flat_map(|word| word.to_le_bytes()));
+    job.extend(kernel.state.xmms.iter().flat_map(|word| word.to_le_bytes()));
+    job.extend((kernel.addresses.len() as u16).to_le_bytes());
+    for (i, address) in kernel.addresses.iter().enumerate() {
+        job.extend(address.to_le_bytes());
+        job.push(kernel.tags[i]);
+        job.extend(kernel.values[i].to_le_bytes());
+    }
+    job.extend(&kernel.code);
+    job
+}
 
 /// The kernel of a job, unless it is cut short.
 fn read(job: &[u8]) -> Option<Kernel> {

@@ -15,10 +15,10 @@ pub struct Kernel {
     pub values: Vec<u64>,
 }
 
-const FIRST_CELL: u64 = 4096;
+pub const FIRST_CELL: u64 = 4096;
 
 /// Registers and flags of 0, no cells, and the largest fuel.
-fn kernel(name: &str, steps: u64, code: Code) -> Kernel {
+pub fn kernel(name: &str, steps: u64, code: Code) -> Kernel {
     Kernel {
         name: name.to_string(),
         steps,
@@ -45,14 +45,14 @@ fn looped(name: &str, steps: u64, inner: u64, body: Vec<Code>) -> Kernel {
     kernel
 }
 
-fn set_regs(kernel: &mut Kernel, words: &[(u8, u64)]) {
+pub fn set_regs(kernel: &mut Kernel, words: &[(u8, u64)]) {
     for &(r, word) in words {
         kernel.state.regs[usize::from(r)] = word;
     }
 }
 
 /// Lends 64-bit cells in a row; cell i holds i * i.
-fn set_cells(kernel: &mut Kernel, count: u64) {
+pub fn set_cells(kernel: &mut Kernel, count: u64) {
     kernel.addresses = (0..count).map(|i| FIRST_CELL + 8 * i).collect();
     kernel.tags = vec![64; kernel.addresses.len()];
     kernel.values = (0..count).map(|i| i * i).collect();

@@ -1,11 +1,16 @@
-//! Times the proved evaluator, through its static library, beside two interpreters of the same bytes.
+//! Times the proved evaluator, through its static library, beside two interpreters of the same bytes, and measures its
+//! stack.
 //!
-//!     bench                  the kernels and the growth of cost, as lines of fields divided by tabs
+//!     bench                  the kernels, the growth of cost and the stack, as lines of fields divided by tabs
 //!     bench quick            the same with fewer steps
 //!     bench agree FILE...    holds the interpreters to the proved evaluator on stored jobs
 //!     bench stack N          one deep run of N rounds at the largest fuel
 
+// Only what calls the C library may use it: the interpreters are safe Rust.
+#![deny(unsafe_code)]
+
 mod bytes;
+#[allow(unsafe_code)]
 mod clock;
 mod decoded;
 mod encode;
@@ -13,7 +18,10 @@ mod ends;
 mod jobs;
 mod kernels;
 mod machine;
+#[allow(unsafe_code)]
+mod painted;
 mod plain;
+mod stack;
 
 use ends::End;
 use kernels::Kernel;
@@ -108,11 +116,13 @@ fn main() {
             kernels(2_400_000, 5);
             growth(1_000_000, 5);
             checking(5);
+            stack::lines();
         }
         _ => {
             kernels(24_000_000, 7);
             growth(100_000_000, 20);
             checking(20);
+            stack::lines();
         }
     }
 }
