@@ -34,7 +34,7 @@ decoding in it. Numbers are the machine's; the ratios are what to read.
 
 KERNELS = """\
 `straight` has registers alone, `mixed` IfElse, memory, lanes and products, `deep` 13 IfElse in each other. `memory` has
-64-bit cells in a row; `scattered` has cells of every tag with gaps, so that no cell is where it would be in a row. Both
+64-bit cells in a row; `scattered` has cells of every tag with gaps, and no 64-bit cell where it would be in a row. Both
 interpreters find a cell by bisection alone.
 """
 
