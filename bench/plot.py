@@ -1,12 +1,14 @@
 #!/usr/bin/env python3
-"""Writes the cost table and its plot from the lines that `bench` prints.
+"""Writes the cost page and its plot from the lines that `bench` and size.py print.
 
     plot.py LINES COST.md cost.svg
 
-A line is: group, name, size, nanoseconds of the proved evaluator, nanoseconds of the plain one (or -).
+A line is: group, name, size, then three numbers or -. Of a time they are the nanoseconds of the proved evaluator, the
+plain and the decoded interpreter; of a stack the first is bytes, and the size is the depth of nesting.
 """
 
 import sys
+from typing import NamedTuple, Optional
 
 TITLES = {
     "steps": ("Steps of a run", "ns a step"),
@@ -14,47 +16,126 @@ TITLES = {
     "depth": ("Depth of nesting", "ns a step"),
     "code": ("Bytes of code checked", "ns a byte"),
 }
+COLOURS = {"proved": "#1f5fa8", "plain": "#c2571a", "decoded": "#3a7d34"}
 WIDTH, HEIGHT, LEFT, TOP, GAP = 300, 180, 60, 40, 80
+
+INTRODUCTION = """\
+Times of one run of `bench/run.sh`, which builds the proved static library and writes this page and the plot. Three
+evaluators run in one process, take turns, and are held to the same end of every kernel and of the stored jobs:
+
+- proved: the static library. It checks code and cells, and then runs from the bytes.
+- plain (`bench/src/plain.rs`): safe Rust that reads the bytes as it goes and checks nothing beforehand.
+- decoded (`bench/src/decoded.rs`): safe Rust that first decodes the code into an array, with operands as values and
+  structures as indexes, and runs from that. It checks nothing beforehand either.
+
+A step is one instruction or comparison. Each time is the least processor time of several runs, with the checking or
+decoding in it. Numbers are the machine's; the ratios are what to read.
+"""
+
+KERNELS = """\
+`straight` has registers alone, `mixed` IfElse, memory, lanes and products, `deep` 13 IfElse in each other. `memory` has
+64-bit cells in a row; `scattered` has cells of every tag with gaps, and no 64-bit cell where it would be in a row. Both
+interpreters find a cell by bisection alone.
+"""
+
+SIZE = """\
+Bytes of code of `libcapi.a` by crate and module, from its symbols. What was inlined counts where it was inlined, and
+padding only in the sum.
+"""
+
+STACK = """\
+Bytes of stack from the frame that calls the Rust wrapper to the deepest byte written, on a stack that was painted
+before. One kind of structure stands inside another, with every instruction innermost; at 33 deep the code is refused.
+"""
+
+
+class Row(NamedTuple):
+    name: str
+    size: int
+    proved: Optional[float]
+    plain: Optional[float]
+    decoded: Optional[float]
 
 
 def read(path):
     groups = {}
     for line in open(path, encoding="utf-8"):
-        group, name, size, ours, theirs = line.rstrip("\n").split("\t")
-        row = (name, int(size), float(ours), None if theirs == "-" else float(theirs))
-        groups.setdefault(group, []).append(row)
+        group, name, size, *fields = line.rstrip("\n").split("\t")
+        numbers = [None if field == "-" else float(field) for field in fields]
+        groups.setdefault(group, []).append(Row(name, int(size), *numbers))
     return groups
 
 
+def table(head, rows):
+    yield f"| {' | '.join(head)} |"
+    yield "|" + "---|" * len(head)
+    for row in rows:
+        yield f"| {' | '.join(row)} |"
+
+
+OTHERS = ["plain", "decoded", "proved / plain", "proved / decoded"]
+
+
+def others(row):
+    """The interpreters' times, and the ratios to them."""
+    numbers = row.plain, row.decoded, row.proved / row.plain, row.proved / row.decoded
+    return [f"{number:.2f}" for number in numbers]
+
+
 def kernel_table(rows):
-    yield "| kernel | steps | proved, ns a step | plain, ns a step | ratio |"
-    yield "|---|---|---|---|---|"
-    for name, size, ours, theirs in rows:
-        yield f"| {name} | {size:,} | {ours:.2f} | {theirs:.2f} | {ours / theirs:.2f} |"
+    head = ["kernel", "steps", "proved, ns a step", *OTHERS]
+    yield from table(head, ([row.name, f"{row.size:,}", f"{row.proved:.2f}", *others(row)] for row in rows))
 
 
 def growth_table(group, rows):
     title, unit = TITLES[group]
-    plain = rows[0][3] is not None
-    head = f"| {title.lower()} | proved, {unit} | against the first |"
-    yield head + (f" plain, {unit} | ratio |" if plain else "")
-    yield "|---|---|---|" + ("---|---|" if plain else "")
-    for _, size, ours, theirs in rows:
-        line = f"| {size:,} | {ours:.2f} | {ours / rows[0][2]:.2f} |"
-        yield line + (f" {theirs:.2f} | {ours / theirs:.2f} |" if plain else "")
+    head = [title.lower(), f"proved, {unit}", "against the first"]
+    body = [[f"{row.size:,}", f"{row.proved:.2f}", f"{row.proved / rows[0].proved:.2f}"] for row in rows]
+    if rows[0].plain is not None:
+        head += OTHERS
+        body = [cells + others(row) for cells, row in zip(body, rows)]
+    yield from table(head, body)
+
+
+def size_section(groups):
+    sums = {row.name: row.size for row in groups["section"]}
+    calls = " and ".join(f"`{row.name}`" for row in groups.get("call", [])) or "nothing"
+    rows = [[f"`{row.name}`", f"{row.size:,}"] for row in groups["size"]]
+    rows.append(["all text sections", f"{sums['text']:,}"])
+    yield SIZE
+    yield from table(["part", "bytes"], rows)
+    yield ""
+    yield f"Constants take {sums['constants']:,} bytes and data {sums['data']:,}. Of other libraries it calls {calls}."
+
+
+def stack_section(rows):
+    bytes_of = {}
+    for row in rows:
+        call, shape = row.name.split(", ", 1)
+        bytes_of.setdefault((call, row.size), {})[shape] = int(row.proved)
+    shapes = bytes_of["run", 32]
+    body = [
+        [f"{call}, {what}"] + [f"{bytes_of[call, depth][shape]:,}" for shape in shapes]
+        for call in ("run", "job")
+        for depth, what in ((32, "32 deep"), (33, "refused at 33"))
+    ]
+    yield STACK
+    yield from table(["call", *shapes], body)
+    yield ""
+    for call in ("run", "job"):
+        (one,) = bytes_of[call, 1].values()
+        most = max(bytes_of[call, 32].values())
+        level = (most - one) / 31
+        yield f"The deepest {call} takes {most:,} bytes, one instruction alone {one:,}: about {level:.0f} a level."
 
 
 def document(groups):
     yield "# Cost"
     yield ""
-    yield "Times of one run of `bench/run.sh`, which builds the proved static library and writes this page and the plot."
-    yield "The plain interpreter (`bench/src/plain.rs`) is safe Rust over the same bytes, decodes as it goes and checks"
-    yield "nothing beforehand; both run in one process, take turns, and are held to the same end. A step is one instruction"
-    yield "or comparison. Each time is the least processor time of several runs, and the proved one has checking of code"
-    yield "and cells in it. Numbers are the machine's; the ratios are what to read."
-    yield ""
+    yield INTRODUCTION
     yield "## Kernels"
     yield ""
+    yield KERNELS
     yield from kernel_table(groups["kernel"])
     yield ""
     yield "## Growth"
@@ -65,19 +146,24 @@ def document(groups):
         yield f"### {TITLES[group][0]}"
         yield ""
         yield from growth_table(group, groups[group])
+    yield ""
+    yield "## Size"
+    yield ""
+    yield from size_section(groups)
+    yield ""
+    yield "## Stack"
+    yield ""
+    yield from stack_section(groups["stack"])
 
 
-def points(rows, column, top):
+def curve(rows, evaluator, top):
     last = max(len(rows) - 1, 1)
-    for i, row in enumerate(rows):
-        yield WIDTH * i / last, HEIGHT * (1 - row[column] / top)
-
-
-def curve(rows, column, top, colour):
-    spots = [f"{x:.1f},{y:.1f}" for x, y in points(rows, column, top)]
-    yield f'<polyline points="{" ".join(spots)}" fill="none" stroke="{colour}" stroke-width="2"/>'
-    for spot in spots:
-        x, y = spot.split(",")
+    heights = [HEIGHT * (1 - getattr(row, evaluator) / top) for row in rows]
+    spots = [(f"{WIDTH * i / last:.1f}", f"{y:.1f}") for i, y in enumerate(heights)]
+    line = " ".join(f"{x},{y}" for x, y in spots)
+    colour = COLOURS[evaluator]
+    yield f'<polyline points="{line}" fill="none" stroke="{colour}" stroke-width="2"/>'
+    for x, y in spots:
         yield f'<circle cx="{x}" cy="{y}" r="3" fill="{colour}"/>'
 
 
@@ -90,8 +176,8 @@ def short(size):
 
 def panel(group, rows):
     title, unit = TITLES[group]
-    both = [row[column] for row in rows for column in (2, 3) if row[column] is not None]
-    top = 1.15 * max(both)
+    drawn = [evaluator for evaluator in COLOURS if getattr(rows[0], evaluator) is not None]
+    top = 1.15 * max(getattr(row, evaluator) for row in rows for evaluator in drawn)
     yield f'<text x="0" y="-14" font-weight="bold">{title} ({unit})</text>'
     yield f'<rect width="{WIDTH}" height="{HEIGHT}" fill="none" stroke="#999"/>'
     for part in (0, 0.5, 1):
@@ -100,10 +186,9 @@ def panel(group, rows):
     last = max(len(rows) - 1, 1)
     for i, row in enumerate(rows):
         x = WIDTH * i / last
-        yield f'<text x="{x:.0f}" y="{HEIGHT + 16}" text-anchor="middle">{short(row[1])}</text>'
-    yield from curve(rows, 2, top, "#1f5fa8")
-    if rows[0][3] is not None:
-        yield from curve(rows, 3, top, "#c2571a")
+        yield f'<text x="{x:.0f}" y="{HEIGHT + 16}" text-anchor="middle">{short(row.size)}</text>'
+    for evaluator in drawn:
+        yield from curve(rows, evaluator, top)
 
 
 def drawing(groups):
@@ -116,8 +201,8 @@ def drawing(groups):
         yield f'<g transform="translate({x},{y})">'
         yield from panel(group, groups[group])
         yield "</g>"
-    yield f'<text x="{LEFT}" y="{high - 10}" fill="#1f5fa8">proved evaluator</text>'
-    yield f'<text x="{LEFT + 120}" y="{high - 10}" fill="#c2571a">plain interpreter</text>'
+    for i, (evaluator, colour) in enumerate(COLOURS.items()):
+        yield f'<text x="{LEFT + 80 * i}" y="{high - 10}" fill="{colour}">{evaluator}</text>'
     yield "</svg>"
 
 
@@ -127,9 +212,9 @@ def write(path, lines):
 
 
 def main():
-    lines, table, plot = sys.argv[1:]
+    lines, page, plot = sys.argv[1:]
     groups = read(lines)
-    write(table, document(groups))
+    write(page, document(groups))
     write(plot, drawing(groups))
 
 

@@ -9,6 +9,8 @@ pub const RCX: u8 = 2;
 pub const RDX: u8 = 3;
 pub const RSI: u8 = 4;
 pub const RDI: u8 = 5;
+pub const RBP: u8 = 6;
+pub const RSP: u8 = 7;
 
 pub fn constant(n: u64) -> Code {
     [&[0x40], &n.to_le_bytes()[..]].concat()

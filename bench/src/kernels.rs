@@ -1,43 +1,60 @@
 //! The kernels that are timed. A step is one instruction or one comparison.
 
 use crate::encode::*;
+use pokchrei::{Setting, State};
 
+/// Code with its start, its cells, and fill word and fuel. `steps` is 0 where it is not timed.
 pub struct Kernel {
     pub name: String,
     pub steps: u64,
     pub code: Code,
-    pub regs: [u64; 16],
+    pub state: State,
+    pub setting: Setting,
     pub addresses: Vec<u64>,
+    pub tags: Vec<u8>,
     pub values: Vec<u64>,
 }
 
-const FIRST_CELL: u64 = 4096;
+pub const FIRST_CELL: u64 = 4096;
+
+/// Registers and flags of 0, no cells, and the largest fuel.
+pub fn kernel(name: &str, steps: u64, code: Code) -> Kernel {
+    Kernel {
+        name: name.to_string(),
+        steps,
+        code,
+        state: State::default(),
+        setting: Setting {
+            fill: 0,
+            fuel: u32::MAX,
+        },
+        addresses: Vec::new(),
+        tags: Vec::new(),
+        values: Vec::new(),
+    }
+}
 
 /// A loop of `rounds`, counted down in Rcx, over codes that take `inner` steps.
 fn looped(name: &str, steps: u64, inner: u64, body: Vec<Code>) -> Kernel {
     let rounds = steps / (inner + 2);
     let mut codes = body;
     codes.push(two(0x07, reg(RCX), constant(1)));
-    let mut regs = [0; 16];
-    regs[usize::from(RCX)] = rounds;
-    Kernel {
-        name: name.to_string(),
-        steps: rounds * (inner + 2),
-        code: while_holds(two(0x31, reg(RCX), constant(0)), block(&codes)),
-        regs,
-        addresses: Vec::new(),
-        values: Vec::new(),
-    }
+    let code = while_holds(two(0x31, reg(RCX), constant(0)), block(&codes));
+    let mut kernel = kernel(name, rounds * (inner + 2), code);
+    set_regs(&mut kernel, &[(RCX, rounds)]);
+    kernel
 }
 
-fn set_regs(kernel: &mut Kernel, words: &[(u8, u64)]) {
+pub fn set_regs(kernel: &mut Kernel, words: &[(u8, u64)]) {
     for &(r, word) in words {
-        kernel.regs[usize::from(r)] = word;
+        kernel.state.regs[usize::from(r)] = word;
     }
 }
 
-fn set_cells(kernel: &mut Kernel, count: u64) {
+/// Lends 64-bit cells in a row; cell i holds i * i.
+pub fn set_cells(kernel: &mut Kernel, count: u64) {
     kernel.addresses = (0..count).map(|i| FIRST_CELL + 8 * i).collect();
+    kernel.tags = vec![64; kernel.addresses.len()];
     kernel.values = (0..count).map(|i| i * i).collect();
 }
 
@@ -108,22 +125,50 @@ pub fn deep(steps: u64) -> Kernel {
     looped("deep", steps, 28, vec![inner])
 }
 
-/// Reads and stores by every memory operand, over `count` cells (a power of two).
-pub fn memory(steps: u64, count: u64) -> Kernel {
-    let last = FIRST_CELL + 8 * (count - 1);
-    let middle = 8 * (count as i64 / 2);
+/// Reads and stores by every memory operand, over `count` 64-bit cells (a power of two), the first at `first` and
+/// each `stride` bytes above the one before.
+fn over_cells(name: &str, steps: u64, first: u64, stride: i16, count: u64) -> Kernel {
+    let last = first + stride as u64 * (count - 1);
+    let middle = i64::from(stride) * (count as i64 / 2);
     let body = vec![
         two(ADD64, reg(RDI), constant(7)),
         two(0x0c, reg(RDI), constant(count - 1)),
-        two(ADD64, at_index(RBX, 8, RDI), reg(RCX)),
-        two(0x01, reg(RAX), at_index(RBX, 8, RDI)),
+        two(ADD64, at_index(RBX, stride, RDI), reg(RCX)),
+        two(0x01, reg(RAX), at_index(RBX, stride, RDI)),
         two(0x0b, reg(8), at_reg(RBX, middle)),
         two(ADD64, reg(9), at(last)),
         two(0x01, at_reg(RBX, middle), reg(9)),
     ];
-    let mut kernel = looped(&format!("memory, {count} cells"), steps, 7, body);
-    set_regs(&mut kernel, &[(RBX, FIRST_CELL)]);
+    let mut kernel = looped(name, steps, 7, body);
+    set_regs(&mut kernel, &[(RBX, first)]);
+    kernel
+}
+
+/// Cells that are 64-bit words in a row.
+pub fn memory(steps: u64, count: u64) -> Kernel {
+    let name = format!("memory, {count} cells");
+    let mut kernel = over_cells(&name, steps, FIRST_CELL, 8, count);
     set_cells(&mut kernel, count);
+    kernel
+}
+
+/// 1,024 cells of every tag, with gaps. No 64-bit cell is where it would be if all cells were words in a row: that of
+/// group k has index 4k + 3 and lies 6k + 4 words above the first cell, and these two never meet.
+pub fn scattered(steps: u64) -> Kernel {
+    const GROUP: [(u64, u8); 4] = [(0, 8), (3, 16), (9, 32), (32, 64)];
+    const GROUPS: u64 = 256;
+    const STRIDE: i16 = 48;
+    let (wide, _) = GROUP[3];
+    let first = FIRST_CELL + wide;
+    let mut kernel = over_cells("scattered, 1024 cells", steps, first, STRIDE, GROUPS);
+    for k in 0..GROUPS {
+        let group = FIRST_CELL + STRIDE as u64 * k;
+        for (offset, tag) in GROUP {
+            kernel.addresses.push(group + offset);
+            kernel.tags.push(tag);
+            kernel.values.push(k);
+        }
+    }
     kernel
 }
 

@@ -1,89 +1,56 @@
-//! Times the proved evaluator, through its static library, beside a plain interpreter of the same bytes.
+//! Times the proved evaluator, through its static library, beside two interpreters of the same bytes, and measures its
+//! stack.
 //!
-//!     bench            the five kernels and the growth of cost, as lines of fields divided by tabs
-//!     bench quick      the same with fewer steps
-//!     bench stack N    one deep run of N rounds at the largest fuel
+//!     bench                  the kernels, the growth of cost and the stack, as lines of fields divided by tabs
+//!     bench quick            the same with fewer steps
+//!     bench agree FILE...    holds the interpreters to the proved evaluator on stored jobs
+//!     bench stack N          one deep run of N rounds at the largest fuel
 
+// Only what calls the C library may use it: the interpreters are safe Rust.
+#![deny(unsafe_code)]
+
+mod bytes;
+#[allow(unsafe_code)]
 mod clock;
+mod decoded;
 mod encode;
+mod ends;
+mod jobs;
 mod kernels;
+mod machine;
+#[allow(unsafe_code)]
+mod painted;
 mod plain;
+mod stack;
 
+use ends::End;
 use kernels::Kernel;
-use pokchrei::{Answer, Cells, Setting, State};
+use pokchrei::Answer;
 
-const FUEL: u32 = u32::MAX;
-const FILL: u64 = 0;
 const SHORT: u64 = 500_000;
 
-/// What both evaluators are held to: the state and the cells at the end of a Done run.
-#[derive(PartialEq, Eq)]
-struct End {
-    state: State,
-    values: Vec<u64>,
-}
+/// In the order of their columns.
+const EVALUATORS: [fn(&Kernel) -> End; 3] = [ends::proved, ends::plain, ends::decoded];
 
-fn proved(kernel: &Kernel, tags: &[u8]) -> End {
-    let mut state = State {
-        regs: kernel.regs,
-        ..State::default()
-    };
-    let mut values = kernel.values.clone();
-    let cells = Cells {
-        addresses: &kernel.addresses,
-        tags,
-        values: &mut values,
-    };
-    let setting = Setting {
-        fill: FILL,
-        fuel: FUEL,
-    };
-    let answer = pokchrei::run(&kernel.code, cells, &mut state, setting);
-    assert_eq!(answer, Answer::Done, "{}", kernel.name);
-    End { state, values }
-}
-
-fn plain(kernel: &Kernel, tags: &[u8]) -> End {
-    let mut values = kernel.values.clone();
-    let mut machine = plain::Machine {
-        code: &kernel.code,
-        addresses: &kernel.addresses,
-        tags,
-        values: &mut values,
-        regs: kernel.regs,
-        xmms: [[0; 4]; 16],
-        flags: 0,
-        fill: FILL,
-    };
-    let ended = machine.eval(0, FUEL);
-    assert_eq!(ended, Ok(kernel.code.len()), "{}", kernel.name);
-    let mut xmms = [0; 64];
-    xmms.copy_from_slice(machine.xmms.as_flattened());
-    let state = State {
-        regs: machine.regs,
-        xmms,
-        flags: machine.flags,
-    };
-    End { state, values }
-}
-
-/// Times of both, in nanoseconds a step. They take turns, so that a change of the machine's pace meets both.
-fn compared(kernel: &Kernel, times: u32) -> (f64, f64) {
-    let tags = vec![64; kernel.addresses.len()];
-    let same = proved(kernel, &tags) == plain(kernel, &tags);
-    assert!(same, "{}: the two ends differ", kernel.name);
-    let (mut ours, mut theirs) = (f64::INFINITY, f64::INFINITY);
+/// Times of the three, in nanoseconds a step. They take turns, so that a change of the machine's pace meets them all.
+fn compared(kernel: &Kernel, times: u32) -> [f64; 3] {
+    let [proved, plain, decoded] = EVALUATORS.map(|evaluate| evaluate(kernel));
+    assert_eq!(proved.answer, Answer::Done, "{}", kernel.name);
+    assert!(proved == plain, "{}: plain ends otherwise", kernel.name);
+    assert!(proved == decoded, "{}: decoded ends otherwise", kernel.name);
+    let mut best = [f64::INFINITY; 3];
     for _ in 0..times {
-        ours = ours.min(clock::least(1, || drop(proved(kernel, &tags))));
-        theirs = theirs.min(clock::least(1, || drop(plain(kernel, &tags))));
+        for (best, evaluate) in best.iter_mut().zip(EVALUATORS) {
+            *best = best.min(clock::least(1, || drop(evaluate(kernel))));
+        }
     }
-    let steps = kernel.steps as f64;
-    (ours / steps, theirs / steps)
+    best.map(|time| time / kernel.steps as f64)
 }
 
-fn line(group: &str, name: &str, size: u64, times: (f64, f64)) {
-    let (ours, theirs) = times;
-    println!("{group}\t{name}\t{size}\t{ours:.4}\t{theirs:.4}");
+fn line(group: &str, size: u64, kernel: &Kernel, times: u32) {
+    let [proved, plain, decoded] = compared(kernel, times);
+    let name = &kernel.name;
+    println!("{group}\t{name}\t{size}\t{proved:.4}\t{plain:.4}\t{decoded:.4}");
 }
 
 fn kernels(steps: u64, times: u32) {
@@ -93,14 +60,10 @@ fn kernels(steps: u64, times: u32) {
         kernels::deep(steps),
         kernels::memory(steps, 16),
         kernels::memory(steps, 1024),
+        kernels::scattered(steps),
     ];
     for kernel in &all {
-        line(
-            "kernel",
-            &kernel.name,
-            kernel.steps,
-            compared(kernel, times),
-        );
+        line("kernel", kernel.steps, kernel, times);
     }
 }
 
@@ -108,22 +71,20 @@ fn kernels(steps: u64, times: u32) {
 fn growth(most: u64, times: u32) {
     let mut steps = 100_000;
     while steps <= most {
-        let kernel = kernels::straight(steps);
         let turns = times.min((4 * most / steps) as u32 + 1);
-        line("steps", &kernel.name, steps, compared(&kernel, turns));
+        line("steps", steps, &kernels::straight(steps), turns);
         steps *= 10;
     }
     for power in 0..=10 {
-        let kernel = kernels::memory(SHORT, 1 << power);
-        line("cells", &kernel.name, 1 << power, compared(&kernel, times));
+        let count = 1 << power;
+        line("cells", count, &kernels::memory(SHORT, count), times);
     }
     for depth in [3, 4, 8, 16, 24, 32] {
-        let kernel = kernels::nested(SHORT, depth);
-        line("depth", &kernel.name, depth, compared(&kernel, times));
+        line("depth", depth, &kernels::nested(SHORT, depth), times);
     }
 }
 
-/// Checking code: nanoseconds a byte. The plain interpreter checks nothing.
+/// Checking code: nanoseconds a byte. The interpreters check nothing.
 fn checking(times: u32) {
     const ROUNDS: usize = 200;
     for kib in [1, 2, 4, 8, 16] {
@@ -131,33 +92,37 @@ fn checking(times: u32) {
         assert_eq!(pokchrei::check_code(&code), Ok(()));
         let work = || (0..ROUNDS).for_each(|_| assert!(pokchrei::check_code(&code).is_ok()));
         let byte = clock::least(times, work) / (ROUNDS * code.len()) as f64;
-        let name = format!("{kib} KiB");
-        println!("code\t{name}\t{}\t{byte:.4}\t-", code.len());
+        println!("code\t{kib} KiB\t{}\t{byte:.4}\t-\t-", code.len());
     }
 }
 
 /// A run at the largest fuel, of `rounds` rounds through 32 levels: its stack does not grow with either.
-fn stack(rounds: u64) {
+fn deep_run(rounds: u64) {
     let kernel = kernels::nested(rounds * 32, 32);
-    let end = proved(&kernel, &[]);
+    let end = ends::proved(&kernel);
+    assert_eq!(end.answer, Answer::Done);
     assert_eq!(end.state.regs[usize::from(encode::RCX)], 0);
-    println!("{rounds} rounds through 32 levels at fuel {FUEL}: done");
+    let fuel = kernel.setting.fuel;
+    println!("{rounds} rounds through 32 levels at fuel {fuel}: done");
 }
 
 fn main() {
     let words: Vec<String> = std::env::args().skip(1).collect();
     let words: Vec<&str> = words.iter().map(String::as_str).collect();
     match words[..] {
-        ["stack", rounds] => stack(rounds.parse().expect("a number of rounds")),
+        ["agree", ref paths @ ..] => paths.iter().for_each(|path| jobs::agree(path)),
+        ["stack", rounds] => deep_run(rounds.parse().expect("a number of rounds")),
         ["quick"] => {
             kernels(2_400_000, 5);
             growth(1_000_000, 5);
             checking(5);
+            stack::lines();
         }
         _ => {
             kernels(24_000_000, 7);
             growth(100_000_000, 20);
             checking(20);
+            stack::lines();
         }
     }
 }
