@@ -3,7 +3,8 @@
 
 use crate::bytes::{length_at, u64_at};
 use crate::encode::RSP;
-use crate::machine::{holds, indexed, number, Machine, Slot, Stop};
+use crate::machine::{holds, indexed, number, Machine, Slot};
+use crate::plain::Stop;
 
 #[derive(Clone, Copy)]
 enum Operand {

@@ -2,8 +2,8 @@
 
 use crate::decoded::Program;
 use crate::kernels::Kernel;
-use crate::machine::{Machine, Stop};
-use crate::plain;
+use crate::machine::Machine;
+use crate::plain::{self, Stop};
 use pokchrei::{Answer, Cells, State};
 
 /// What the evaluators are held to.
@@ -32,42 +32,58 @@ pub fn proved(kernel: &Kernel) -> End {
 }
 
 pub fn plain(kernel: &Kernel) -> End {
-    interpreted(kernel, |machine| {
-        plain::eval(machine, &kernel.code, 0, kernel.setting.fuel).map(|_| ())
-    })
+    let mut values = kernel.values.clone();
+    let mut machine = plain::Machine {
+        code: &kernel.code,
+        addresses: &kernel.addresses,
+        tags: &kernel.tags,
+        values: &mut values,
+        regs: kernel.state.regs,
+        xmms: quads(&kernel.state),
+        flags: kernel.state.flags,
+        fill: kernel.setting.fill,
+    };
+    let stop = machine.eval(0, kernel.setting.fuel).err();
+    let state = state(machine.regs, machine.xmms, machine.flags);
+    end(stop, state, values)
 }
 
 /// Decoding is a part of this run, as checking is of the proved one.
 pub fn decoded(kernel: &Kernel) -> End {
-    interpreted(kernel, |machine| {
-        Program::decode(&kernel.code).run(machine, kernel.setting.fuel)
-    })
-}
-
-fn interpreted(kernel: &Kernel, run: impl FnOnce(&mut Machine) -> Result<(), Stop>) -> End {
     let mut values = kernel.values.clone();
     let mut machine = Machine {
         addresses: &kernel.addresses,
         tags: &kernel.tags,
         values: &mut values,
         regs: kernel.state.regs,
-        xmms: [[0; 4]; 16],
+        xmms: quads(&kernel.state),
         flags: kernel.state.flags,
         fill: kernel.setting.fill,
     };
-    let words = machine.xmms.as_flattened_mut();
-    words.copy_from_slice(&kernel.state.xmms);
-    let answer = match run(&mut machine) {
-        Ok(()) => Answer::Done,
-        Err(Stop::Fault(number, place)) => Answer::Fault { number, place },
-        Err(Stop::Spent(place)) => Answer::Spent { place },
+    let program = Program::decode(&kernel.code);
+    let stop = program.run(&mut machine, kernel.setting.fuel).err();
+    let state = state(machine.regs, machine.xmms, machine.flags);
+    end(stop, state, values)
+}
+
+fn quads(state: &State) -> [[u32; 4]; 16] {
+    let mut quads = [[0; 4]; 16];
+    quads.as_flattened_mut().copy_from_slice(&state.xmms);
+    quads
+}
+
+fn state(regs: [u64; 16], quads: [[u32; 4]; 16], flags: u64) -> State {
+    let mut xmms = [0; 64];
+    xmms.copy_from_slice(quads.as_flattened());
+    State { regs, xmms, flags }
+}
+
+fn end(stop: Option<Stop>, state: State, values: Vec<u64>) -> End {
+    let answer = match stop {
+        None => Answer::Done,
+        Some(Stop::Fault(number, place)) => Answer::Fault { number, place },
+        Some(Stop::Spent(place)) => Answer::Spent { place },
     };
-    let mut state = State {
-        regs: machine.regs,
-        flags: machine.flags,
-        ..State::default()
-    };
-    state.xmms.copy_from_slice(machine.xmms.as_flattened());
     End {
         answer,
         state,

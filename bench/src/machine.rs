@@ -1,7 +1,8 @@
-//! What the two interpreters share: the state, and what becomes of it once operands are known. They differ in how they
-//! come by the operands. A fault is its number alone here; its place is theirs to add.
+//! The machine that decoded code runs on: the state, and what becomes of it once operands are known. A fault is its
+//! number alone here; its place is the interpreter's to add.
 
 use crate::encode::{RAX, RDX};
+use crate::plain::{sum, with_bit};
 
 /// A start, which becomes the end, and the cells that were lent.
 pub struct Machine<'a> {
@@ -14,12 +15,6 @@ pub struct Machine<'a> {
     pub fill: u64,
 }
 
-/// Why a run ended before the last code: a fault's number and place, or the place of a While.
-pub enum Stop {
-    Fault(u8, usize),
-    Spent(usize),
-}
-
 /// A destination that can be written.
 #[derive(Clone, Copy)]
 pub enum Slot {
@@ -30,16 +25,6 @@ pub enum Slot {
 /// The index of a register. Accepted code names 0 to 15; the mask tells the compiler, which then checks no bound.
 pub fn number(r: u8) -> usize {
     usize::from(r & 15)
-}
-
-fn with_bit(flags: u64, bit: u32, on: bool) -> u64 {
-    flags & !(1 << bit) | u64::from(on) << bit
-}
-
-fn sum(a: u64, b: u64, carry: bool) -> (u64, bool) {
-    let (x, first) = a.overflowing_add(b);
-    let (y, second) = x.overflowing_add(u64::from(carry));
-    (y, first | second)
 }
 
 /// The word and the flags that an instruction of this kind leaves of two words, the flags and the fill word.

@@ -1,187 +1,318 @@
-//! A plain interpreter of the bytes as they stand, which reads a record again each time that it comes to it.
-//! It takes accepted code and cells.
+//! A plain interpreter of the same bytes, decoding as it goes: what the proved evaluator is measured against.
+//! It takes accepted code and cells. It is a yardstick: made neither quicker nor slower, so that the ratios of one
+//! landing can be held beside those of another.
 
-use crate::bytes::{length_at, u64_at};
-use crate::encode::RSP;
-use crate::machine::{holds, indexed, number, Machine, Slot, Stop};
+const RSP: usize = 7;
+const RAX: usize = 0;
+const RDX: usize = 3;
 
-/// An operand with its address worked out, where it has one.
+pub struct Machine<'a> {
+    pub code: &'a [u8],
+    pub addresses: &'a [u64],
+    pub tags: &'a [u8],
+    pub values: &'a mut [u64],
+    pub regs: [u64; 16],
+    pub xmms: [[u32; 4]; 16],
+    pub flags: u64,
+    pub fill: u64,
+}
+
+#[derive(Debug, PartialEq, Eq)]
+pub enum Stop {
+    Fault(u8, usize),
+    Spent(usize),
+}
+
+#[derive(Clone, Copy)]
 enum Place {
     Const(u64),
-    Reg(u8),
+    Reg(usize),
     Mem(Option<u64>),
 }
 
-// Operands are inlined, so that they need not be handed over in memory: that takes a third off a run.
+#[derive(Clone, Copy)]
+enum Slot {
+    Reg(usize),
+    Cell(usize),
+}
 
-/// The operand at a place, with these registers, and the place behind it.
-#[inline(always)]
-fn operand(code: &[u8], at: usize, regs: &[u64; 16]) -> (Place, usize) {
-    match code[at] {
-        0x40 => (Place::Const(u64_at(code, at + 1)), at + 9),
-        0x41 => (Place::Reg(code[at + 1]), at + 2),
-        0x42 => (Place::Mem(Some(u64_at(code, at + 1))), at + 9),
-        0x43 => {
-            let base = regs[number(code[at + 1])];
-            let offset = u64_at(code, at + 2) as i64;
-            (Place::Mem(base.checked_add_signed(offset)), at + 10)
-        }
-        _ => {
-            let base = regs[number(code[at + 1])];
-            let scale = i16::from_le_bytes([code[at + 2], code[at + 3]]);
-            let index = regs[number(code[at + 4])];
-            let offset = u64_at(code, at + 5) as i64;
-            (Place::Mem(indexed(base, scale, index, offset)), at + 13)
-        }
+pub fn with_bit(flags: u64, bit: u32, on: bool) -> u64 {
+    flags & !(1 << bit) | (on as u64) << bit
+}
+
+pub fn sum(a: u64, b: u64, carry: bool) -> (u64, bool) {
+    let (x, first) = a.overflowing_add(b);
+    let (y, second) = x.overflowing_add(carry as u64);
+    (y, first | second)
+}
+
+impl Machine<'_> {
+    fn u32_at(&self, at: usize) -> usize {
+        u32::from_le_bytes(self.code[at..at + 4].try_into().unwrap()) as usize
     }
-}
 
-#[inline(always)]
-fn read(machine: &Machine, place: &Place) -> Result<u64, u8> {
-    match *place {
-        Place::Const(n) => Ok(n),
-        Place::Reg(r) => Ok(machine.regs[number(r)]),
-        Place::Mem(address) => match machine.cell(address) {
-            Some(i) => Ok(machine.values[i]),
-            None => Err(31),
-        },
+    fn u64_at(&self, at: usize) -> u64 {
+        u64::from_le_bytes(self.code[at..at + 8].try_into().unwrap())
     }
-}
 
-#[inline(always)]
-fn slot(machine: &Machine, place: &Place) -> Result<Slot, u8> {
-    match *place {
-        Place::Reg(r) if r != RSP => Ok(Slot::Reg(r)),
-        Place::Mem(address) => match machine.cell(address) {
-            Some(i) => Ok(Slot::Cell(i)),
-            None => Err(32),
-        },
-        _ => Err(32),
-    }
-}
-
-fn two(machine: &mut Machine, code: &[u8], at: usize) -> Result<usize, u8> {
-    let (dst, next) = operand(code, at + 1, &machine.regs);
-    let (src, next) = operand(code, next, &machine.regs);
-    let b = read(machine, &src)?;
-    let kind = code[at];
-    if kind >= 0x0d && b > 63 {
-        return Err(33);
-    }
-    let slot = slot(machine, &dst)?;
-    machine.two(kind, slot, b);
-    Ok(next)
-}
-
-fn add_lea(machine: &mut Machine, code: &[u8], at: usize) -> Result<usize, u8> {
-    let (dst, next) = operand(code, at + 1, &machine.regs);
-    let (one, next) = operand(code, next, &machine.regs);
-    let (two, next) = operand(code, next, &machine.regs);
-    let a = read(machine, &one)?;
-    let b = read(machine, &two)?;
-    let slot = slot(machine, &dst)?;
-    *machine.word(slot) = a.wrapping_add(b);
-    Ok(next)
-}
-
-fn mul(machine: &mut Machine, code: &[u8], at: usize) -> Result<usize, u8> {
-    let (src, next) = operand(code, at + 1, &machine.regs);
-    let b = read(machine, &src)?;
-    machine.mul(b);
-    Ok(next)
-}
-
-fn mulx(machine: &mut Machine, code: &[u8], at: usize) -> Result<usize, u8> {
-    let (_, next) = operand(code, at + 1, &machine.regs);
-    let (lo, next) = operand(code, next, &machine.regs);
-    let (src, next) = operand(code, next, &machine.regs);
-    let b = read(machine, &src)?;
-    let low = slot(machine, &lo)?;
-    machine.mulx(b, low, |machine, regs| {
-        let (hi, _) = operand(code, at + 1, regs);
-        slot(machine, &hi)
-    })?;
-    Ok(next)
-}
-
-fn extract(machine: &mut Machine, code: &[u8], at: usize) -> Result<usize, u8> {
-    let (dst, next) = operand(code, at + 3, &machine.regs);
-    let slot = slot(machine, &dst)?;
-    *machine.word(slot) = machine.extracted(code[at + 1], code[at + 2]);
-    Ok(next)
-}
-
-fn insert(machine: &mut Machine, code: &[u8], at: usize) -> Result<usize, u8> {
-    let (src, next) = operand(code, at + 3, &machine.regs);
-    let word = read(machine, &src)?;
-    machine.insert(code[at], code[at + 1], code[at + 2], word);
-    Ok(next)
-}
-
-/// Makes the instruction at a place, and answers the place behind it, or a fault's number.
-fn instruction(machine: &mut Machine, code: &[u8], at: usize) -> Result<usize, u8> {
-    let kind = code[at];
-    match kind {
-        0x03 => add_lea(machine, code, at),
-        0x08 => mul(machine, code, at),
-        0x09 => mulx(machine, code, at),
-        0x0f..=0x12 | 0x14 => {
-            machine.lanes(kind, code[at + 1], code[at + 2])?;
-            Ok(at + 3)
-        }
-        0x13 | 0x18 => {
-            machine.shuffle(kind, code[at + 1], code[at + 2], code[at + 3])?;
-            Ok(at + 4)
-        }
-        0x15 => extract(machine, code, at),
-        0x16 | 0x17 => insert(machine, code, at),
-        _ => two(machine, code, at),
-    }
-}
-
-/// Whether the comparison at a place holds, and the place behind it.
-fn compare(machine: &mut Machine, code: &[u8], at: usize) -> Result<(bool, usize), Stop> {
-    let fault = |number| Stop::Fault(number, at);
-    let (one, next) = operand(code, at + 1, &machine.regs);
-    let (two, next) = operand(code, next, &machine.regs);
-    let a = read(machine, &one).map_err(fault)?;
-    let b = read(machine, &two).map_err(fault)?;
-    machine.flags = machine.fill;
-    Ok((holds(code[at], a, b), next))
-}
-
-fn rounds(machine: &mut Machine, code: &[u8], at: usize, fuel: u32) -> Result<usize, Stop> {
-    let mut left = fuel;
-    while left != 0 {
-        let (holds, next) = compare(machine, code, at + 5)?;
-        if !holds {
-            return Ok(next + length_at(code, at + 1));
-        }
-        left -= 1;
-        eval(machine, code, next, left)?;
-    }
-    Err(Stop::Spent(at))
-}
-
-/// Runs the code at a place, and answers the place behind it.
-pub fn eval(machine: &mut Machine, code: &[u8], at: usize, fuel: u32) -> Result<usize, Stop> {
-    match code[at] {
-        0x20 => {
-            let mut here = at + 5;
-            let end = here + length_at(code, at + 1);
-            while here < end {
-                here = eval(machine, code, here, fuel)?;
+    fn operand(&self, at: usize) -> (Place, usize) {
+        match self.code[at] {
+            0x40 => (Place::Const(self.u64_at(at + 1)), at + 9),
+            0x41 => (Place::Reg(self.code[at + 1] as usize), at + 2),
+            0x42 => (Place::Mem(Some(self.u64_at(at + 1))), at + 9),
+            0x43 => {
+                let base = self.regs[self.code[at + 1] as usize];
+                let offset = self.u64_at(at + 2) as i64;
+                (Place::Mem(base.checked_add_signed(offset)), at + 10)
             }
-            Ok(end)
+            _ => {
+                let base = self.regs[self.code[at + 1] as usize] as i128;
+                let scale = i16::from_le_bytes([self.code[at + 2], self.code[at + 3]]) as i128;
+                let index = self.regs[self.code[at + 4] as usize] as i128;
+                let offset = self.u64_at(at + 5) as i64 as i128;
+                let address = u64::try_from(base + scale * index + offset).ok();
+                (Place::Mem(address), at + 13)
+            }
         }
-        0x21 => {
-            let (holds, next) = compare(machine, code, at + 9)?;
-            let mid = next + length_at(code, at + 1);
-            let end = mid + length_at(code, at + 5);
-            eval(machine, code, if holds { next } else { mid }, fuel)?;
-            Ok(end)
+    }
+
+    fn cell(&self, address: Option<u64>) -> Option<usize> {
+        let i = self.addresses.binary_search(&address?).ok()?;
+        (self.tags[i] == 64).then_some(i)
+    }
+
+    fn read(&self, place: Place, at: usize) -> Result<u64, Stop> {
+        match place {
+            Place::Const(n) => Ok(n),
+            Place::Reg(r) => Ok(self.regs[r]),
+            Place::Mem(a) => match self.cell(a) {
+                Some(i) => Ok(self.values[i]),
+                None => Err(Stop::Fault(31, at)),
+            },
         }
-        0x22 => rounds(machine, code, at, fuel),
-        _ => instruction(machine, code, at).map_err(|number| Stop::Fault(number, at)),
+    }
+
+    fn slot(&self, place: Place, at: usize) -> Result<Slot, Stop> {
+        match place {
+            Place::Reg(r) if r != RSP => Ok(Slot::Reg(r)),
+            Place::Mem(a) => match self.cell(a) {
+                Some(i) => Ok(Slot::Cell(i)),
+                None => Err(Stop::Fault(32, at)),
+            },
+            _ => Err(Stop::Fault(32, at)),
+        }
+    }
+
+    fn get(&self, slot: Slot) -> u64 {
+        match slot {
+            Slot::Reg(r) => self.regs[r],
+            Slot::Cell(i) => self.values[i],
+        }
+    }
+
+    fn put(&mut self, slot: Slot, word: u64) {
+        match slot {
+            Slot::Reg(r) => self.regs[r] = word,
+            Slot::Cell(i) => self.values[i] = word,
+        }
+    }
+
+    fn result(&self, kind: u8, a: u64, b: u64) -> (u64, u64) {
+        match kind {
+            0x01 => (b, self.flags),
+            0x02 => {
+                let (v, c) = sum(a, b, false);
+                (v, with_bit(self.flags, 0, c))
+            }
+            0x04 | 0x05 => {
+                let (v, c) = sum(a, b, self.flags & 1 == 1);
+                (v, with_bit(self.flags, 0, c))
+            }
+            0x06 => {
+                let (v, c) = sum(a, b, self.flags >> 11 & 1 == 1);
+                (v, with_bit(self.flags, 11, c))
+            }
+            0x07 => (a.wrapping_sub(b), self.fill),
+            0x0a => (a.wrapping_mul(b), self.fill),
+            0x0b => (a ^ b, self.fill & !(1 | 1 << 11)),
+            0x0c => (a & b, self.fill),
+            0x0d => (a >> b, self.fill),
+            _ => (a << b, self.fill),
+        }
+    }
+
+    fn two(&mut self, at: usize) -> Result<usize, Stop> {
+        let (dst, next) = self.operand(at + 1);
+        let (src, next) = self.operand(next);
+        let b = self.read(src, at)?;
+        let kind = self.code[at];
+        if kind >= 0x0d && b > 63 {
+            return Err(Stop::Fault(33, at));
+        }
+        let slot = self.slot(dst, at)?;
+        let (v, flags) = self.result(kind, self.get(slot), b);
+        self.put(slot, v);
+        self.flags = flags;
+        Ok(next)
+    }
+
+    fn add_lea(&mut self, at: usize) -> Result<usize, Stop> {
+        let (dst, next) = self.operand(at + 1);
+        let (one, next) = self.operand(next);
+        let (two, next) = self.operand(next);
+        let a = self.read(one, at)?;
+        let b = self.read(two, at)?;
+        let slot = self.slot(dst, at)?;
+        self.put(slot, a.wrapping_add(b));
+        Ok(next)
+    }
+
+    fn mul(&mut self, at: usize) -> Result<usize, Stop> {
+        let (src, next) = self.operand(at + 1);
+        let b = self.read(src, at)?;
+        let product = self.regs[RAX] as u128 * b as u128;
+        self.regs[RAX] = product as u64;
+        self.regs[RDX] = (product >> 64) as u64;
+        self.flags = self.fill;
+        Ok(next)
+    }
+
+    fn mulx(&mut self, at: usize) -> Result<usize, Stop> {
+        let (_, next) = self.operand(at + 1);
+        let (lo, next) = self.operand(next);
+        let (src, next) = self.operand(next);
+        let b = self.read(src, at)?;
+        let low = self.slot(lo, at)?;
+        let product = self.regs[RDX] as u128 * b as u128;
+        let old = self.get(low);
+        self.put(low, product as u64);
+        let (hi, _) = self.operand(at + 1);
+        match self.slot(hi, at) {
+            Ok(high) => {
+                self.put(high, (product >> 64) as u64);
+                Ok(next)
+            }
+            Err(stop) => {
+                self.put(low, old);
+                Err(stop)
+            }
+        }
+    }
+
+    fn lanes(&mut self, at: usize) -> Result<usize, Stop> {
+        let x = self.code[at + 1] as usize;
+        let b = self.code[at + 2];
+        let other = self.xmms[(b % 16) as usize];
+        let quad = &mut self.xmms[x];
+        match self.code[at] {
+            0x0f => {
+                (0..4).for_each(|j| quad[j] = quad[j].wrapping_add(other[j]));
+                self.flags = self.fill;
+            }
+            0x10 => (0..4).for_each(|j| quad[j] ^= other[j]),
+            0x11 | 0x12 if b > 31 => return Err(Stop::Fault(34, at)),
+            0x11 => quad.iter_mut().for_each(|w| *w <<= b),
+            0x12 => quad.iter_mut().for_each(|w| *w >>= b),
+            _ => (0..4).for_each(|j| quad[j] = if quad[j] == other[j] { u32::MAX } else { 0 }),
+        }
+        Ok(at + 3)
+    }
+
+    fn shuffle(&mut self, at: usize) -> Result<usize, Stop> {
+        let x = self.code[at + 1] as usize;
+        let q = self.xmms[self.code[at + 2] as usize];
+        let imm = self.code[at + 3];
+        if self.code[at] == 0x13 {
+            (0..4).for_each(|j| self.xmms[x][j] = q[(imm >> (2 * j) & 3) as usize]);
+        } else if imm != 4 {
+            return Err(Stop::Fault(35, at));
+        } else {
+            self.xmms[x] = [0, q[0], q[1], q[2]];
+        }
+        Ok(at + 4)
+    }
+
+    fn extract(&mut self, at: usize) -> Result<usize, Stop> {
+        let q = self.xmms[self.code[at + 1] as usize];
+        let i = (self.code[at + 2] % 2 * 2) as usize;
+        let (dst, next) = self.operand(at + 3);
+        let slot = self.slot(dst, at)?;
+        self.put(slot, q[i] as u64 | (q[i + 1] as u64) << 32);
+        Ok(next)
+    }
+
+    fn insert(&mut self, at: usize) -> Result<usize, Stop> {
+        let x = self.code[at + 1] as usize;
+        let index = self.code[at + 2];
+        let (src, next) = self.operand(at + 3);
+        let v = self.read(src, at)?;
+        if self.code[at] == 0x16 {
+            self.xmms[x][(index % 4) as usize] = v as u32;
+        } else {
+            let i = (index % 2 * 2) as usize;
+            self.xmms[x][i] = v as u32;
+            self.xmms[x][i + 1] = (v >> 32) as u32;
+        }
+        Ok(next)
+    }
+
+    fn compare(&mut self, at: usize) -> Result<(bool, usize), Stop> {
+        let (one, next) = self.operand(at + 1);
+        let (two, next) = self.operand(next);
+        let a = self.read(one, at)?;
+        let b = self.read(two, at)?;
+        self.flags = self.fill;
+        let holds = match self.code[at] {
+            0x30 => a == b,
+            0x31 => a != b,
+            0x32 => a <= b,
+            0x33 => a >= b,
+            0x34 => a < b,
+            _ => a > b,
+        };
+        Ok((holds, next))
+    }
+
+    fn rounds(&mut self, at: usize, fuel: u32) -> Result<usize, Stop> {
+        let mut left = fuel;
+        while left != 0 {
+            let (holds, next) = self.compare(at + 5)?;
+            if !holds {
+                return Ok(next + self.u32_at(at + 1));
+            }
+            left -= 1;
+            self.eval(next, left)?;
+        }
+        Err(Stop::Spent(at))
+    }
+
+    /// Runs the code at a place, and answers the place behind it.
+    pub fn eval(&mut self, at: usize, fuel: u32) -> Result<usize, Stop> {
+        match self.code[at] {
+            0x20 => {
+                let mut here = at + 5;
+                let end = here + self.u32_at(at + 1);
+                while here < end {
+                    here = self.eval(here, fuel)?;
+                }
+                Ok(end)
+            }
+            0x21 => {
+                let (holds, next) = self.compare(at + 9)?;
+                let mid = next + self.u32_at(at + 1);
+                let end = mid + self.u32_at(at + 5);
+                self.eval(if holds { next } else { mid }, fuel)?;
+                Ok(end)
+            }
+            0x22 => self.rounds(at, fuel),
+            0x03 => self.add_lea(at),
+            0x08 => self.mul(at),
+            0x09 => self.mulx(at),
+            0x0f..=0x12 | 0x14 => self.lanes(at),
+            0x13 | 0x18 => self.shuffle(at),
+            0x15 => self.extract(at),
+            0x16 | 0x17 => self.insert(at),
+            _ => self.two(at),
+        }
     }
 }
