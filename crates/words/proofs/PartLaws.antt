@@ -4,7 +4,7 @@ use mathlib.Core.Path.{_≡_, refl, ap, _∙_}
 use native.Mathlib.Nat.{add-comm, mod-lt, mod-eq-of-lt}
 use lib.Arith.{digits-lt}
 use lib.Pow.{pow-pos, pow-add, recompose, high, low}
-use Rattle.words.specs.Words.{Two, Four, mktwo, mkfour, two-two-to-four, four-to-two-two, nat-to-two, two-to-nat, two-select, four-select}
+use Rattle.words.specs.Words.{Two, Four, mktwo, mkfour, two-two-to-four, four-to-two-two, nat-to-two, two-to-nat, nat-to-four, two-select, four-select}
 
 pub nat-to-two-lo-lt : (size n : ℕ) → nat-to-two size n .lo < 2 ^ size
 unfolding nat-to-two
@@ -55,3 +55,13 @@ four-select-all P x zero p0 p1 p2 p3 = p0
 four-select-all P x (suc zero) p0 p1 p2 p3 = p1
 four-select-all P x (suc (suc zero)) p0 p1 p2 p3 = p2
 four-select-all P x (suc (suc (suc k))) p0 p1 p2 p3 = p3
+
+-- each of the four parts, by its selector
+pub nat-to-four-lt : (size n k : ℕ) → four-select (nat-to-four size n) k < 2 ^ size
+unfolding nat-to-four
+nat-to-four-lt size n k =
+    four-select-all (λ (part : ℕ). part < 2 ^ size) (nat-to-four size n) k
+    (mod-lt n (pow-pos size))
+    (mod-lt (n / 2 ^ size) (pow-pos size))
+    (mod-lt (n / 2 ^ (2 * size)) (pow-pos size))
+    (mod-lt (n / 2 ^ (3 * size)) (pow-pos size))
