@@ -64,8 +64,9 @@ holds-requires c κs =
 
 returns-3 : tie.Need-returns-3
 returns-3 c =
-    let s = c .before .before .before .before .before .before .before .before .before .before .before .before .before in
-    let one = c .before .before .before .before .before .before .before .before .source in
+    let back8 = c .before .before .before .before .before .before .before .before in
+    let s = back8 .before .before .before .before .before in
+    let one = back8 .source in
     let two = c .before .before .before .before .before .before .before .source2 in
     let if1 = c .before .before .before .before .before .if1 in
     let if2 = c .before .before .before .if2 in
@@ -79,8 +80,9 @@ returns-3 c =
 
 returns-4 : tie.Need-returns-4
 returns-4 c =
-    let s = c .before .before .before .before .before .before .before .before .before .before .before .before .before in
-    let one = c .before .before .before .before .before .before .before .before .source in
+    let back8 = c .before .before .before .before .before .before .before .before in
+    let s = back8 .before .before .before .before .before in
+    let one = back8 .source in
     let two = c .before .before .before .before .before .before .before .source2 in
     let if1 = c .before .before .before .before .before .if1 in
     let if2 = c .before .before .before .if2 in

@@ -78,16 +78,43 @@ eval-while-below t =
     and 7 eval-while-kinds.ps (falls 7 eval-while-kinds.ps _<_ μ-eval-while t) eval-while.Pre
 
 abbrev eval-code-claims : ℕ → eval-code-lts.Claims
-eval-code-claims t = (number4-reads.Asked, number4-reads.Learnt, eval-codes-below t, eval-codes.Post, eval-if-else-below t, eval-if-else.Post, eval-while-below t, eval-while.Post)
+eval-code-claims t = (
+  number4-reads.Asked,
+  number4-reads.Learnt,
+  eval-codes-below t,
+  eval-codes.Post,
+  eval-if-else-below t,
+  eval-if-else.Post,
+  eval-while-below t,
+  eval-while.Post,
+)
 
 abbrev eval-codes-claims : ℕ → eval-codes-lts.Claims
 eval-codes-claims t = (instruction-reads.Asked, instruction-reads.Learnt, eval-code-below t, eval-code.Post)
 
 abbrev eval-if-else-claims : ℕ → eval-if-else-lts.Claims
-eval-if-else-claims t = (compare-reads.Asked, compare-reads.Learnt, number4-reads.Asked, number4-reads.Learnt, first-code-reads.Asked, first-code-reads.Learnt, eval-codes-below t, eval-codes.Post)
+eval-if-else-claims t = (
+  compare-reads.Asked,
+  compare-reads.Learnt,
+  number4-reads.Asked,
+  number4-reads.Learnt,
+  first-code-reads.Asked,
+  first-code-reads.Learnt,
+  eval-codes-below t,
+  eval-codes.Post,
+)
 
 abbrev eval-while-claims : ℕ → eval-while-lts.Claims
-eval-while-claims t = (compare-reads.Asked, compare-reads.Learnt, number4-reads.Asked, number4-reads.Learnt, first-code-reads.Asked, first-code-reads.Learnt, eval-codes-below t, eval-codes.Post)
+eval-while-claims t = (
+  compare-reads.Asked,
+  compare-reads.Learnt,
+  number4-reads.Asked,
+  number4-reads.Learnt,
+  first-code-reads.Asked,
+  first-code-reads.Learnt,
+  eval-codes-below t,
+  eval-codes.Post,
+)
 
 eval-code-shared-slice-read-kind : (t : ℕ) → eval-code-lts.Need-shared-slice-read-kind (eval-code-claims t) (eval-code-at t) eval-code.Post
 eval-code-shared-slice-read-kind t c =
@@ -132,9 +159,10 @@ eval-code-same-length t c =
 
 eval-code-returns : (t : ℕ) → eval-code-lts.Need-returns (eval-code-claims t) (eval-code-at t) eval-code.Post
 eval-code-returns t c =
-    let s = c .before .before .before .before .before .before .before .before .before .before .before .before .before .before in
+    let back8 = c .before .before .before .before .before .before .before .before in
+    let s = back8 .before .before .before .before .before .before in
     let size = c .before .before .before .before .before .before .before .number4 in
-    let if1 = c .before .before .before .before .before .before .before .before .if1 in
+    let if1 = back8 .if1 in
     let step = c .before .before .eval-codes in
     let end = ap (λ (n : ℕ). s .args .at + 5 + n) (size .ensures .0) in
     block-ran _ _ _ _ _ _ (if1 .taken) end (step .result) _ (step .ensures)
@@ -187,13 +215,15 @@ eval-codes-loop-holds t c =
     let s = c .before .before .before .before in
     going-starts _ _ _ _ _ _ (s .pre .1 .0)
 
-eval-codes-shared-slice-read-if1 : (t : ℕ) → eval-codes-lts.Need-shared-slice-read-if1 (eval-codes-claims t) (eval-codes-at t) eval-codes.Post eval-codes-Inv-loop eval-codes-μ-loop
+eval-codes-shared-slice-read-if1 :
+    (t : ℕ) → eval-codes-lts.Need-shared-slice-read-if1 (eval-codes-claims t) (eval-codes-at t) eval-codes.Post eval-codes-Inv-loop eval-codes-μ-loop
 eval-codes-shared-slice-read-if1 t c =
     let test = c .before .loop-test in
     let s = c .before .before .before .before .before .before .before in
     omega (arith, test .taken, s .pre .1 .0 .inside)
 
-eval-codes-instruction-requires : (t : ℕ) → eval-codes-lts.Need-instruction-requires (eval-codes-claims t) (eval-codes-at t) eval-codes.Post eval-codes-Inv-loop eval-codes-μ-loop
+eval-codes-instruction-requires :
+    (t : ℕ) → eval-codes-lts.Need-instruction-requires (eval-codes-claims t) (eval-codes-at t) eval-codes.Post eval-codes-Inv-loop eval-codes-μ-loop
 eval-codes-instruction-requires t c κs =
     let l = c .before .before .before .before .before .before .before .loop in
     let test = c .before .before .before .before .before .before .loop-test in
@@ -242,7 +272,8 @@ eval-codes-loop-again t c =
     codes-go _ _ _ _ _ _ _ _ (l .inv) (step .result) _ ran (test .taken) (if2 .left)
     (step .kept .1 .1 .1 .1 .1 .1 .1 .1 .0)
 
-eval-codes-eval-code-requires : (t : ℕ) → eval-codes-lts.Need-eval-code-requires (eval-codes-claims t) (eval-codes-at t) eval-codes.Post eval-codes-Inv-loop eval-codes-μ-loop
+eval-codes-eval-code-requires :
+    (t : ℕ) → eval-codes-lts.Need-eval-code-requires (eval-codes-claims t) (eval-codes-at t) eval-codes.Post eval-codes-Inv-loop eval-codes-μ-loop
 eval-codes-eval-code-requires t c κs =
     let l = c .before .before .before .before .before .before .before .loop in
     let test = c .before .before .before .before .before .before .loop-test in
@@ -253,7 +284,8 @@ eval-codes-eval-code-requires t c κs =
       (w, (if1 .left, still-cells _ _ _ _ (s .pre .1 .1) (l .inv .long))),
     )
 
-eval-codes-same-length-2 : (t : ℕ) → eval-codes-lts.Need-same-length-2 (eval-codes-claims t) (eval-codes-at t) eval-codes.Post eval-codes-Inv-loop eval-codes-μ-loop
+eval-codes-same-length-2 :
+    (t : ℕ) → eval-codes-lts.Need-same-length-2 (eval-codes-claims t) (eval-codes-at t) eval-codes.Post eval-codes-Inv-loop eval-codes-μ-loop
 eval-codes-same-length-2 t c =
     let step = c .before .before .before .before .eval-code in
     let l = c .before .before .before .before .before .before .before .before .before .before .before .before .loop in
@@ -276,7 +308,8 @@ eval-codes-loop-less-2 t c =
     let p = next-past _ _ _ _ _ _ _ _ (l .inv) (step .result) _ (step .ensures) (test .taken) (if3 .left) in
     omega (arith, p .0, p .1)
 
-eval-codes-loop-again-2 : (t : ℕ) → eval-codes-lts.Need-loop-again-2 (eval-codes-claims t) (eval-codes-at t) eval-codes.Post eval-codes-Inv-loop eval-codes-μ-loop
+eval-codes-loop-again-2 :
+    (t : ℕ) → eval-codes-lts.Need-loop-again-2 (eval-codes-claims t) (eval-codes-at t) eval-codes.Post eval-codes-Inv-loop eval-codes-μ-loop
 eval-codes-loop-again-2 t c =
     let l = c .before .before .before .before .before .before .before .before .before .before .before .before .loop in
     let step = c .before .before .before .before .eval-code in
@@ -285,7 +318,8 @@ eval-codes-loop-again-2 t c =
     codes-go _ _ _ _ _ _ _ _ (l .inv) (step .result) _ (step .ensures) (test .taken) (if3 .left)
     (step .kept .1 .1 .1 .1 .1 .1 .1 .1 .1 .0)
 
-eval-codes-same-length-3 : (t : ℕ) → eval-codes-lts.Need-same-length-3 (eval-codes-claims t) (eval-codes-at t) eval-codes.Post eval-codes-Inv-loop eval-codes-μ-loop
+eval-codes-same-length-3 :
+    (t : ℕ) → eval-codes-lts.Need-same-length-3 (eval-codes-claims t) (eval-codes-at t) eval-codes.Post eval-codes-Inv-loop eval-codes-μ-loop
 eval-codes-same-length-3 t c =
     let l = c .before .loop in
     l .inv .long
@@ -364,8 +398,9 @@ eval-if-else-add-end t c =
 
 eval-if-else-first-code-requires : (t : ℕ) → eval-if-else-lts.Need-first-code-requires (eval-if-else-claims t) (eval-if-else-at t) eval-if-else.Post
 eval-if-else-first-code-requires t c κs =
-    let x = c .before .before .before .before .before .before .before .before .compare in
-    let s = c .before .before .before .before .before .before .before .before .before .before .before .before .before .before .before in
+    let back8 = c .before .before .before .before .before .before .before .before in
+    let x = back8 .compare in
+    let s = back8 .before .before .before .before .before .before .before in
     let size = c .before .before .before .before .before .number4 in
     let other = c .before .before .before .before .number42 in
     let if2 = c .before .before .if2 in
@@ -382,10 +417,12 @@ eval-if-else-first-code-requires t c κs =
 
 eval-if-else-eval-codes-requires : (t : ℕ) → eval-if-else-lts.Need-eval-codes-requires (eval-if-else-claims t) (eval-if-else-at t) eval-if-else.Post
 eval-if-else-eval-codes-requires t c κs =
-    let x = c .before .before .before .before .before .before .before .before .before .before .before .before .before .compare in
-    let s = c .before .before .before .before .before .before .before .before .before .before .before .before .before .before .before .before .before .before .before .before in
-    let size = c .before .before .before .before .before .before .before .before .before .before .number4 in
-    let other = c .before .before .before .before .before .before .before .before .before .number42 in
+    let back8 = c .before .before .before .before .before .before .before .before in
+    let back16 = back8 .before .before .before .before .before .before .before .before in
+    let x = back8 .before .before .before .before .before .compare in
+    let s = back16 .before .before .before .before in
+    let size = back8 .before .before .number4 in
+    let other = back8 .before .number42 in
     let if2 = c .before .before .before .before .before .before .before .if2 in
     let if3 = c .before .before .before .before .before .if3 in
     let first = c .before .before .before .before .first-code in
@@ -410,15 +447,18 @@ eval-if-else-same-length-2 t c =
 
 eval-if-else-returns-2 : (t : ℕ) → eval-if-else-lts.Need-returns-2 (eval-if-else-claims t) (eval-if-else-at t) eval-if-else.Post
 eval-if-else-returns-2 t c =
-    let x = c .before .before .before .before .before .before .before .before .before .before .before .before .before .before .before .before .before .before .compare in
-    let s = c .before .before .before .before .before .before .before .before .before .before .before .before .before .before .before .before .before .before .before .before .before .before .before .before .before in
-    let size = c .before .before .before .before .before .before .before .before .before .before .before .before .before .before .before .number4 in
-    let other = c .before .before .before .before .before .before .before .before .before .before .before .before .before .before .number42 in
-    let if2 = c .before .before .before .before .before .before .before .before .before .before .before .before .if2 in
-    let if3 = c .before .before .before .before .before .before .before .before .before .before .if3 in
-    let if1 = c .before .before .before .before .before .before .before .before .before .before .before .before .before .before .before .before .if1 in
+    let back8 = c .before .before .before .before .before .before .before .before in
+    let back16 = back8 .before .before .before .before .before .before .before .before in
+    let back24 = back16 .before .before .before .before .before .before .before .before in
+    let x = back16 .before .before .compare in
+    let s = back24 .before in
+    let size = back8 .before .before .before .before .before .before .before .number4 in
+    let other = back8 .before .before .before .before .before .before .number42 in
+    let if2 = back8 .before .before .before .before .if2 in
+    let if3 = back8 .before .before .if3 in
+    let if1 = back16 .if1 in
     let step = c .before .before .before .before .eval-codes in
-    let first = c .before .before .before .before .before .before .before .before .before .first-code in
+    let first = back8 .before .first-code in
     let if4 = c .if4 in
     let compared = x .ensures (s .args .fill) (s .args .flags .now) (s .args .xmms .now) in
     let mid = ap (λ (n : ℕ). x .result .next + n) (size .ensures .0) in
@@ -436,15 +476,18 @@ eval-if-else-same-length-3 t c =
 
 eval-if-else-returns-3 : (t : ℕ) → eval-if-else-lts.Need-returns-3 (eval-if-else-claims t) (eval-if-else-at t) eval-if-else.Post
 eval-if-else-returns-3 t c =
-    let x = c .before .before .before .before .before .before .before .before .before .before .before .before .before .before .before .before .before .before .compare in
-    let s = c .before .before .before .before .before .before .before .before .before .before .before .before .before .before .before .before .before .before .before .before .before .before .before .before .before in
-    let size = c .before .before .before .before .before .before .before .before .before .before .before .before .before .before .before .number4 in
-    let other = c .before .before .before .before .before .before .before .before .before .before .before .before .before .before .number42 in
-    let if2 = c .before .before .before .before .before .before .before .before .before .before .before .before .if2 in
-    let if3 = c .before .before .before .before .before .before .before .before .before .before .if3 in
-    let if1 = c .before .before .before .before .before .before .before .before .before .before .before .before .before .before .before .before .if1 in
+    let back8 = c .before .before .before .before .before .before .before .before in
+    let back16 = back8 .before .before .before .before .before .before .before .before in
+    let back24 = back16 .before .before .before .before .before .before .before .before in
+    let x = back16 .before .before .compare in
+    let s = back24 .before in
+    let size = back8 .before .before .before .before .before .before .before .number4 in
+    let other = back8 .before .before .before .before .before .before .number42 in
+    let if2 = back8 .before .before .before .before .if2 in
+    let if3 = back8 .before .before .if3 in
+    let if1 = back16 .if1 in
     let step = c .before .before .before .before .eval-codes in
-    let first = c .before .before .before .before .before .before .before .before .before .first-code in
+    let first = back8 .before .first-code in
     let if4 = c .if4 in
     let compared = x .ensures (s .args .fill) (s .args .flags .now) (s .args .xmms .now) in
     let mid = ap (λ (n : ℕ). x .result .next + n) (size .ensures .0) in
@@ -465,13 +508,15 @@ eval-while-μ-loop code at fuel fill regs₀ xmms₀ flags₀ cells tags values�
 eval-while-loop-holds : (t : ℕ) → eval-while-lts.Need-loop-holds (eval-while-claims t) (eval-while-at t) eval-while.Post eval-while-Inv-loop eval-while-μ-loop
 eval-while-loop-holds t c = record { same = λ _ _ _. refl; long = refl; less = omega arith }
 
-eval-while-add-condition : (t : ℕ) → eval-while-lts.Need-add-condition (eval-while-claims t) (eval-while-at t) eval-while.Post eval-while-Inv-loop eval-while-μ-loop
+eval-while-add-condition :
+    (t : ℕ) → eval-while-lts.Need-add-condition (eval-while-claims t) (eval-while-at t) eval-while.Post eval-while-Inv-loop eval-while-μ-loop
 eval-while-add-condition t c =
     let s = c .before .before .before .before .before .before in
     let w = loop-inside _ _ (s .pre .1 .0) (s .pre .1 .1 .0) in
     omega arith
 
-eval-while-compare-requires : (t : ℕ) → eval-while-lts.Need-compare-requires (eval-while-claims t) (eval-while-at t) eval-while.Post eval-while-Inv-loop eval-while-μ-loop
+eval-while-compare-requires :
+    (t : ℕ) → eval-while-lts.Need-compare-requires (eval-while-claims t) (eval-while-at t) eval-while.Post eval-while-Inv-loop eval-while-μ-loop
 eval-while-compare-requires t c κs =
     let s = c .before .before .before .before .before .before .before .before in
     let l = c .before .before .before .loop in
@@ -501,7 +546,8 @@ eval-while-add-number4 t c =
     let w = loop-inside _ _ (s .pre .1 .0) (s .pre .1 .1 .0) in
     omega arith
 
-eval-while-number4-requires : (t : ℕ) → eval-while-lts.Need-number4-requires (eval-while-claims t) (eval-while-at t) eval-while.Post eval-while-Inv-loop eval-while-μ-loop
+eval-while-number4-requires :
+    (t : ℕ) → eval-while-lts.Need-number4-requires (eval-while-claims t) (eval-while-at t) eval-while.Post eval-while-Inv-loop eval-while-μ-loop
 eval-while-number4-requires t c κs =
     let s = c .before .before .before .before .before .before .before .before .before .before .before in
     let w = loop-inside _ _ (s .pre .1 .0) (s .pre .1 .1 .0) in
@@ -517,18 +563,20 @@ eval-while-add-end t c =
     let next = x .ensures (s .args .fill) (l .flags) (l .xmms) (w .mid) (w .stands) .next in
     omega (arith, w .within, next, size .ensures .0)
 
-eval-while-same-length-2 : (t : ℕ) → eval-while-lts.Need-same-length-2 (eval-while-claims t) (eval-while-at t) eval-while.Post eval-while-Inv-loop eval-while-μ-loop
+eval-while-same-length-2 :
+    (t : ℕ) → eval-while-lts.Need-same-length-2 (eval-while-claims t) (eval-while-at t) eval-while.Post eval-while-Inv-loop eval-while-μ-loop
 eval-while-same-length-2 t c =
     let l = c .before .before .before .before .before .before .before .before .before .loop in
     l .inv .long
 
 eval-while-returns-2 : (t : ℕ) → eval-while-lts.Need-returns-2 (eval-while-claims t) (eval-while-at t) eval-while.Post eval-while-Inv-loop eval-while-μ-loop
 eval-while-returns-2 t c =
+    let back8 = c .before .before .before .before .before .before .before .before in
     let x = c .before .before .before .before .before .compare in
-    let s = c .before .before .before .before .before .before .before .before .before .before .before .before .before .before in
-    let l = c .before .before .before .before .before .before .before .before .before .loop in
+    let s = back8 .before .before .before .before .before .before in
+    let l = back8 .before .loop in
     let size = c .before .before .number4 in
-    let test = c .before .before .before .before .before .before .before .before .loop-test in
+    let test = back8 .loop-test in
     let if2 = c .if2 in
     let compared = x .ensures (s .args .fill) (l .flags) (l .xmms) in
     let end = ap (λ (n : ℕ). x .result .next + n) (size .ensures .0) in
@@ -541,24 +589,29 @@ eval-while-sub-left t c =
     let test = c .before .before .before .before .before .before .before .before .loop-test in
     omega (arith, test .taken)
 
-eval-while-first-code-requires : (t : ℕ) → eval-while-lts.Need-first-code-requires (eval-while-claims t) (eval-while-at t) eval-while.Post eval-while-Inv-loop eval-while-μ-loop
+eval-while-first-code-requires :
+    (t : ℕ) → eval-while-lts.Need-first-code-requires (eval-while-claims t) (eval-while-at t) eval-while.Post eval-while-Inv-loop eval-while-μ-loop
 eval-while-first-code-requires t c κs =
+    let back8 = c .before .before .before .before .before .before .before .before in
     let x = c .before .before .before .before .before .compare in
-    let s = c .before .before .before .before .before .before .before .before .before .before .before .before .before .before in
-    let l = c .before .before .before .before .before .before .before .before .before .loop in
+    let s = back8 .before .before .before .before .before .before in
+    let l = back8 .before .loop in
     let size = c .before .before .number4 in
-    let test = c .before .before .before .before .before .before .before .before .loop-test in
+    let test = back8 .loop-test in
     let compared = x .ensures (s .args .fill) (l .flags) (l .xmms) in
     let end = ap (λ (n : ℕ). x .result .next + n) (size .ensures .0) in
     body-there _ _ _ (l .left) _ (s .pre .1 .1 .0) (test .taken) (x .result) compared _ end (s .pre .1 .0) .0
 
-eval-while-eval-codes-requires : (t : ℕ) → eval-while-lts.Need-eval-codes-requires (eval-while-claims t) (eval-while-at t) eval-while.Post eval-while-Inv-loop eval-while-μ-loop
+eval-while-eval-codes-requires :
+    (t : ℕ) → eval-while-lts.Need-eval-codes-requires (eval-while-claims t) (eval-while-at t) eval-while.Post eval-while-Inv-loop eval-while-μ-loop
 eval-while-eval-codes-requires t c κs =
-    let x = c .before .before .before .before .before .before .before .before .before .before .compare in
-    let s = c .before .before .before .before .before .before .before .before .before .before .before .before .before .before .before .before .before .before .before in
-    let l = c .before .before .before .before .before .before .before .before .before .before .before .before .before .before .loop in
+    let back8 = c .before .before .before .before .before .before .before .before in
+    let back16 = back8 .before .before .before .before .before .before .before .before in
+    let x = back8 .before .before .compare in
+    let s = back16 .before .before .before in
+    let l = back8 .before .before .before .before .before .before .loop in
     let size = c .before .before .before .before .before .before .before .number4 in
-    let test = c .before .before .before .before .before .before .before .before .before .before .before .before .before .loop-test in
+    let test = back8 .before .before .before .before .before .loop-test in
     let first = c .before .before .before .before .first-code in
     let compared = x .ensures (s .args .fill) (l .flags) (l .xmms) in
     let end = ap (λ (n : ℕ). x .result .next + n) (size .ensures .0) in
@@ -568,23 +621,29 @@ eval-while-eval-codes-requires t c κs =
       (rw (first .ensures) (p .1), still-cells _ _ _ _ (s .pre .1 .1 .1) (l .inv .long)),
     )
 
-eval-while-same-length-3 : (t : ℕ) → eval-while-lts.Need-same-length-3 (eval-while-claims t) (eval-while-at t) eval-while.Post eval-while-Inv-loop eval-while-μ-loop
+eval-while-same-length-3 :
+    (t : ℕ) → eval-while-lts.Need-same-length-3 (eval-while-claims t) (eval-while-at t) eval-while.Post eval-while-Inv-loop eval-while-μ-loop
 eval-while-same-length-3 t c =
+    let back8 = c .before .before .before .before .before .before .before .before in
+    let back16 = back8 .before .before .before .before .before .before .before .before in
     let step = c .before .before .before .before .eval-codes in
-    let l = c .before .before .before .before .before .before .before .before .before .before .before .before .before .before .before .before .before .before .before .loop in
+    let l = back16 .before .before .before .loop in
     step .kept .1 .1 .1 .1 .1 .1 .1 .1 .1 .1 .0 ∙ l .inv .long
 
 eval-while-returns-3 : (t : ℕ) → eval-while-lts.Need-returns-3 (eval-while-claims t) (eval-while-at t) eval-while.Post eval-while-Inv-loop eval-while-μ-loop
 eval-while-returns-3 t c =
-    let x = c .before .before .before .before .before .before .before .before .before .before .before .before .before .before .before .compare in
-    let s = c .before .before .before .before .before .before .before .before .before .before .before .before .before .before .before .before .before .before .before .before .before .before .before .before in
-    let l = c .before .before .before .before .before .before .before .before .before .before .before .before .before .before .before .before .before .before .before .loop in
-    let size = c .before .before .before .before .before .before .before .before .before .before .before .before .number4 in
+    let back8 = c .before .before .before .before .before .before .before .before in
+    let back16 = back8 .before .before .before .before .before .before .before .before in
+    let back24 = back16 .before .before .before .before .before .before .before .before in
+    let x = back8 .before .before .before .before .before .before .before .compare in
+    let s = back24 in
+    let l = back16 .before .before .before .loop in
+    let size = back8 .before .before .before .before .number4 in
     let step = c .before .before .before .before .eval-codes in
-    let test = c .before .before .before .before .before .before .before .before .before .before .before .before .before .before .before .before .before .before .loop-test in
-    let if1 = c .before .before .before .before .before .before .before .before .before .before .before .before .before .if1 in
-    let if2 = c .before .before .before .before .before .before .before .before .before .before .if2 in
-    let first = c .before .before .before .before .before .before .before .before .before .first-code in
+    let test = back16 .before .before .loop-test in
+    let if1 = back8 .before .before .before .before .before .if1 in
+    let if2 = back8 .before .before .if2 in
+    let first = back8 .before .first-code in
     let if3 = c .if3 in
     let compared = x .ensures (s .args .fill) (l .flags) (l .xmms) in
     let end = ap (λ (n : ℕ). x .result .next + n) (size .ensures .0) in
@@ -595,20 +654,25 @@ eval-while-returns-3 t c =
 
 eval-while-loop-less : (t : ℕ) → eval-while-lts.Need-loop-less (eval-while-claims t) (eval-while-at t) eval-while.Post eval-while-Inv-loop eval-while-μ-loop
 eval-while-loop-less t c =
-    let test = c .before .before .before .before .before .before .before .before .before .before .before .before .before .before .before .before .before .before .loop-test in
+    let back8 = c .before .before .before .before .before .before .before .before in
+    let back16 = back8 .before .before .before .before .before .before .before .before in
+    let test = back16 .before .before .loop-test in
     omega (arith, test .taken)
 
 eval-while-loop-again : (t : ℕ) → eval-while-lts.Need-loop-again (eval-while-claims t) (eval-while-at t) eval-while.Post eval-while-Inv-loop eval-while-μ-loop
 eval-while-loop-again t c =
-    let x = c .before .before .before .before .before .before .before .before .before .before .before .before .before .before .before .compare in
-    let s = c .before .before .before .before .before .before .before .before .before .before .before .before .before .before .before .before .before .before .before .before .before .before .before .before in
-    let l = c .before .before .before .before .before .before .before .before .before .before .before .before .before .before .before .before .before .before .before .loop in
-    let size = c .before .before .before .before .before .before .before .before .before .before .before .before .number4 in
-    let test = c .before .before .before .before .before .before .before .before .before .before .before .before .before .before .before .before .before .before .loop-test in
-    let if1 = c .before .before .before .before .before .before .before .before .before .before .before .before .before .if1 in
-    let if2 = c .before .before .before .before .before .before .before .before .before .before .if2 in
+    let back8 = c .before .before .before .before .before .before .before .before in
+    let back16 = back8 .before .before .before .before .before .before .before .before in
+    let back24 = back16 .before .before .before .before .before .before .before .before in
+    let x = back8 .before .before .before .before .before .before .before .compare in
+    let s = back24 in
+    let l = back16 .before .before .before .loop in
+    let size = back8 .before .before .before .before .number4 in
+    let test = back16 .before .before .loop-test in
+    let if1 = back8 .before .before .before .before .before .if1 in
+    let if2 = back8 .before .before .if2 in
     let step = c .before .before .before .before .eval-codes in
-    let first = c .before .before .before .before .before .before .before .before .before .first-code in
+    let first = back8 .before .first-code in
     let if3 = c .if3 in
     let compared = x .ensures (s .args .fill) (l .flags) (l .xmms) in
     let end = ap (λ (n : ℕ). x .result .next + n) (size .ensures .0) in
@@ -621,7 +685,8 @@ eval-while-loop-again t c =
       less = omega (arith, l .inv .less);
     }
 
-eval-while-same-length-4 : (t : ℕ) → eval-while-lts.Need-same-length-4 (eval-while-claims t) (eval-while-at t) eval-while.Post eval-while-Inv-loop eval-while-μ-loop
+eval-while-same-length-4 :
+    (t : ℕ) → eval-while-lts.Need-same-length-4 (eval-while-claims t) (eval-while-at t) eval-while.Post eval-while-Inv-loop eval-while-μ-loop
 eval-while-same-length-4 t c =
     let l = c .before .loop in
     l .inv .long

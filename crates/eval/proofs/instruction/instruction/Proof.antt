@@ -99,7 +99,8 @@ same-length-5 c = search needs
 
 returns-5 : tie.Need-returns-5
 returns-5 c =
-    let s = c .before .before .before .before .before .before .before .before .before .before .before .before .before in
+    let back8 = c .before .before .before .before .before .before .before .before in
+    let s = back8 .before .before .before .before .before in
     let if1 = c .before .before .before .before .before .before .if1 in
     let kind = c .before .before .before .before .before .before .before .match in
     let step = c .before .before .two-operands in

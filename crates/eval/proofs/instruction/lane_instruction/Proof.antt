@@ -44,7 +44,8 @@ shift-words-requires c κs =
 
 insert-requires : tie.Need-insert-requires
 insert-requires c κs =
-    let s = c .before .before .before .before .before .before .before .before .before .before .before .before .before in
+    let back8 = c .before .before .before .before .before .before .before .before in
+    let s = back8 .before .before .before .before .before in
     let if3 = c .before .before .before .before .if3 in
     let kind = c .before .before .before .before .before .before .before .match in
     let if4 = c .before .before .before .if4 in
@@ -111,9 +112,10 @@ same-length-2 c = search needs
 
 returns-5 : tie.Need-returns-5
 returns-5 c =
-    let s = c .before .before .before .before .before .before .before .before .before .before .before .before .before .before in
+    let back8 = c .before .before .before .before .before .before .before .before in
+    let s = back8 .before .before .before .before .before .before in
     let if3 = c .before .before .before .before .before .if3 in
-    let kind = c .before .before .before .before .before .before .before .before .match in
+    let kind = back8 .match in
     let if4 = c .before .before .before .before .if4 in
     let step = c .insert in
     let w =

@@ -65,9 +65,11 @@ same-length-2 c = search needs
 
 returns-2 : tie.Need-returns-2
 returns-2 c =
-    let dst = c .before .before .before .before .before .before .before .before .before .before .before .target in
-    let s = c .before .before .before .before .before .before .before .before .before .before .before .before .before .before .before .before .before .before in
-    let if1 = c .before .before .before .before .before .before .before .before .before .if1 in
+    let back8 = c .before .before .before .before .before .before .before .before in
+    let back16 = back8 .before .before .before .before .before .before .before .before in
+    let dst = back8 .before .before .before .target in
+    let s = back16 .before .before in
+    let if1 = back8 .before .if1 in
     let quad = c .before .before .before .before .before .before .before .xmm-at in
     let word = c .before .before .before .before .before .extract-nat64 in
     let put = c .before .before .put in

@@ -60,9 +60,10 @@ set-xmm-requires c κs = search needs
 
 returns-2 : tie.Need-returns-2
 returns-2 c =
-    let src = c .before .before .before .before .before .before .before .before .before .before .source in
-    let s = c .before .before .before .before .before .before .before .before .before .before .before .before .before .before .before in
-    let if1 = c .before .before .before .before .before .before .before .before .if1 in
+    let back8 = c .before .before .before .before .before .before .before .before in
+    let src = back8 .before .before .source in
+    let s = back8 .before .before .before .before .before .before .before in
+    let if1 = back8 .if1 in
     let quad = c .before .before .before .before .xmm-at in
     let new = c .before .before .inserted in
     let wrote = c .set-xmm in

@@ -58,11 +58,12 @@ mul-t20 c =
 
 shared-slice-read-t22 : tie.Need-shared-slice-read-t22
 shared-slice-read-t22 c =
+    let back8 = c .before .before .before .before .before .before .before .before in
     let form = c .before .before .before .before .before .before .before .form-at in
     let memory = c .before .before .before .before .before .enum-told in
     let cell = c .before .before .before .before .cell-at in
     let found = c .before .before .index in
-    let s = c .before .before .before .before .before .before .before .before .before .before .before .before .before in
+    let s = back8 .before .before .before .before .before in
     let m = memory-is _ (sym (form .ensures) ∙ memory .given .1) in
     omega (arith, cell-inside _ _ _ _ _ 0 0 0 [] (m .0) (m .1) (cell .result) (cell .ensures (m .0) (m .1)) _ (found .given .1) (s .pre .1))
 

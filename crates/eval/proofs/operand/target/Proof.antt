@@ -81,11 +81,12 @@ mul-t20 c =
 
 shared-slice-read-t22 : tie.Need-shared-slice-read-t22
 shared-slice-read-t22 c =
+    let back8 = c .before .before .before .before .before .before .before .before in
     let form = c .before .before .before .before .before .before .before .form-at in
     let memory = c .before .before .before .before .before .enum-told2 in
     let cell = c .before .before .before .before .cell-at in
     let found = c .before .before .index in
-    let s = c .before .before .before .before .before .before .before .before .before .before .before .before .before in
+    let s = back8 .before .before .before .before .before in
     let m = memory-is _ (sym (form .ensures) ∙ memory .given .1) in
     omega (arith, cell-inside _ _ _ _ _ 0 0 0 [] (m .0) (m .1) (cell .result) (cell .ensures (m .0) (m .1)) _ (found .given .1) (s .pre .1))
 
@@ -107,12 +108,13 @@ returns-2 c =
 
 returns-3 : tie.Need-returns-3
 returns-3 c =
+    let back8 = c .before .before .before .before .before .before .before .before in
     let form = c .before .before .before .before .before .before .before .form-at in
     let register = c .before .before .before .before .before .form in
-    let next = c .before .before .before .before .before .before .before .before .operand-behind in
+    let next = back8 .operand-behind in
     let is-rsp = c .before .before .before .is-rsp in
     let if1 = c .before .before .if1 in
-    let s = c .before .before .before .before .before .before .before .before .before .before .before .before .before in
+    let s = back8 .before .before .before .before .before in
     λ fill flags xmms.
     let q = register-is _ _ (sym (form .ensures) ∙ register .given .1) in
     rw (next .ensures)
@@ -120,12 +122,13 @@ returns-3 c =
 
 returns-4 : tie.Need-returns-4
 returns-4 c =
+    let back8 = c .before .before .before .before .before .before .before .before in
     let form = c .before .before .before .before .before .before .before .form-at in
     let memory = c .before .before .before .before .before .enum-told2 in
-    let next = c .before .before .before .before .before .before .before .before .operand-behind in
+    let next = back8 .operand-behind in
     let cell = c .before .before .before .before .cell-at in
     let found = c .before .before .index in
-    let s = c .before .before .before .before .before .before .before .before .before .before .before .before .before in
+    let s = back8 .before .before .before .before .before in
     λ fill flags xmms.
     let m = memory-is _ (sym (form .ensures) ∙ memory .given .1) in
     rw (next .ensures)

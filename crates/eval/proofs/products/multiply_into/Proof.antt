@@ -87,12 +87,16 @@ registers-with-requires c κs =
 
 add-target : tie.Need-add-target
 add-target c =
-    let s = c .before .before .before .before .before .before .before .before .before .before .before .before .before .before .before .before .before .before .before .before in
+    let back8 = c .before .before .before .before .before .before .before .before in
+    let back16 = back8 .before .before .before .before .before .before .before .before in
+    let s = back16 .before .before .before .before in
     omega (arith, operand-frame _ _ (s .pre .0 .0) .starts)
 
 target-requires-2 : tie.Need-target-requires-2
 target-requires-2 c κs =
-    let s = c .before .before .before .before .before .before .before .before .before .before .before .before .before .before .before .before .before .before .before .before .before .before in
+    let back8 = c .before .before .before .before .before .before .before .before in
+    let back16 = back8 .before .before .before .before .before .before .before .before in
+    let s = back16 .before .before .before .before .before .before in
     (s .pre .0 .0, s .pre .1)
 
 same-length-3 : tie.Need-same-length-3
@@ -100,11 +104,13 @@ same-length-3 c = search needs
 
 returns-3 : tie.Need-returns-3
 returns-3 c =
-    let second = c .before .before .before .before .before .before .before .before .before .before .before .before .before .before .before .before .before .before .before .before .operand-behind in
-    let low = c .before .before .before .before .before .before .before .before .before .before .before .before .before .before .before .before .before .target in
-    let src = c .before .before .before .before .before .before .before .before .before .before .before .before .before .before .source in
-    let if1 = c .before .before .before .before .before .before .before .before .before .before .before .before .if1 in
-    let if2 = c .before .before .before .before .before .before .before .before .before .before .if2 in
+    let back8 = c .before .before .before .before .before .before .before .before in
+    let back16 = back8 .before .before .before .before .before .before .before .before in
+    let second = back16 .before .before .before .before .operand-behind in
+    let low = back16 .before .target in
+    let src = back8 .before .before .before .before .before .before .source in
+    let if1 = back8 .before .before .before .before .if1 in
+    let if2 = back8 .before .before .if2 in
     let product = c .before .before .before .before .before .before .before .mul-wide in
     let after = c .before .before .before .before .before .registers-with in
     let high = c .before .before .target2 in
@@ -122,8 +128,10 @@ returns-3 c =
 
 put-requires : tie.Need-put-requires
 put-requires c κs =
-    let low = c .before .before .before .before .before .before .before .before .before .before .before .before .before .before .before .before .before .before .before .target in
-    let if2 = c .before .before .before .before .before .before .before .before .before .before .before .before .if2 in
+    let back8 = c .before .before .before .before .before .before .before .before in
+    let back16 = back8 .before .before .before .before .before .before .before .before in
+    let low = back16 .before .before .before .target in
+    let if2 = back8 .before .before .before .before .if2 in
     low .ensures 0 0 [] .bounds (not-false _ (if2 .left))
 
 put-requires-2 : tie.Need-put-requires-2
@@ -138,16 +146,19 @@ same-length-4 c = search needs
 
 returns-4 : tie.Need-returns-4
 returns-4 c =
-    let second = c .before .before .before .before .before .before .before .before .before .before .before .before .before .before .before .before .before .before .before .before .before .before .before .before .before .before .before .before .before .before .operand-behind in
-    let low = c .before .before .before .before .before .before .before .before .before .before .before .before .before .before .before .before .before .before .before .before .before .before .before .before .before .before .before .target in
-    let src = c .before .before .before .before .before .before .before .before .before .before .before .before .before .before .before .before .before .before .before .before .before .before .before .before .source in
-    let high = c .before .before .before .before .before .before .before .before .before .before .before .before .target2 in
-    let product = c .before .before .before .before .before .before .before .before .before .before .before .before .before .before .before .before .before .mul-wide in
+    let back8 = c .before .before .before .before .before .before .before .before in
+    let back16 = back8 .before .before .before .before .before .before .before .before in
+    let back24 = back16 .before .before .before .before .before .before .before .before in
+    let second = back24 .before .before .before .before .before .before .operand-behind in
+    let low = back24 .before .before .before .target in
+    let src = back24 .source in
+    let high = back8 .before .before .before .before .target2 in
+    let product = back16 .before .mul-wide in
     let wrote = c .before .before .before .before .before .before .before .put in
-    let after = c .before .before .before .before .before .before .before .before .before .before .before .before .before .before .before .registers-with in
-    let if1 = c .before .before .before .before .before .before .before .before .before .before .before .before .before .before .before .before .before .before .before .before .before .before .if1 in
-    let if2 = c .before .before .before .before .before .before .before .before .before .before .before .before .before .before .before .before .before .before .before .before .if2 in
-    let if3 = c .before .before .before .before .before .before .before .before .before .before .if3 in
+    let after = back8 .before .before .before .before .before .before .before .registers-with in
+    let if1 = back16 .before .before .before .before .before .before .if1 in
+    let if2 = back16 .before .before .before .before .if2 in
+    let if3 = back8 .before .before .if3 in
     let then = c .before .before .put2 in
     λ fill flags xmms.
     let T = target-at _ _ _ _ _ (second .ensures) _ (low .ensures fill flags xmms) in

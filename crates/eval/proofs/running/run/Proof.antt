@@ -45,7 +45,8 @@ returns c =
     let code = c .before .before .before .check-code in
     let trouble = c .before .checked in
     let s = c .before .before .before .before .before .before .before .before in
-    (code-refused (s .args .code .now) _ _ _ (trouble .given .0 .0) (trouble .given .0 .1 .0) (sym (code .ensures) ∙ ap verdict (trouble .given .1)), is-input entry)
+    let why = sym (code .ensures) ∙ ap verdict (trouble .given .1) in
+    (code-refused (s .args .code .now) _ _ _ (trouble .given .0 .0) (trouble .given .0 .1 .0) why, is-input entry)
 
 enum-told : tie.Need-enum-told
 enum-told c =
@@ -73,7 +74,9 @@ returns-2 c =
     let accepted-here = c .before .before .before .before .before .enum-told in
     let code = c .before .before .before .before .before .before .before .check-code in
     let s = c .before .before .before .before .before .before .before .before .before .before .before .before in
-    (cells-refused (s .args .code .now) _ _ _ (sym (code .ensures) ∙ ap verdict (accepted-here .given .1)) (trouble .given .0 .0) (trouble .given .0 .1 .0) (sym (cells .ensures) ∙ ap verdict (trouble .given .1)), is-input entry)
+    let code-good = sym (code .ensures) ∙ ap verdict (accepted-here .given .1) in
+    let why = sym (cells .ensures) ∙ ap verdict (trouble .given .1) in
+    (cells-refused (s .args .code .now) _ _ _ code-good (trouble .given .0 .0) (trouble .given .0 .1 .0) why, is-input entry)
 
 enum-told-2 : tie.Need-enum-told-2
 enum-told-2 c =
@@ -82,12 +85,18 @@ enum-told-2 c =
 
 eval-codes-requires : tie.Need-eval-codes-requires
 eval-codes-requires c κs =
+    let back8 = c .before .before .before .before .before .before .before .before in
+    let back16 = back8 .before .before .before .before .before .before .before .before in
     let cells-here = c .before .before .before .before .before .before .enum-told2 in
-    let cells = c .before .before .before .before .before .before .before .before .check-cells in
-    let accepted-here = c .before .before .before .before .before .before .before .before .before .before .enum-told in
-    let code = c .before .before .before .before .before .before .before .before .before .before .before .before .check-code in
-    let s = c .before .before .before .before .before .before .before .before .before .before .before .before .before .before .before .before .before in
-    (accepted-codes (s .args .code .now) (sym (code .ensures) ∙ ap verdict (accepted-here .given .1)), accepted-cells (s .args .addresses .now) (s .args .tags .now) (s .args .values .now) (sym (cells .ensures) ∙ ap verdict (cells-here .given .1)))
+    let cells = back8 .check-cells in
+    let accepted-here = back8 .before .before .enum-told in
+    let code = back8 .before .before .before .before .check-code in
+    let s = back16 .before in
+    let code-good = sym (code .ensures) ∙ ap verdict (accepted-here .given .1) in
+    let cells-good = sym (cells .ensures) ∙ ap verdict (cells-here .given .1) in (
+      accepted-codes (s .args .code .now) code-good,
+      accepted-cells (s .args .addresses .now) (s .args .tags .now) (s .args .values .now) cells-good,
+    )
 
 answer-of-requires : tie.Need-answer-of-requires
 answer-of-requires c κs =
@@ -100,15 +109,21 @@ same-length-2 c =
 
 returns-3 : tie.Need-returns-3
 returns-3 c =
-    let entry = c .before .before .before .before .before .before .before .before .before .before .before .before .before .before .before .before .before .before .before .before in
+    let back8 = c .before .before .before .before .before .before .before .before in
+    let back16 = back8 .before .before .before .before .before .before .before .before in
+    let entry = back16 .before .before .before .before in
     let answer = c .answer-of in
     let step = c .before .before .before .eval-codes in
-    let cells-here = c .before .before .before .before .before .before .before .before .before .before .enum-told2 in
-    let cells = c .before .before .before .before .before .before .before .before .before .before .before .before .check-cells in
-    let accepted-here = c .before .before .before .before .before .before .before .before .before .before .before .before .before .before .enum-told in
-    let code = c .before .before .before .before .before .before .before .before .before .before .before .before .before .before .before .before .check-code in
-    let s = c .before .before .before .before .before .before .before .before .before .before .before .before .before .before .before .before .before .before .before .before .before in
-    (run-ran (s .args .code .now) _ _ _ (sym (code .ensures) ∙ ap verdict (accepted-here .given .1)) (sym (cells .ensures) ∙ ap verdict (cells-here .given .1)) (step .result) _ (step .ensures) (outcome (answer .result)) (answer .ensures), is-input entry)
+    let cells-here = back8 .before .before .enum-told2 in
+    let cells = back8 .before .before .before .before .check-cells in
+    let accepted-here = back8 .before .before .before .before .before .before .enum-told in
+    let code = back16 .check-code in
+    let s = back16 .before .before .before .before .before in
+    let code-good = sym (code .ensures) ∙ ap verdict (accepted-here .given .1) in
+    let cells-good = sym (cells .ensures) ∙ ap verdict (cells-here .given .1) in (
+      run-ran (s .args .code .now) _ _ _ code-good cells-good (step .result) _ (step .ensures) (outcome (answer .result)) (answer .ensures),
+      is-input entry,
+    )
 
 pub run-spec : {M : Type 1} → statement M
 run-spec =

@@ -72,8 +72,9 @@ same-length-3 c = search needs
 
 returns-3 : tie.Need-returns-3
 returns-3 c =
-    let dst = c .before .before .before .before .before .before .before .before .before .before .before .before .target in
-    let one = c .before .before .before .before .before .before .before .before .before .source in
+    let back8 = c .before .before .before .before .before .before .before .before in
+    let dst = back8 .before .before .before .before .target in
+    let one = back8 .before .source in
     let two = c .before .before .before .before .before .before .source2 in
     let if1 = c .before .before .before .before .if1 in
     let if2 = c .before .before .if2 in
@@ -93,7 +94,8 @@ add64-requires c κs = search needs
 
 put-requires : tie.Need-put-requires
 put-requires c κs =
-    let dst = c .before .before .before .before .before .before .before .before .before .before .before .before .before .before .before .target in
+    let back8 = c .before .before .before .before .before .before .before .before in
+    let dst = back8 .before .before .before .before .before .before .before .target in
     let if3 = c .before .before .before .if3 in
     dst .ensures 0 0 [] .bounds (not-false _ (if3 .left))
 
@@ -102,11 +104,13 @@ same-length-4 c = search needs
 
 returns-4 : tie.Need-returns-4
 returns-4 c =
-    let dst = c .before .before .before .before .before .before .before .before .before .before .before .before .before .before .before .before .before .before .target in
-    let one = c .before .before .before .before .before .before .before .before .before .before .before .before .before .before .before .source in
-    let two = c .before .before .before .before .before .before .before .before .before .before .before .before .source2 in
-    let if1 = c .before .before .before .before .before .before .before .before .before .before .if1 in
-    let if2 = c .before .before .before .before .before .before .before .before .if2 in
+    let back8 = c .before .before .before .before .before .before .before .before in
+    let back16 = back8 .before .before .before .before .before .before .before .before in
+    let dst = back16 .before .before .target in
+    let one = back8 .before .before .before .before .before .before .before .source in
+    let two = back8 .before .before .before .before .source2 in
+    let if1 = back8 .before .before .if1 in
+    let if2 = back8 .if2 in
     let if3 = c .before .before .before .before .before .before .if3 in
     let put = c .before .before .put in
     let sum = c .before .before .before .before .before .add64 in

@@ -34,8 +34,9 @@ same-length c = search needs
 
 returns : tie.Need-returns
 returns c =
+    let back8 = c .before .before .before .before .before .before .before .before in
     let dst = c .before .before .before .before .before .target in
-    let s = c .before .before .before .before .before .before .before .before .before .before .before .before .before in
+    let s = back8 .before .before .before .before .before in
     let src = c .before .before .source in
     let if1 = c .if1 in
     λ xmms.
@@ -54,8 +55,9 @@ same-length-2 c = search needs
 
 returns-2 : tie.Need-returns-2
 returns-2 c =
+    let back8 = c .before .before .before .before .before .before .before .before in
     let dst = c .before .before .before .before .before .before .before .target in
-    let s = c .before .before .before .before .before .before .before .before .before .before .before .before .before .before .before in
+    let s = back8 .before .before .before .before .before .before .before in
     let src = c .before .before .before .before .source in
     let if1 = c .before .before .if1 in
     let far = c .before .too-far in
@@ -74,8 +76,10 @@ same-length-3 c = search needs
 
 returns-3 : tie.Need-returns-3
 returns-3 c =
-    let dst = c .before .before .before .before .before .before .before .before .before .target in
-    let s = c .before .before .before .before .before .before .before .before .before .before .before .before .before .before .before .before .before in
+    let back8 = c .before .before .before .before .before .before .before .before in
+    let back16 = back8 .before .before .before .before .before .before .before .before in
+    let dst = back8 .before .target in
+    let s = back16 .before in
     let src = c .before .before .before .before .before .before .source in
     let if1 = c .before .before .before .before .if1 in
     let far = c .before .before .before .too-far in
@@ -96,7 +100,8 @@ effect-of-requires c κs = search needs
 
 put-requires : tie.Need-put-requires
 put-requires c κs =
-    let dst = c .before .before .before .before .before .before .before .before .before .before .before .before .before .target in
+    let back8 = c .before .before .before .before .before .before .before .before in
+    let dst = back8 .before .before .before .before .before .target in
     let if3 = c .before .before .before .before .if3 in
     dst .ensures 0 0 [] .bounds (not-false _ (if3 .left))
 
@@ -105,12 +110,15 @@ same-length-4 c = search needs
 
 returns-4 : tie.Need-returns-4
 returns-4 c =
-    let dst = c .before .before .before .before .before .before .before .before .before .before .before .before .before .before .before .before .target in
-    let s = c .before .before .before .before .before .before .before .before .before .before .before .before .before .before .before .before .before .before .before .before .before .before .before .before in
-    let src = c .before .before .before .before .before .before .before .before .before .before .before .before .before .source in
-    let if1 = c .before .before .before .before .before .before .before .before .before .before .before .if1 in
-    let far = c .before .before .before .before .before .before .before .before .before .before .too-far in
-    let if2 = c .before .before .before .before .before .before .before .before .before .if2 in
+    let back8 = c .before .before .before .before .before .before .before .before in
+    let back16 = back8 .before .before .before .before .before .before .before .before in
+    let back24 = back16 .before .before .before .before .before .before .before .before in
+    let dst = back16 .target in
+    let s = back24 in
+    let src = back8 .before .before .before .before .before .source in
+    let if1 = back8 .before .before .before .if1 in
+    let far = back8 .before .before .too-far in
+    let if2 = back8 .before .if2 in
     let if3 = c .before .before .before .before .before .before .before .if3 in
     let put = c .before .before .put in
     let effect = c .before .before .before .before .before .effect-of in
