@@ -19,6 +19,10 @@ use Rattle.machine.specs.declared.Operand.{Operand}
 use Rattle.machine.specs.declared.Operand.the-variants.{OConst, OReg, OMem}
 use Rattle.machine.proofs.FindLaws.{find-hit}
 use Rattle.machine.proofs.OperandLaws.{constant-no-dst, register-dst, memory-dst}
+use Rattle.code.specs.Forms.{form-of}
+use Rattle.code.specs.declared.records.Form.{Form}
+use Rattle.code.specs.declared.records.Form.the-variants.{Memory}
+use Rattle.code.proofs.Forms.{memory-is}
 use Rattle.code.proofs.Passing.{never}
 use Rattle.eval.specs.Config.{Env, Config, with-values}
 use Rattle.eval.specs.Steps.{cell-of, valid-operand, eval-operand, valid-dst-operand, update-operand}
@@ -86,11 +90,20 @@ module _ (addresses tags regs values : List ℕ) (o : Operand) (next : ℕ) (fil
             next = refl;
           }
 
-  -- ---- memory, by the cell that was found
-  module _ (m : Maddr) (q : o ≡ OMem m) (f : Found) (found : index-of f ≡ find-cell addresses tags (eval-maddr m regs)) where
+  -- ---- memory, by the form that was decoded and the cell that was found
+  module _
+      (form : Form) (is : form ≡ form-of o) (memory : form ≡ Memory) (f : Found)
+      (found : (m : Maddr) → o ≡ OMem m → index-of f ≡ find-cell addresses tags (eval-maddr m regs)) where
+    m : Maddr
+    m = memory-is o (sym is ∙ memory) .0
+
+    q : o ≡ OMem m
+    unfolding m
+    q = memory-is o (sym is ∙ memory) .1
+
     module _ (i : ℕ) (e : f ≡ At i) where
       here : find-cell addresses tags (eval-maddr m regs) ≡ some i
-      here = sym found ∙ ap index-of e
+      here = sym (found m q) ∙ ap index-of e
 
       pub cell-inside : Cells addresses tags values → i < length values
       cell-inside cells = omega (arith, find-hit addresses tags (eval-maddr m regs) i here .inside, cells .long)
@@ -113,7 +126,7 @@ module _ (addresses tags regs values : List ℕ) (o : Operand) (next : ℕ) (fil
 
     module _ (e : f ≡ Nothing) where
       nowhere : find-cell addresses tags (eval-maddr m regs) ≡ none
-      nowhere = sym found ∙ ap index-of e
+      nowhere = sym (found m q) ∙ ap index-of e
 
       pub source-none : Source (record { found = false; word = 0; next = next })
       unfolding valid-operand cell-of

@@ -3,7 +3,7 @@ use mathlib.Core.Path.{sym, _∙_}
 use mathlib.Core.List.{[]}
 use native.Mathlib.Omega.{arith}
 use borrow.Author.Needs.{needs}
-use Rattle.code.proofs.Forms.{constant-is, register-is, memory-is, register-below}
+use Rattle.code.proofs.Forms.{constant-is, register-is, register-below}
 use Rattle.eval.proofs.OperandLaws.{source-constant, source-register, cell-inside, source-cell, source-none}
 use Rattle.eval.proofs.operand.source.Statement.{statement}
 use Rattle.eval.proofs.operand.source.Tie as tie
@@ -53,8 +53,7 @@ mul-t20 c =
     let cell = c .before .before .before .cell-at in
     let found = c .before .index in
     let s = c .before .before .before .before .before .before .before .before .before .before .before .before in
-    let m = memory-is _ (sym (form .ensures) ∙ memory .given .1) in
-    omega (arith, cell-inside _ _ _ _ _ 0 0 0 [] (m .0) (m .1) (cell .result) (cell .ensures (m .0) (m .1)) _ (found .given .1) (s .pre .1))
+    omega (arith, cell-inside _ _ _ _ _ 0 0 0 [] _ (form .ensures) (memory .given .1) (cell .result) (cell .ensures) _ (found .given .1) (s .pre .1))
 
 shared-slice-read-t22 : tie.Need-shared-slice-read-t22
 shared-slice-read-t22 c =
@@ -64,8 +63,7 @@ shared-slice-read-t22 c =
     let cell = c .before .before .before .before .cell-at in
     let found = c .before .before .index in
     let s = back8 .before .before .before .before .before in
-    let m = memory-is _ (sym (form .ensures) ∙ memory .given .1) in
-    omega (arith, cell-inside _ _ _ _ _ 0 0 0 [] (m .0) (m .1) (cell .result) (cell .ensures (m .0) (m .1)) _ (found .given .1) (s .pre .1))
+    omega (arith, cell-inside _ _ _ _ _ 0 0 0 [] _ (form .ensures) (memory .given .1) (cell .result) (cell .ensures) _ (found .given .1) (s .pre .1))
 
 enum-told-2 : tie.Need-enum-told-2
 enum-told-2 c = search needs
@@ -96,9 +94,8 @@ returns-3 c =
     let cell = c .before .before .before .before .cell-at in
     let found = c .before .before .index in
     λ fill flags xmms.
-    let m = memory-is _ (sym (form .ensures) ∙ memory .given .1) in
     rw (next .ensures)
-    (source-cell _ _ _ _ _ _ fill flags xmms (m .0) (m .1) (cell .result) (cell .ensures (m .0) (m .1)) _ (found .given .1))
+    (source-cell _ _ _ _ _ _ fill flags xmms _ (form .ensures) (memory .given .1) (cell .result) (cell .ensures) _ (found .given .1))
 
 returns-4 : tie.Need-returns-4
 returns-4 c =
@@ -108,9 +105,8 @@ returns-4 c =
     let cell = c .before .before .cell-at in
     let none = c .enum-told2 in
     λ fill flags xmms.
-    let m = memory-is _ (sym (form .ensures) ∙ memory .given .1) in
     rw (next .ensures)
-    (source-none _ _ _ _ _ _ fill flags xmms (m .0) (m .1) (cell .result) (cell .ensures (m .0) (m .1)) (none .given .1))
+    (source-none _ _ _ _ _ _ fill flags xmms _ (form .ensures) (memory .given .1) (cell .result) (cell .ensures) (none .given .1))
 
 pub source-spec : {M : Type 1} → statement M
 source-spec =

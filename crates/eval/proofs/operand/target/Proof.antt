@@ -4,7 +4,7 @@ use mathlib.Core.Path.{sym, _∙_}
 use mathlib.Core.List.{[]}
 use native.Mathlib.Omega.{arith}
 use borrow.Author.Needs.{needs}
-use Rattle.code.proofs.Forms.{constant-is, register-is, memory-is, register-below}
+use Rattle.code.proofs.Forms.{constant-is, register-is, register-below}
 use Rattle.eval.proofs.OperandLaws.{target-constant, target-rsp, target-register, cell-inside, target-cell, target-none}
 use Rattle.eval.proofs.operand.target.Statement.{statement}
 use Rattle.eval.proofs.operand.target.Tie as tie
@@ -76,8 +76,7 @@ mul-t20 c =
     let cell = c .before .before .before .cell-at in
     let found = c .before .index in
     let s = c .before .before .before .before .before .before .before .before .before .before .before .before in
-    let m = memory-is _ (sym (form .ensures) ∙ memory .given .1) in
-    omega (arith, cell-inside _ _ _ _ _ 0 0 0 [] (m .0) (m .1) (cell .result) (cell .ensures (m .0) (m .1)) _ (found .given .1) (s .pre .1))
+    omega (arith, cell-inside _ _ _ _ _ 0 0 0 [] _ (form .ensures) (memory .given .1) (cell .result) (cell .ensures) _ (found .given .1) (s .pre .1))
 
 shared-slice-read-t22 : tie.Need-shared-slice-read-t22
 shared-slice-read-t22 c =
@@ -87,8 +86,7 @@ shared-slice-read-t22 c =
     let cell = c .before .before .before .before .cell-at in
     let found = c .before .before .index in
     let s = back8 .before .before .before .before .before in
-    let m = memory-is _ (sym (form .ensures) ∙ memory .given .1) in
-    omega (arith, cell-inside _ _ _ _ _ 0 0 0 [] (m .0) (m .1) (cell .result) (cell .ensures (m .0) (m .1)) _ (found .given .1) (s .pre .1))
+    omega (arith, cell-inside _ _ _ _ _ 0 0 0 [] _ (form .ensures) (memory .given .1) (cell .result) (cell .ensures) _ (found .given .1) (s .pre .1))
 
 enum-told-3 : tie.Need-enum-told-3
 enum-told-3 c = search needs
@@ -130,9 +128,8 @@ returns-4 c =
     let found = c .before .before .index in
     let s = back8 .before .before .before .before .before in
     λ fill flags xmms.
-    let m = memory-is _ (sym (form .ensures) ∙ memory .given .1) in
     rw (next .ensures)
-    (target-cell _ _ _ _ _ _ fill flags xmms (m .0) (m .1) (cell .result) (cell .ensures (m .0) (m .1)) _ (found .given .1) (s .pre .1))
+    (target-cell _ _ _ _ _ _ fill flags xmms _ (form .ensures) (memory .given .1) (cell .result) (cell .ensures) _ (found .given .1) (s .pre .1))
 
 returns-5 : tie.Need-returns-5
 returns-5 c =
@@ -143,9 +140,8 @@ returns-5 c =
     let none = c .before .enum-told3 in
     let nowhere = c .nowhere3 in
     λ fill flags xmms.
-    let m = memory-is _ (sym (form .ensures) ∙ memory .given .1) in
     rw (← next .ensures)
-    (target-none _ _ _ _ _ _ fill flags xmms (m .0) (m .1) (cell .result) (cell .ensures (m .0) (m .1)) (none .given .1)
+    (target-none _ _ _ _ _ _ fill flags xmms _ (form .ensures) (memory .given .1) (cell .result) (cell .ensures) (none .given .1)
     (nowhere .result) (nowhere .ensures))
 
 pub target-spec : {M : Type 1} → statement M
