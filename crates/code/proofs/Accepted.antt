@@ -1,22 +1,21 @@
 -- Every tree that bytes spell is well formed: its fields are bytes, numbers of eight bytes, and registers that were checked.
 -- Assumes nothing.
 use Prim.Native.Nat.{ℕ, zero, suc, _+_, _-_, _*_, _^_, _≤_, _<_}
-use mathlib.Core.Path.{_≡_, refl, sym, ap, subst, _∙_}
+use mathlib.Core.Path.{_≡_, refl, ap, subst}
 use mathlib.Core.Bool.{Bool, true, false, cond}
-use mathlib.Core.List.{List, [], _∷_}
+use mathlib.Core.List.{List, _∷_}
 use mathlib.Core.Logic.{⊎-elim}
 use native.Mathlib.Nat.{eq-or-lt-of-le}
 use native.Mathlib.Omega.{arith}
 use borrow.Author.Tests.{ltb-true, ltb-false}
 use lib.Dec.{ltb}
-use lib.IntN.{ℤ, pos, negsuc}
-use lib.ListN.{length, getD}
-use Rattle.machine.specs.declared.Operand.{Operand}
-use Rattle.code.specs.Tree.{Ocmp, Code, Ins, Block, IfElse, While, Codes, ⟨⟩, _∷ᶜ_}
+use lib.IntN.{pos, negsuc}
+use lib.ListN.{length}
+use Rattle.code.specs.Tree.{Code, Ins, Block, IfElse, While, Codes, ⟨⟩, _∷ᶜ_}
 use Rattle.code.specs.Records.{is-ins, is-ocmp, is-operand, body-length, operand-count, register-fields, byte-at, number-at, signed-at, operand-at, operands-at, behind, ins-at, ocmp-at}
 use Rattle.code.specs.Reader.{got, parse}
 use Rattle.code.specs.Spells.{Fields, IsRecord, Operands, Stands, Spells, SpellsAll}
-use Rattle.code.specs.WellFormed.{Bytes, Signed, Number, Imm8, WfOperand, WfIns, WfOcmp, WfCode, WfCodes}
+use Rattle.code.specs.WellFormed.{Bytes, Signed, WfOperand, WfIns, WfOcmp, WfCode, WfCodes}
 use Rattle.code.proofs.Passing.{between-true}
 use Rattle.code.proofs.NumberLaws.{number-lt}
 use Rattle.code.proofs.Sound.{parse-sound}

@@ -1,16 +1,16 @@
 -- What the bytes of a comparison and of a code say, whichever code it is. Assumes nothing.
-use Prim.Native.Nat.{ℕ, zero, suc, _+_, _-_, _≤_, _<_}
-use mathlib.Core.Path.{_≡_, refl, sym, ap, subst, _∙_}
-use mathlib.Core.Bool.{Bool, true, false}
-use mathlib.Core.List.{List, [], _∷_}
+use Prim.Native.Nat.{ℕ, _+_, _-_, _≤_, _<_}
+use mathlib.Core.Path.{_≡_, refl, subst}
+use mathlib.Core.Bool.{true}
+use mathlib.Core.List.{List, _∷_}
 use native.Mathlib.Omega.{arith}
 use lib.ListN.{length}
 use Rattle.code.specs.Tree.{Ocmp, OEq, ONe, OLe, OGe, OLt, OGt, Code, Ins, Block, IfElse, While, Codes, ⟨⟩, _∷ᶜ_}
-use Rattle.code.specs.Records.{is-ins, is-ocmp, is-operand, body-length, operand-count, byte-at, number-at, operand-at, operands-at, behind, ins-at, ocmp-at}
-use Rattle.code.specs.Spells.{IsRecord, Operands, Stands, IsIns, IsBlock, IsOcmp, IsIfElse, IsWhile, Spells, SpellsAll}
+use Rattle.code.specs.Records.{is-ins, is-ocmp, body-length, operand-count, byte-at, number-at, operand-at, operands-at, behind, ins-at, ocmp-at}
+use Rattle.code.specs.Spells.{Operands, Stands, Spells, SpellsAll}
 use Rattle.code.proofs.Passing.{between-true}
-use Rattle.code.proofs.Sound.{behind-past, stands-past}
-use Rattle.code.proofs.Complete.{behind-structure, code-past, codes-le}
+use Rattle.code.proofs.Sound.{stands-past}
+use Rattle.code.proofs.Complete.{code-past, codes-le}
 use Rattle.code.proofs.Accepted.{each, _▹_}
 use Rattle.code.proofs.Frames.{TwoOperands, two-operands}
 

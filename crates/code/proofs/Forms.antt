@@ -1,7 +1,7 @@
 -- What is decoded of an operand says which operand it is, and an operand that stands in the bytes names registers below 16. By the kind of
 -- its record. Assumes nothing.
 use Prim.Native.Nat.{ℕ, _+_, _<_, _≤_}
-use mathlib.Core.Path.{_≡_, refl, sym, ap, subst⁻¹, _∙_}
+use mathlib.Core.Path.{_≡_, refl, ap, subst⁻¹}
 use mathlib.Core.List.{List}
 use native.Mathlib.Omega.{arith}
 use lib.ListN.{length}
@@ -15,7 +15,6 @@ use Rattle.machine.specs.declared.Operand.the-variants.{OConst, OReg, OMem}
 use Rattle.code.specs.Records.{byte-at, signed-at, operand-at, behind}
 use Rattle.code.specs.Spells.{OperandBytes}
 use Rattle.code.specs.Forms.{form-of}
-use Rattle.code.specs.declared.records.Form.{Form}
 use Rattle.code.specs.declared.records.Form.the-variants.{Const, Register, Memory}
 use Rattle.code.proofs.Frames.{by-kind, operand-frame}
 

@@ -1,15 +1,13 @@
 -- Bytes that stand in a row, and the numbers and operands that they spell. Assumes nothing.
-use Prim.Native.Nat.{ℕ, zero, suc, _+_, _-_, _*_, _/_, _%_, _^_, _≤_, _<_}
+use Prim.Native.Nat.{ℕ, zero, suc, _+_, _-_, _*_, _/_, _^_, _≤_, _<_}
 use mathlib.Core.Path.{_≡_, refl, sym, ap, subst, _∙_}
-use mathlib.Core.Bool.{Bool, true, false, cond}
+use mathlib.Core.Bool.{true}
 use mathlib.Core.List.{List, [], _∷_, _++_, append-assoc}
 use native.Mathlib.Omega.{arith}
 use borrow.Author.Tests.{lt-ltb, le-ltb}
-use lib.Dec.{ltb}
 use lib.IntN.{ℤ, pos, negsuc}
 use lib.ListN.{length, getD, length-append}
 use lib.Seq.{getD-append-seam}
-use Rattle.machine.specs.Registers.{reg}
 use Rattle.machine.specs.Bytes.{byte}
 use Rattle.machine.proofs.SpellLaws.{byte-first, byte-next}
 use Rattle.machine.specs.declared.Maddr.{Maddr}
@@ -17,7 +15,7 @@ use Rattle.machine.specs.declared.Maddr.the-variants.{MConst, MReg, MIndex}
 use Rattle.machine.specs.declared.Operand.{Operand}
 use Rattle.machine.specs.declared.Operand.the-variants.{OConst, OReg, OMem}
 use Rattle.code.specs.Records.{is-operand, body-length, register-fields, byte-at, number-at, signed-at, operand-at, operands-at, behind}
-use Rattle.code.specs.Spells.{Fields, IsRecord, Operands}
+use Rattle.code.specs.Spells.{Fields, Operands}
 use Rattle.code.specs.WellFormed.{Signed, WfMaddr, WfOperand}
 use Rattle.code.specs.Writer.{bytes-of, signed-bytes, bytes-of-maddr, bytes-of-operand, bytes-of-operands}
 use Rattle.code.proofs.NumberLaws.{number-is}

@@ -3,8 +3,7 @@ use Prim.Native.Nat.{ℕ}
 use mathlib.Core.Path.{_≡_, refl, _∙_, ap}
 use mathlib.Core.List.{List}
 use native.Mathlib.Omega.{arith}
-use lib.ListN.{length}
-use Rattle.machine.specs.Cells.{Verdict, accepted, refused}
+use Rattle.machine.specs.Cells.{accepted, refused}
 use Rattle.code.specs.Tree.{Code}
 use Rattle.code.specs.Reader.{Read, got, trouble, parse, verdict-of, check-code}
 use Rattle.code.specs.Reading.{Reading, Writing}

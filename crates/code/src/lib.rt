@@ -10,8 +10,6 @@ pub use kinds::class_of;
 pub use numbers::number2;
 pub use numbers::number4;
 pub use numbers::number8;
-pub use numbers::signed2;
-pub use numbers::signed8;
 pub use reader::check_code;
 pub use records::Form;
 pub use records::form_at;

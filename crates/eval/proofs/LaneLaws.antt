@@ -1,10 +1,10 @@
 -- How an instruction on an xmm ends, from the quads that were read. Assumes nothing.
-use Prim.Native.Nat.{ℕ, zero, suc, _+_, _%_, _^_, _≤_, _<_}
-use mathlib.Core.Path.{_≡_, refl, sym, ap, _∙_}
+use Prim.Native.Nat.{ℕ, _%_, _^_, _≤_, _<_}
+use mathlib.Core.Path.{_≡_, refl, sym, _∙_}
 use mathlib.Core.Bool.{Bool, true, false, cond}
 use mathlib.Core.List.{List}
 use native.Mathlib.Omega.{arith}
-use borrow.Author.Tests.{lt-ltb, le-ltb, eq-eqb, ne-eqb}
+use borrow.Author.Tests.{lt-ltb, le-ltb, ne-eqb}
 use lib.Dec.{eqb, ltb}
 use Rattle.words.proofs.LaneLaws.{extract-nat64-is}
 use Rattle.words.specs.Types.{quad32, quad32-xor, extract-nat64, insert-nat32, insert-nat64, add-lanes, equal-lanes, shl-lanes, shr-lanes, shuffle-lanes, shift-quad}
@@ -14,7 +14,7 @@ use Rattle.machine.specs.declared.Operand.{Operand}
 use Rattle.code.specs.Tree.{Paddd, Pxor, Pcmpeqd, Pslld, Psrld, Pshufd, Pextrq, Pinsrd, Pinsrq, VPSLLDQ}
 use Rattle.code.specs.Families.{at-kind, quads-ins, shifts-ins, inserts-ins}
 use Rattle.code.proofs.Families.{quads-ins-is, shifts-ins-is, inserts-ins-is}
-use Rattle.eval.specs.Config.{Env, Config, End, ends, done, fault, check}
+use Rattle.eval.specs.Config.{Env, Config, ends, done, fault, check}
 use Rattle.eval.specs.Steps.{eval-operand, source, write-xmm, run-ins}
 use Rattle.eval.specs.Lent.{environment, held, Reads, Targets, put-regs, put-values}
 use Rattle.eval.specs.Families.{quads-word, shifts-word, inserts-word}

@@ -1,29 +1,26 @@
 -- What the checks of code and cells say of Running. Assumes nothing.
-use Prim.Native.Nat.{ℕ, zero, suc, _≤_}
-use mathlib.Core.Path.{_≡_, refl, sym, ap, subst, _∙_}
+use Prim.Native.Nat.{ℕ}
+use mathlib.Core.Path.{_≡_, sym, ap, subst, _∙_}
 use mathlib.Core.List.{List}
 use native.Mathlib.Omega.{arith}
 use borrow.Author.Tests.{eq-eqb, ne-eqb}
 use lib.ListN.{length}
-use Rattle.machine.specs.Cells.{Verdict, accepted, refused, check-cells}
+use Rattle.machine.specs.Cells.{accepted, refused, check-cells}
 use Rattle.machine.proofs.Accepting.{accepted-of, searchable-of}
 use Rattle.code.specs.Tree.{Code, ⟨⟩, _∷ᶜ_}
-use Rattle.code.specs.Reader.{Read, got, trouble, parse, check-code}
+use Rattle.code.specs.Reader.{Read, check-code}
 use Rattle.code.proofs.Reading.{reading}
 use Rattle.code.proofs.CodeFrames.{list-of-one}
 use Rattle.eval.specs.Config.{Env, Config, Outcome, End, ends}
 use Rattle.eval.specs.Config as Config
-use Rattle.eval.specs.Running.{run-code, run-checked, run-read, run-of}
+use Rattle.eval.specs.Running.{run-checked, run-read, run-of}
 use Rattle.eval.specs.Stepped.{how, Ran}
 use Rattle.eval.specs.Lent.{Cells}
 use Rattle.eval.specs.Coded.{CodesAt, RunsAll}
 use Rattle.eval.specs.declared.step.Step.{Step}
 use Rattle.eval.proofs.CycleLaws.{run-one}
 
--- how a step is named
-pub how-done : (r : Step) → r .number ≡ 0 → Config.done ≡ how r
-how-done r z = rw (eq-eqb (r .number) 0 z)
-
+-- how a step is named, where it is not done
 pub how-spent : (r : Step) → (r .number ≡ 0 → ⊥) → r .number ≡ 1 → Config.spent (r .place) ≡ how r
 how-spent r z h = rw (ne-eqb (r .number) 0 z, eq-eqb (r .number) 1 h)
 

@@ -1,16 +1,14 @@
 -- How a step of a run ends, from what was read of its operands: each check passes or ends the run, and a word that is
 -- written is the definition's. Assumes nothing.
-use Prim.Native.Nat.{ℕ, zero, suc, _+_, _*_, _^_, _%_, _≤_, _<_}
+use Prim.Native.Nat.{ℕ, _+_}
 use mathlib.Core.Path.{_≡_, refl, sym, ap, _∙_}
 use mathlib.Core.Bool.{Bool, true, false, _&&_, cond}
 use mathlib.Core.List.{List}
 use native.Mathlib.Nat.{add-zero}
-use native.Mathlib.Omega.{arith}
-use borrow.Author.Tests.{lt-ltb, le-ltb, le-leb, lt-leb, eq-eqb, ne-eqb, leb-true, leb-false}
-use lib.Dec.{eqb, ltb, leb}
+use borrow.Author.Tests.{lt-ltb, le-ltb, leb-true, leb-false}
+use lib.Dec.{ltb, leb}
 use lib.ListN.{getD, set}
 use Rattle.words.specs.Sums.{sum-mod, mul-div, mul-mod}
-use Rattle.machine.specs.Registers.{Rax, Rdx, reg-at, set-reg}
 use Rattle.machine.specs.declared.Operand.{Operand}
 use Rattle.code.specs.Tree.{Instruction, AddLea64, Mul64, Mulx64}
 use Rattle.code.specs.Records.{operand-at, behind}
@@ -18,9 +16,8 @@ use Rattle.code.specs.Families.{is-two, two-ins}
 use Rattle.code.proofs.Passing.{and-both}
 use Rattle.code.proofs.Families.{by-two-ins, two-kind}
 use Rattle.eval.specs.Config.{Env, Config, with-regs, with-values, with-flags, End, ends, done, fault, check}
-use Rattle.eval.specs.Flags.{add-flags}
-use Rattle.eval.specs.Steps.{valid-operand, eval-operand, valid-dst-operand, update-operand, source, target, write, run-mulx, run-ins}
-use Rattle.eval.specs.Lent.{environment, held, Reads, Writes, Targets, put-regs, put-values}
+use Rattle.eval.specs.Steps.{eval-operand, valid-dst-operand, update-operand, source, target, write, run-mulx, run-ins}
+use Rattle.eval.specs.Lent.{environment, held, Reads, Targets, put-regs, put-values}
 use Rattle.eval.specs.Families.{two-word, two-flags}
 use Rattle.eval.specs.declared.operand.Reading.{Reading}
 use Rattle.eval.specs.declared.operand.Slot.{Slot}

@@ -1,7 +1,7 @@
 -- What the evaluator is lent in parts, in the words of a run.
 use Prim.Native.Nat.{ℕ, _<_}
 use mathlib.Core.Path.{_≡_}
-use mathlib.Core.Bool.{Bool, true, false, cond}
+use mathlib.Core.Bool.{true, false, cond}
 use mathlib.Core.List.{List}
 use lib.ListN.{length, set}
 use Rattle.machine.specs.Cells.{Searchable}

@@ -11,6 +11,10 @@ use Rattle.eval.specs.declared.step.Step.{Step}
 abbrev pub how : Step → Outcome
 how r = cond (eqb (r .number) 0) done (cond (eqb (r .number) 1) (spent (r .place)) (fault (r .number) (r .place)))
 
+-- the step of a comparison at a place, with an operand that cannot be read
+abbrev pub unread-at : ℕ → Step
+unread-at place = record { number = 31; place = place }
+
 -- a step that leaves s ends as a run does, and goes on at the place behind
 pub record Ran (end : End) (behind : ℕ) (r : Step) (s : Config) : Type 0 where
   pub ends : Config.ends (how r) s ≡ end

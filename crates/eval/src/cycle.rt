@@ -8,6 +8,7 @@ ghost use Rattle.eval.specs.Coded.{CodeAt, CodesAt, codes-from, Runs, Ru
 use crate::comparison::compare;
 use crate::instruction::instruction;
 use crate::step::Step;
+use crate::step::unread;
 use code::number4;
 
 // Where the codes of a part begin, so that a part that is a Block costs no turn of the cycle.
@@ -131,10 +132,7 @@ fn eval_if_else(
     let test = at + 9;
     let compared = compare(code, test, regs, cells, tags, values);
     if compared.how == 2 {
-        return Step {
-            number: 31,
-            place: test,
-        };
+        return unread(test);
     }
     *flags = fill;
     let first = compared.next;
@@ -186,10 +184,7 @@ fn eval_while(
         let condition = at + 5;
         let compared = compare(code, condition, regs, cells, tags, values);
         if compared.how == 2 {
-            return Step {
-                number: 31,
-                place: condition,
-            };
+            return unread(condition);
         }
         *flags = fill;
         let body = compared.next;

@@ -1,5 +1,4 @@
 // Products of two words, in two words: Rax and Rdx, or two destinations.
-ghost use mathlib.Core.Path.{_≡_};
 ghost use mathlib.Core.List.{List};
 ghost use Prim.Native.Nat.{ℕ, _+_};
 ghost use Rattle.code.specs.Tree.{Mul64, Mulx64};

@@ -1,6 +1,5 @@
 -- What a job's bytes give the run is an input: numbers of bytes are words of their size. Assumes nothing.
 use Prim.Native.Nat.{ℕ, zero, suc, _+_, _^_, _<_}
-use mathlib.Core.Path.{_≡_}
 use mathlib.Core.List.{List}
 use native.Mathlib.Nat.{one-le-pow, zero-lt-suc}
 use lib.ListN.{getD}

@@ -1,16 +1,15 @@
 -- What the steps of a job leave is what the job's definition says: a refusal's line alone, or the rendered end of the run.
 use Prim.Native.Nat.{ℕ, zero, suc, _+_, _-_, _≤_}
 use mathlib.Core.Path.{_≡_, refl, sym, ap, _∙_}
-use mathlib.Core.Bool.{true}
-use mathlib.Core.List.{List, [], _∷_, _++_, append-nil}
+use mathlib.Core.List.{List, _++_, append-nil}
 use native.Mathlib.Omega.{arith}
 use lib.ListN.{length, take, drop, length-drop}
-use lib.Seq.{sets, sets-eq, length-sets, take-at, drop-at, take-all}
+use lib.Seq.{sets-eq, length-sets, take-at, drop-at, take-all}
 use Rattle.machine.specs.Cells.{accepted}
 use Rattle.machine.specs.Cells.{refused as turned-away}
 use Rattle.machine.specs.declared.State.{State}
 use Rattle.eval.specs.declared.answer.Setting.{Setting}
-use Rattle.eval.specs.Config.{config, refused, End, ends}
+use Rattle.eval.specs.Config.{config, refused, End}
 use Rattle.eval.specs.Running.{run-of}
 use Rattle.job.specs.Text.{first-line, render}
 use Rattle.job.specs.Job.{numbers, fuel-of, fill-of, env-of, start-of, code-at, check-job, end-checked, run-of-job, printed, output, lent-list}

@@ -4,7 +4,7 @@ use Prim.Native.Nat.{ℕ, zero, suc, _+_, _*_, _-_, _%_, _^_, _<_, _≤_}
 use mathlib.Core.Path.{_≡_, refl, sym, ap, fun-ext}
 use mathlib.Core.Bool.{Bool, true, false, not, _&&_, cond}
 use mathlib.Core.Option.{Option, some}
-use native.Mathlib.Nat.{add-zero}
+use native.Mathlib.Nat.{add-zero, mod-lt, mod-eq-of-lt}
 use native.Mathlib.Omega.{arith}
 use borrow.Author.Tests.{ltb-true, ltb-false, eqb-true, eqb-false, le-leb}
 use lib.Dec.{eqb, ltb, leb}
@@ -29,6 +29,20 @@ choose-is : {A B : Type 0} (b : Bool) (f g : A → B) (a : A) → choose b f g a
 unfolding choose
 choose-is true f g a = refl
 choose-is false f g a = refl
+
+-- the remainder of a whole number, which meets the clause of `int_to_natN`: negsuc k is -(k + 1)
+remainder : ℕ → ℤ → ℕ
+remainder n (pos i) = i % n
+remainder n (negsuc k) = n - 1 - k % n
+
+remainder-is : IntToNatN remainder
+unfolding remainder
+remainder-is n i h = mod-eq-of-lt h
+
+remainder-lt : (n : ℕ) (i : ℤ) → 0 < n → remainder n i < n
+unfolding remainder
+remainder-lt n (pos i) h = mod-lt i h
+remainder-lt n (negsuc k) h = omega (arith, h)
 
 round-is : (b : Bool) (o : State → Option State) (w : State → Option State) (s : State)
     → choose b (λ u. if-some (o u) (λ s1. choose (s1 .ok) w some s1)) some s
@@ -105,6 +119,7 @@ module _ (load-mem64 : ℤ → Memory → ℕ) (int-to-nat64 : ℤ → ℕ) (fil
     amount = amount;
     ins-pcmpeqd = ins-pcmpeqd;
     pair = pair;
+    some-natN = (remainder, remainder-is, remainder-lt);
     code-ins = λ p ins fuel s. refl;
     code-block = λ p l fuel s. refl;
     code-if-else = λ p q c ifTrue ifFalse fuel s. choose-is _ _ _ _;

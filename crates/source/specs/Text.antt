@@ -116,6 +116,8 @@ module _ (load-mem64 : ℤ → Memory → ℕ) (int-to-nat64 : ℤ → ℕ) (fil
     -- `two_to_nat` of a pair that Pextrq extracts, for every `int_to_natN` that meets its clause
     pub pair : (int-to-natN : ℕ → ℤ → ℕ) → IntToNatN int-to-natN → (x : Two ℕ) → x .lo < 2 ^ 32 → x .hi < 2 ^ 32
         → two-to-nat 32 x ≡ int-to-natN (2 ^ 64) (pos (x .lo + x .hi * 2 ^ 32))
+    -- and there is one, which gives a `natN n`
+    pub some-natN : (int-to-natN : ℕ → ℤ → ℕ) × IntToNatN int-to-natN × ((n : ℕ) (i : ℤ) → 0 < n → int-to-natN n i < n)
     -- `eval_code`
     pub code-ins : (p : ℕ) (ins : Instruction) (fuel : ℕ) (s : State)
         → eval-code (Ins p ins) fuel s ≡ some (run (eval-ins ins) s)

@@ -2,9 +2,8 @@
 -- levels left, and the remaining length of the part: a code hands fewer levels to its structure, a structure has its kind byte
 -- behind it, and a part is measured with one byte more than its first code. The loop over a list of codes ends by what is left of
 -- the part. Assumes nothing.
-use Prim.Native.Nat.{_+_, _-_, _*_}
+use Prim.Native.Nat.{_+_, _-_}
 use native.Mathlib.Omega.{arith}
-use borrow.Author.Needs.{needs}
 use Rattle.code.specs.Records.{byte-at}
 use Rattle.code.specs.Reader as reader
 use Rattle.code.proofs.Classes.{ins-kind, structure-kind, not-code, code-used, ins-is-code, structure-is-code, others-01}

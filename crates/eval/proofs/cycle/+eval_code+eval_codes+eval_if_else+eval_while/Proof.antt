@@ -9,6 +9,7 @@ use native.Mathlib.Omega.{arith}
 use lib.ListN.{length}
 use Rattle.eval.specs.Lent.{environment, held}
 use Rattle.eval.proofs.CycleLaws.{code-frame, starts, has-length, block-inside, choice-inside, loop-inside, still-cells, how-done, ins-ran, Going, going-starts, next-there, next-past, codes-go, codes-stop, codes-done, codes-past, block-codes, block-ran, both-ways, if-unread, part-there, if-ran, Looping, loop-ran, loop-spent, loop-unread, loop-done, loop-ends, body-there, loop-goes, loop-stops}
+use borrow.Author.Needs.{needs}
 use borrow.Fn.Kinds.{In}
 use borrow.Fn.PlainCycle.{Measures, is, falls, and}
 use Rattle.eval.proofs.cycle.eval_code.Reads as eval-code
@@ -25,6 +26,7 @@ use Rattle.eval.proofs.cycle.eval_while.Kinds as eval-while-kinds
 use Rattle.eval.proofs.cycle.+eval_code+eval_codes+eval_if_else+eval_while.Lts-eval_while as eval-while-lts
 use Rattle.code.proofs.number4.Reads as number4-reads
 use Rattle.eval.proofs.comparison.compare.Reads as compare-reads
+use Rattle.eval.proofs.step.unread.Reads as unread-reads
 use Rattle.eval.proofs.cycle.first_code.Reads as first-code-reads
 use Rattle.eval.proofs.instruction.instruction.Reads as instruction-reads
 use Rattle.eval.proofs.cycle.+eval_code+eval_codes+eval_if_else+eval_while.{statement}
@@ -96,6 +98,8 @@ abbrev eval-if-else-claims : ℕ → eval-if-else-lts.Claims
 eval-if-else-claims t = (
   compare-reads.Asked,
   compare-reads.Learnt,
+  unread-reads.Asked,
+  unread-reads.Learnt,
   number4-reads.Asked,
   number4-reads.Learnt,
   first-code-reads.Asked,
@@ -108,6 +112,8 @@ abbrev eval-while-claims : ℕ → eval-while-lts.Claims
 eval-while-claims t = (
   compare-reads.Asked,
   compare-reads.Learnt,
+  unread-reads.Asked,
+  unread-reads.Learnt,
   number4-reads.Asked,
   number4-reads.Learnt,
   first-code-reads.Asked,
@@ -342,16 +348,19 @@ eval-if-else-compare-requires t c κs =
     let w = choice-inside _ _ (s .pre .1 .0) (s .pre .1 .1 .0) in
     ((w .mid, w .stands, omega (arith, w .within)), s .pre .1 .1 .1)
 
+eval-if-else-unread-requires : (t : ℕ) → eval-if-else-lts.Need-unread-requires (eval-if-else-claims t) (eval-if-else-at t) eval-if-else.Post
+eval-if-else-unread-requires t c κs = search needs
+
 eval-if-else-same-length : (t : ℕ) → eval-if-else-lts.Need-same-length (eval-if-else-claims t) (eval-if-else-at t) eval-if-else.Post
 eval-if-else-same-length t c = refl
 
 eval-if-else-returns : (t : ℕ) → eval-if-else-lts.Need-returns (eval-if-else-claims t) (eval-if-else-at t) eval-if-else.Post
 eval-if-else-returns t c =
-    let x = c .before .before .compare in
-    let s = c .before .before .before .before .before .before .before .before .before in
-    let if1 = c .if1 in
+    let x = c .before .before .before .compare in
+    let s = c .before .before .before .before .before .before .before .before .before .before in
+    let if1 = c .before .if1 in
     let compared = x .ensures (s .args .fill) (s .args .flags .now) (s .args .xmms .now) in
-    if-unread _ _ _ _ _ (s .pre .1 .1 .0) (x .result) compared (if1 .taken)
+    rw (c .unread .ensures) (if-unread _ _ _ _ _ (s .pre .1 .1 .0) (x .result) compared (if1 .taken))
 
 eval-if-else-add-number4 : (t : ℕ) → eval-if-else-lts.Need-add-number4 (eval-if-else-claims t) (eval-if-else-at t) eval-if-else.Post
 eval-if-else-add-number4 t c =
@@ -523,22 +532,27 @@ eval-while-compare-requires t c κs =
     let w = loop-inside _ _ (s .pre .1 .0) (s .pre .1 .1 .0) in
     ((w .mid, w .stands, omega (arith, w .within)), still-cells _ _ _ _ (s .pre .1 .1 .1) (l .inv .long))
 
+eval-while-unread-requires :
+    (t : ℕ) → eval-while-lts.Need-unread-requires (eval-while-claims t) (eval-while-at t) eval-while.Post eval-while-Inv-loop eval-while-μ-loop
+eval-while-unread-requires t c κs = search needs
+
 eval-while-same-length : (t : ℕ) → eval-while-lts.Need-same-length (eval-while-claims t) (eval-while-at t) eval-while.Post eval-while-Inv-loop eval-while-μ-loop
 eval-while-same-length t c =
-    let l = c .before .before .before .before .before .before .loop in
+    let l = c .before .before .before .before .before .before .before .loop in
     l .inv .long
 
 eval-while-returns : (t : ℕ) → eval-while-lts.Need-returns (eval-while-claims t) (eval-while-at t) eval-while.Post eval-while-Inv-loop eval-while-μ-loop
 eval-while-returns t c =
-    let x = c .before .before .compare in
-    let s = c .before .before .before .before .before .before .before .before .before .before .before in
-    let l = c .before .before .before .before .before .before .loop in
-    let test = c .before .before .before .before .before .loop-test in
-    let if1 = c .if1 in
+    let x = c .before .before .before .compare in
+    let s = c .before .before .before .before .before .before .before .before .before .before .before .before in
+    let l = c .before .before .before .before .before .before .before .loop in
+    let test = c .before .before .before .before .before .before .loop-test in
+    let if1 = c .before .if1 in
     let compared = x .ensures (s .args .fill) (l .flags) (l .xmms) in
-    loop-ran _ _ _ _ _ _ _ (l .inv) _ _
+    rw (c .unread .ensures)
+    (loop-ran _ _ _ _ _ _ _ (l .inv) _ _
     (loop-unread _ _ _ (l .left) _ (s .pre .1 .1 .0) (test .taken) (x .result) compared (if1 .taken))
-    (λ _ _ _ z. absurd (omega arith))
+    (λ _ _ _ z. absurd (omega arith)))
 
 eval-while-add-number4 : (t : ℕ) → eval-while-lts.Need-add-number4 (eval-while-claims t) (eval-while-at t) eval-while.Post eval-while-Inv-loop eval-while-μ-loop
 eval-while-add-number4 t c =
@@ -753,6 +767,8 @@ pub +eval-code+eval-codes+eval-if-else+eval-while-spec : {M : Type 1} → statem
     (λ t. eval-if-else-lts.spec (
       compare-reads.Asked,
       compare-reads.Learnt,
+      unread-reads.Asked,
+      unread-reads.Learnt,
       number4-reads.Asked,
       number4-reads.Learnt,
       first-code-reads.Asked,
@@ -764,6 +780,7 @@ pub +eval-code+eval-codes+eval-if-else+eval-while-spec : {M : Type 1} → statem
     eval-if-else.Post
     (eval-if-else-add-test t)
     (eval-if-else-compare-requires t)
+    (eval-if-else-unread-requires t)
     (eval-if-else-same-length t)
     (eval-if-else-returns t)
     (eval-if-else-add-number4 t)
@@ -781,6 +798,8 @@ pub +eval-code+eval-codes+eval-if-else+eval-while-spec : {M : Type 1} → statem
     λ t. eval-while-lts.spec (
       compare-reads.Asked,
       compare-reads.Learnt,
+      unread-reads.Asked,
+      unread-reads.Learnt,
       number4-reads.Asked,
       number4-reads.Learnt,
       first-code-reads.Asked,
@@ -795,6 +814,7 @@ pub +eval-code+eval-codes+eval-if-else+eval-while-spec : {M : Type 1} → statem
     (eval-while-loop-holds t)
     (eval-while-add-condition t)
     (eval-while-compare-requires t)
+    (eval-while-unread-requires t)
     (eval-while-same-length t)
     (eval-while-returns t)
     (eval-while-add-number4 t)

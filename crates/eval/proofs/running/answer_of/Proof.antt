@@ -1,10 +1,12 @@
 -- `answer_of` meets its contract: the numbers 0 and 1 are done and spent, and the rest are faults.
-use Rattle.eval.proofs.RunLaws.{how-done, how-spent, how-fault}
+use mathlib.Core.Path.{sym}
+use Rattle.eval.proofs.CycleLaws.{how-done}
+use Rattle.eval.proofs.RunLaws.{how-spent, how-fault}
 use Rattle.eval.proofs.running.answer_of.Statement.{statement}
 use Rattle.eval.proofs.running.answer_of.Tie as tie
 
 returns : tie.Need-returns
-returns c = how-done (c .before .args .step) (c .if1 .taken)
+returns c = sym (how-done (c .before .args .step) (c .if1 .taken))
 
 returns-2 : tie.Need-returns-2
 returns-2 c = how-spent (c .before .before .args .step) (c .before .if1 .left) (c .if2 .taken)

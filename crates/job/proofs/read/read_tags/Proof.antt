@@ -1,8 +1,7 @@
 -- In each turn the first i tags are read.
 use Prim.Native.Nat.{_+_, _*_, _-_, _≤_, _<_}
-use mathlib.Core.Path.{_≡_, refl, sym, ap, _∙_}
+use mathlib.Core.Path.{_≡_, refl, sym, _∙_}
 use native.Mathlib.Omega.{arith}
-use borrow.Author.Needs.{needs}
 use lib.ListN.{length, length-set}
 use Rattle.job.proofs.Numbers.{Got, got-none, got-more, got-all}
 use Rattle.code.proofs.NumberLaws.{one-byte}
