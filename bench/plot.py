@@ -12,7 +12,8 @@ from typing import NamedTuple, Optional
 
 TITLES = {
     "steps": ("Steps of a run", "ns a step"),
-    "cells": ("Cells searched", "ns a step"),
+    "cells": ("Cells in a row", "ns a step"),
+    "gaps": ("Cells of every tag, with gaps", "ns a step"),
     "depth": ("Depth of nesting", "ns a step"),
     "code": ("Bytes of code checked", "ns a byte"),
 }
@@ -21,7 +22,8 @@ WIDTH, HEIGHT, LEFT, TOP, GAP = 300, 180, 60, 40, 80
 
 INTRODUCTION = """\
 Times of one run of `bench/run.sh`, which builds the proved static library and writes this page and the plot. Three
-evaluators run in one process, take turns, and are held to the same end of every kernel and of the stored jobs:
+evaluators run in one process and take turns. They are held to the same end of every kernel and, before that, of every
+stored job that is not refused:
 
 - proved: the static library. It checks code and cells, and then runs from the bytes.
 - plain (`bench/src/plain.rs`): safe Rust that reads the bytes as it goes and checks nothing beforehand. It is the
@@ -36,7 +38,7 @@ decoding in it. Numbers are the machine's; the ratios are what to read.
 KERNELS = """\
 `straight` has registers alone, `mixed` IfElse, memory, lanes and products, `deep` 13 IfElse in each other. `memory` has
 64-bit cells in a row; `scattered` has cells of every tag with gaps, and no 64-bit cell where it would be in a row. Both
-interpreters find a cell by bisection alone.
+interpreters find a cell by bisection; the proved evaluator looks first where it would be in a row.
 """
 
 SIZE = """\
@@ -194,7 +196,7 @@ def panel(group, rows):
 
 def drawing(groups):
     across, down = LEFT + WIDTH + GAP, TOP + HEIGHT + GAP
-    wide, high = 2 * across, 2 * down + 20
+    wide, high = 2 * across, (len(TITLES) + 1) // 2 * down + 20
     yield f'<svg xmlns="http://www.w3.org/2000/svg" width="{wide}" height="{high}" font-family="sans-serif" font-size="11">'
     yield f'<rect width="{wide}" height="{high}" fill="white"/>'
     for i, group in enumerate(TITLES):

@@ -152,16 +152,18 @@ pub fn memory(steps: u64, count: u64) -> Kernel {
     kernel
 }
 
-/// 1,024 cells of every tag, with gaps. No 64-bit cell is where it would be if all cells were words in a row: that of
-/// group k has index 4k + 3 and lies 6k + 4 words above the first cell, and these two never meet.
-pub fn scattered(steps: u64) -> Kernel {
+/// `count` cells (a power of two from 4 on) of every tag, with gaps. No 64-bit cell is where it would be if all cells
+/// were words in a row: that of group k has index 4k + 3 and lies 6k + 4 words above the first cell, and these two never
+/// meet.
+pub fn scattered(steps: u64, count: u64) -> Kernel {
     const GROUP: [(u64, u8); 4] = [(0, 8), (3, 16), (9, 32), (32, 64)];
-    const GROUPS: u64 = 256;
     const STRIDE: i16 = 48;
+    let groups = count / 4;
     let (wide, _) = GROUP[3];
     let first = FIRST_CELL + wide;
-    let mut kernel = over_cells("scattered, 1024 cells", steps, first, STRIDE, GROUPS);
-    for k in 0..GROUPS {
+    let name = format!("scattered, {count} cells");
+    let mut kernel = over_cells(&name, steps, first, STRIDE, groups);
+    for k in 0..groups {
         let group = FIRST_CELL + STRIDE as u64 * k;
         for (offset, tag) in GROUP {
             kernel.addresses.push(group + offset);

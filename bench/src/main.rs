@@ -60,7 +60,7 @@ fn kernels(steps: u64, times: u32) {
         kernels::deep(steps),
         kernels::memory(steps, 16),
         kernels::memory(steps, 1024),
-        kernels::scattered(steps),
+        kernels::scattered(steps, 1024),
     ];
     for kernel in &all {
         line("kernel", kernel.steps, kernel, times);
@@ -78,6 +78,10 @@ fn growth(most: u64, times: u32) {
     for power in 0..=10 {
         let count = 1 << power;
         line("cells", count, &kernels::memory(SHORT, count), times);
+    }
+    for power in 2..=10 {
+        let count = 1 << power;
+        line("gaps", count, &kernels::scattered(SHORT, count), times);
     }
     for depth in [3, 4, 8, 16, 24, 32] {
         line("depth", depth, &kernels::nested(SHORT, depth), times);
@@ -118,11 +122,12 @@ fn main() {
             checking(5);
             stack::lines();
         }
-        _ => {
+        [] => {
             kernels(24_000_000, 7);
             growth(100_000_000, 20);
             checking(20);
             stack::lines();
         }
+        _ => panic!("bench, bench quick, bench agree FILE... or bench stack N"),
     }
 }
