@@ -32,7 +32,8 @@ stored job that is not refused:
   structures as indexes, and runs from that. It checks nothing beforehand either.
 
 A step is one instruction or comparison. Each time is the least processor time of several runs, with the checking or
-decoding in it. Numbers are the machine's; the ratios are what to read.
+decoding in it. Numbers are the machine's, and its pace may change from one row to the next where others use it too: read
+along a row, the ratios.
 """
 
 KERNELS = """\
