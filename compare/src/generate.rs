@@ -3,7 +3,7 @@
 
 use crate::build::block;
 use crate::damage;
-use crate::job::Job;
+use crate::job::{parse, Job};
 use crate::large;
 use crate::nest;
 use crate::rng::Rng;
@@ -31,7 +31,7 @@ pub fn job_bytes(seed: u64, index: u64) -> Vec<u8> {
         22 | 29 | 33 => settled(nest::fragment(&mut rng)).to_bytes(),
         30 | 31 => settled(sweep::job(&mut rng, index)).to_bytes(),
         32 => cells_at_edges(&mut rng, turn).to_bytes(),
-        34 => damage::bytes(&mut rng, turn, base),
+        34 => settled_bytes(damage::bytes(&mut rng, turn, base)),
         35 => settled(nest::job(&mut rng, turn)).to_bytes(),
         36 => endless(&mut rng).to_bytes(),
         37 => faulting(&mut rng, turn).to_bytes(),
@@ -125,6 +125,14 @@ pub fn settled(mut job: Job) -> Job {
         }
     }
     job
+}
+
+/// The same of bytes, where they are a job: cut or shifted code may be accepted, with loops that the fuel was not for.
+fn settled_bytes(bytes: Vec<u8>) -> Vec<u8> {
+    match parse(&bytes) {
+        Ok(job) => settled(job).to_bytes(),
+        Err(_) => bytes,
+    }
 }
 
 fn damaged(rng: &mut Rng, code: bool, cells: bool) -> Job {
