@@ -1,9 +1,10 @@
 //! Generated jobs through the program under test and this evaluator.
 
+use crate::answer::{render, Outcome};
 use crate::checks::check_run;
 use crate::generate::job_bytes;
-use crate::job::{parse, render};
-use crate::run::{accept, follow, Followed, Outcome};
+use crate::job::parse;
+use crate::run::{accept, follow, Followed};
 use crate::source::Settings;
 use crate::tally::Tally;
 use crate::target::Target;

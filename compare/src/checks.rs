@@ -2,10 +2,11 @@
 //! machine's end, a larger fuel, and that no answer leans on what the source
 //! leaves free.
 
+use crate::answer::{Answer, Outcome};
 use crate::bytes::{ByteMemory, Machine};
 use crate::cells::Cell;
 use crate::job::Job;
-use crate::run::{follow, Answer, Outcome};
+use crate::run::follow;
 use crate::source::{Mode, Settings};
 use crate::tree::{Code, RSP};
 

@@ -1,11 +1,8 @@
-//! A job: its bytes on standard input and the text that answers it.
+//! A job: its fields, and its bytes on standard input.
 
 use crate::cells::{Cell, MOST};
 use crate::reader::Trouble;
-use crate::run::{Answer, Outcome};
 use crate::state::Start;
-use crate::tree::REG_NAMES;
-use std::fmt::Write;
 
 /// Fuel, fill, flags, registers, xmm words and the cell count.
 pub const HEAD: usize = 4 + 8 + 8 + 16 * 8 + 16 * 16 + 2;
@@ -110,41 +107,4 @@ impl Fields<'_> {
             value,
         }
     }
-}
-
-pub fn first_line(answer: &Answer) -> String {
-    match answer {
-        Answer::Done => "done".to_string(),
-        Answer::Fault(number, place) => format!("fault {number} at {place}"),
-        Answer::Spent(place) => format!("spent at {place}"),
-        Answer::Refused(number, place) => format!("refused {number} at {place}"),
-    }
-}
-
-/// The whole text; every line ends with a line feed.
-pub fn render(outcome: &Outcome) -> String {
-    let mut text = first_line(&outcome.answer);
-    text.push('\n');
-    let Some((end, cells)) = &outcome.end else {
-        return text;
-    };
-    let mut line = |words: std::fmt::Arguments| writeln!(text, "{words}").expect("a string grows");
-    line(format_args!("flags {}", end.flags));
-    for (name, value) in REG_NAMES.iter().zip(end.regs) {
-        if value != 0 {
-            line(format_args!("{name} {value}"));
-        }
-    }
-    for (number, [a, b, c, d]) in end.xmms.iter().enumerate() {
-        if [a, b, c, d] != [&0; 4] {
-            line(format_args!("xmm {number} {a} {b} {c} {d}"));
-        }
-    }
-    for cell in cells {
-        line(format_args!(
-            "cell {} {} {}",
-            cell.address, cell.tag, cell.value
-        ));
-    }
-    text
 }

@@ -3,6 +3,7 @@
 
 #![forbid(unsafe_code)]
 
+mod answer;
 mod batch;
 mod build;
 mod bytes;
@@ -100,7 +101,7 @@ fn seed_of(word: &str) -> Result<u64, String> {
 
 fn run_one(file: &str) -> Result<(), String> {
     let bytes = fs::read(file).map_err(|e| format!("{file}: {e}"))?;
-    let text = job::render(&run::answer_bytes(&bytes));
+    let text = answer::render(&run::answer_bytes(&bytes));
     let written = std::io::stdout().write_all(text.as_bytes());
     written.map_err(|e| e.to_string())
 }

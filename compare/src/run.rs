@@ -1,36 +1,13 @@
 //! Running: the refusals in their order, then the source's evaluator, whose
 //! log gives the answer.
 
-use crate::cells::{self, Cell};
+use crate::answer::{Answer, Outcome};
+use crate::cells;
 use crate::job::{parse, Job};
 use crate::reader::{self, Trouble};
 use crate::source::*;
-use crate::state::{Start, State};
+use crate::state::State;
 use crate::tree::Code;
-
-#[derive(Clone, Copy, Debug, PartialEq, Eq)]
-pub enum Answer {
-    Done,
-    Fault(u8, usize),
-    Spent(usize),
-    Refused(u8, usize),
-}
-
-/// The answer, with state and cells unless it is a refusal.
-#[derive(Clone, Debug, PartialEq, Eq)]
-pub struct Outcome {
-    pub answer: Answer,
-    pub end: Option<(Start, Vec<Cell>)>,
-}
-
-impl Outcome {
-    pub fn refused(trouble: Trouble) -> Outcome {
-        Outcome {
-            answer: Answer::Refused(trouble.number, trouble.place),
-            end: None,
-        }
-    }
-}
 
 /// What following a job showed beside its outcome.
 pub struct Followed {

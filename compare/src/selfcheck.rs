@@ -1,9 +1,10 @@
 //! The examples of document 01 against this evaluator. The expected values
 //! are typed from there; start values that it leaves open are 0.
 
+use crate::answer::render;
 use crate::build::*;
 use crate::cells;
-use crate::job::{parse, render, Job};
+use crate::job::{parse, Job};
 use crate::reader::{self, Trouble};
 use crate::run::answer_bytes;
 use crate::tree::Instruction::*;

@@ -7,9 +7,9 @@
 //! As bytes a record is the job and then its text, each behind its length in
 //! four bytes, low first.
 
+use crate::answer::render;
 use crate::batch::own_answer;
 use crate::generate::job_bytes;
-use crate::job::render;
 use crate::tally::{class, classes, Tally};
 use crate::target::Target;
 

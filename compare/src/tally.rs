@@ -1,6 +1,6 @@
 //! How often each answer and number was met.
 
-use crate::run::Answer;
+use crate::answer::Answer;
 use std::collections::BTreeMap;
 
 /// Answers that every run of some length has to meet.

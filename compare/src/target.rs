@@ -1,6 +1,6 @@
 //! The program under test: something that answers a job's bytes with text.
 
-use crate::job::render;
+use crate::answer::render;
 use crate::run::answer_bytes;
 use std::io::{Read, Write};
 use std::process::{Child, Command, Stdio};

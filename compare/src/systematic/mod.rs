@@ -12,9 +12,10 @@ mod refusals;
 mod roles;
 mod words;
 
+use crate::answer::render;
 use crate::batch::own_answer;
 use crate::build::*;
-use crate::job::{render, Job};
+use crate::job::Job;
 use crate::store::Record;
 use crate::tally::Tally;
 use crate::tree::*;
