@@ -2,10 +2,10 @@
 
 use crate::answer::{render, Outcome};
 use crate::checks::check_run;
+use crate::follow::Settings;
 use crate::generate::job_bytes;
 use crate::job::parse;
 use crate::run::{accept, follow, Followed};
-use crate::source::Settings;
 use crate::tally::Tally;
 use crate::target::Target;
 use std::time::{Duration, Instant};

@@ -5,9 +5,9 @@
 use crate::answer::{Answer, Outcome};
 use crate::bytes::{ByteMemory, Machine};
 use crate::cells::Cell;
+use crate::follow::{Mode, Settings};
 use crate::job::Job;
 use crate::run::follow;
-use crate::source::{Mode, Settings};
 use crate::tree::{Code, RSP};
 
 /// Everything that is checked of a run besides the comparison.

@@ -3,13 +3,13 @@
 
 use crate::build::block;
 use crate::damage;
+use crate::follow::Settings;
 use crate::job::{parse, Job};
 use crate::large;
 use crate::nest;
 use crate::rng::Rng;
 use crate::run::{accept, follow};
 use crate::scene::Scene;
-use crate::source::Settings;
 use crate::sweep;
 use crate::tree::Instruction::*;
 use crate::tree::*;

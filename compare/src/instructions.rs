@@ -1,7 +1,7 @@
 //! The source's `eval_ins`. Words are worked out over whole numbers and then
 //! brought back with a remainder, as the source does.
 
-use crate::source::{Event, Follow};
+use crate::follow::{Event, Follow};
 use crate::state::*;
 use crate::tree::Instruction::*;
 use crate::tree::*;

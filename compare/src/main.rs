@@ -10,6 +10,7 @@ mod bytes;
 mod cells;
 mod checks;
 mod damage;
+mod follow;
 mod generate;
 mod generate_code;
 mod instructions;

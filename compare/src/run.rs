@@ -3,9 +3,10 @@
 
 use crate::answer::{Answer, Outcome};
 use crate::cells;
+use crate::follow::{Event, Follow, Log, Settings, Stop};
 use crate::job::{parse, Job};
 use crate::reader::{self, Trouble};
-use crate::source::*;
+use crate::source::eval_code;
 use crate::state::State;
 use crate::tree::Code;
 

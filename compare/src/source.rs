@@ -1,122 +1,13 @@
 //! The evaluator as the source has it. It runs on after a failed check and
-//! keeps a log. Done, Fault and Spent are read off the log: the first bad
-//! event decides, and it carries the state from just before.
+//! keeps a log (`follow.rs`). Done, Fault and Spent are read off the log: the
+//! first bad event decides, and it carries the state from just before.
 
+use crate::follow::{Event, Follow, Stop};
 use crate::instructions::eval_ins;
 use crate::state::*;
 use crate::tree::*;
 
-#[derive(Clone, Copy, Debug, PartialEq, Eq)]
-pub enum Event {
-    /// A check failed: the number and the place of the record.
-    Failed(u8, usize),
-    /// A loop had no fuel: the place of the While.
-    Starved(usize),
-}
-
-/// Passed checks are only counted; bad events are all kept, the first one
-/// with its snapshot.
-#[derive(Default)]
-pub struct Log {
-    pub passed: u64,
-    pub bad: Vec<Event>,
-    pub before_first: Option<State>,
-}
-
-impl Log {
-    pub fn note(&mut self, event: Event, before: &State) {
-        if self.bad.is_empty() {
-            self.before_first = Some(before.clone());
-        }
-        self.bad.push(event);
-    }
-}
-
-#[derive(Clone, Copy, Debug, PartialEq, Eq)]
-pub enum Mode {
-    /// As the source goes.
-    RunsOn,
-    /// Nothing is followed past the first bad event.
-    StopsAtFirst,
-}
-
-#[derive(Clone, Copy, Debug)]
-pub struct Settings {
-    pub fill: u64,
-    /// The answer of a load that meets no 64-bit cell.
-    pub off: u64,
-    pub mode: Mode,
-    /// Instructions and comparisons that may be followed.
-    pub budget: u64,
-}
-
-/// An odd word that no generated job holds but by chance.
-pub const OFF_MEM64: u64 = 0x6a3d_70b5_19c2_8e4f;
-
-impl Settings {
-    pub fn new(fill: u64) -> Settings {
-        Settings {
-            fill,
-            off: OFF_MEM64,
-            mode: Mode::RunsOn,
-            budget: u64::MAX,
-        }
-    }
-}
-
-pub struct Follow {
-    pub settings: Settings,
-    pub log: Log,
-    pub steps: u64,
-    /// How often each instruction was followed, by its number less 1.
-    pub met: [u64; 24],
-    /// The least fuel that a loop test was met with.
-    pub least_fuel: u64,
-    pub over_budget: bool,
-}
-
-/// Why an evaluation hands back no state.
-pub enum Stop {
-    /// The source's None.
-    NoFuel,
-    /// This evaluator looked no further (budget, or the first bad event).
-    Cut,
-}
-
 type Evaluated = Result<State, Stop>;
-
-impl Follow {
-    pub fn new(settings: Settings) -> Follow {
-        Follow {
-            settings,
-            log: Log::default(),
-            steps: 0,
-            met: [0; 24],
-            least_fuel: u64::MAX,
-            over_budget: false,
-        }
-    }
-
-    pub fn operand(&self, o: &Operand, s: &State) -> u64 {
-        eval_operand(o, s, self.settings.off)
-    }
-
-    fn step(&mut self) -> Result<(), Stop> {
-        self.steps += 1;
-        self.over_budget = self.steps > self.settings.budget;
-        if self.over_budget {
-            return Err(Stop::Cut);
-        }
-        Ok(())
-    }
-
-    fn may_go_on(&self) -> Result<(), Stop> {
-        if self.settings.mode == Mode::StopsAtFirst && !self.log.bad.is_empty() {
-            return Err(Stop::Cut);
-        }
-        Ok(())
-    }
-}
 
 pub fn eval_code(c: &Code, fuel: u64, s: State, f: &mut Follow) -> Evaluated {
     match &c.node {

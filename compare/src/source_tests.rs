@@ -2,6 +2,7 @@
 
 use super::*;
 use crate::cells::Cell;
+use crate::follow::{Mode, Settings, OFF_MEM64};
 use crate::tree::Instruction::*;
 
 const A: Operand = Operand::Reg(RAX);
