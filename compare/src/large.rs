@@ -3,11 +3,11 @@
 
 use crate::build::block;
 use crate::cells::{Cell, MOST};
-use crate::generate::{job_of, settled};
 use crate::job::Job;
 use crate::reader::LONGEST;
 use crate::rng::Rng;
 use crate::scene::Scene;
+use crate::settle::{job_of, settled};
 use crate::tree::Instruction::*;
 use crate::tree::*;
 use crate::writer::write;

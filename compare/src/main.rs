@@ -23,6 +23,7 @@ mod rng;
 mod run;
 mod scene;
 mod selfcheck;
+mod settle;
 mod source;
 mod state;
 mod store;
