@@ -36,6 +36,7 @@ mod target_c;
 mod tree;
 mod writer;
 
+use crate::target::{Own, Process, Target};
 use std::fs;
 use std::io::Write;
 use std::process::ExitCode;
@@ -101,6 +102,20 @@ fn seed_of(word: &str) -> Result<u64, String> {
     Ok(rng::Rng::new(now.as_nanos() as u64).word() >> 16)
 }
 
+/// `self` is this evaluator, `c` the linked one, all else a program's path.
+fn target_of(words: &[String]) -> Result<Box<dyn Target>, String> {
+    match words {
+        [name] if name == "self" => Ok(Box::new(Own)),
+        #[cfg(feature = "c_target")]
+        [name] if name == "c" => Ok(Box::new(target_c::Linked::new())),
+        [program, arguments @ ..] => Ok(Box::new(Process {
+            program: program.clone(),
+            arguments: arguments.to_vec(),
+        })),
+        [] => Err("no program under test was named".to_string()),
+    }
+}
+
 fn run_one(file: &str) -> Result<(), String> {
     let bytes = fs::read(file).map_err(|e| format!("{file}: {e}"))?;
     let text = answer::render(&run::answer_bytes(&bytes));
@@ -110,7 +125,7 @@ fn run_one(file: &str) -> Result<(), String> {
 
 fn run_batch(n: &str, seed: &str, program: &[String]) -> Result<(), String> {
     let (jobs, seed) = (number(n)?, seed_of(seed)?);
-    let mut target = target::by_name(program)?;
+    let mut target = target_of(program)?;
     println!("{jobs} jobs, seed {seed}");
     let tally = batch::run(jobs, seed, target.as_mut())?;
     print!("{}", tally.report());
@@ -138,7 +153,7 @@ fn write_set(dir: &str, name: &str, stored: &[u8]) -> Result<(), String> {
 fn check_set(file: &str, program: &[String]) -> Result<(), String> {
     let stored = fs::read(file).map_err(|e| format!("{file}: {e}"))?;
     let records = store::parse(&stored)?;
-    let mut target = target::by_name(program)?;
+    let mut target = target_of(program)?;
     store::check(&records, target.as_mut())?;
     println!("{} stored jobs answered alike", records.len());
     Ok(())

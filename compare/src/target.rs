@@ -24,20 +24,6 @@ pub struct Process {
 /// This evaluator itself, to see what a seed brings.
 pub struct Own;
 
-/// `self` is this evaluator, `c` the linked one, all else a program's path.
-pub fn by_name(words: &[String]) -> Result<Box<dyn Target>, String> {
-    match words {
-        [name] if name == "self" => Ok(Box::new(Own)),
-        #[cfg(feature = "c_target")]
-        [name] if name == "c" => Ok(Box::new(crate::target_c::Linked::new())),
-        [program, arguments @ ..] => Ok(Box::new(Process {
-            program: program.clone(),
-            arguments: arguments.to_vec(),
-        })),
-        [] => Err("no program under test was named".to_string()),
-    }
-}
-
 impl Target for Own {
     fn answer(&mut self, job: &[u8]) -> Result<Vec<u8>, String> {
         Ok(render(&answer_bytes(job)).into_bytes())
