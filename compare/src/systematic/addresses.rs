@@ -1,8 +1,11 @@
 //! Exact addresses: at, beside and beyond cells, below 0 and beyond 64 bits,
 //! with offsets and scales at their edges; cells of every tag.
 
-use super::*;
+use super::stage::*;
+use crate::build::*;
+use crate::job::Job;
 use crate::tree::Instruction::*;
+use crate::tree::*;
 
 /// Where the cells stand: at both ends, in the middle, and at 4096.
 const CELLS: [u64; 4] = [0, CELL, 1 << 63, TOP - 7];

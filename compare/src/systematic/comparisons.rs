@@ -1,8 +1,12 @@
 //! Every comparison, true and false, in IfElse and in While, and every
 //! operand kind on either side of it.
 
-use super::*;
+use super::roles::kinds;
+use super::stage::*;
+use crate::build::*;
+use crate::job::Job;
 use crate::tree::Instruction::*;
+use crate::tree::*;
 
 /// Less by unsigned but greater by signed order; equal; greater by unsigned.
 const ORDERS: [(u64, u64); 3] = [((1 << 63) - 1, 1 << 63), (TOP, TOP), (TOP, 0)];
@@ -47,7 +51,7 @@ fn orders() -> Vec<Job> {
 fn sides() -> Vec<Job> {
     let mut jobs = Vec::new();
     for (turn, relation) in RELATIONS.into_iter().enumerate() {
-        for (number, kind) in roles::kinds(0).into_iter().enumerate() {
+        for (number, kind) in kinds(0).into_iter().enumerate() {
             for (side, (left, right)) in [(kind, reg(LEFT)), (reg(LEFT), kind)]
                 .into_iter()
                 .enumerate()

@@ -1,8 +1,11 @@
 //! Every fault at every kind of place, the order of the checks, and the two
 //! destinations of Mulx64.
 
-use super::*;
+use super::stage::*;
+use crate::build::*;
+use crate::job::Job;
 use crate::tree::Instruction::*;
+use crate::tree::*;
 use Relation::{Eq, Ne};
 
 fn faulty() -> Vec<Code> {

@@ -1,7 +1,10 @@
 //! Carry and overflow in and out, and the fill word where flags are left open.
 
-use super::*;
+use super::stage::*;
+use crate::build::*;
+use crate::job::Job;
 use crate::tree::Instruction::*;
+use crate::tree::*;
 
 /// Neither, carry, overflow, both, alone and with all the other bits set.
 const FLAGS: [u64; 8] = [0, 1, 2048, 2049, TOP - 2049, TOP - 2048, TOP - 1, TOP];

@@ -1,7 +1,10 @@
 //! Fuel at its edges: none, one, exact, one less, and in nested loops.
 
-use super::*;
+use super::stage::*;
+use crate::build::*;
+use crate::job::Job;
 use crate::tree::Instruction::*;
+use crate::tree::*;
 use Relation::{Eq, Ne};
 
 fn less(counter: Reg) -> Code {

@@ -1,9 +1,12 @@
 //! The instructions on xmm registers: words at their edges, every kind of
 //! amount, permutation, index and count, and one register in both roles.
 
-use super::*;
+use super::stage::*;
+use crate::build::*;
+use crate::job::Job;
 use crate::state::Quad;
 use crate::tree::Instruction::*;
+use crate::tree::*;
 
 const EDGES: Quad = [0, 1, 1 << 31, u32::MAX];
 const WORD: u64 = (1 << 63) | (5 << 32) | 0x8000_0001;

@@ -10,65 +10,15 @@ mod fuel;
 mod lanes;
 mod refusals;
 mod roles;
+mod stage;
 mod words;
 
 use crate::answer::render;
 use crate::batch::own_answer;
-use crate::build::*;
 use crate::job::Job;
 use crate::store::Record;
 use crate::tally::Tally;
-use crate::tree::*;
 use std::collections::BTreeSet;
-
-const TOP: u64 = u64::MAX;
-
-/// Registers with a part to play on the stage.
-const SMALL: Reg = 4;
-const NEAR: Reg = 6;
-const BASE: Reg = 8;
-const INDEX: Reg = 9;
-const TARGET: Reg = 10;
-const OTHER: Reg = 11;
-const LEFT: Reg = 12;
-const RIGHT: Reg = 13;
-
-/// Two 64-bit cells side by side, the second one at 4104.
-const CELL: u64 = 4096;
-/// One address behind the start of a 64-bit cell: nothing is listed there.
-const BESIDE: u64 = 4097;
-
-/// Flags and fill that differ in every bit that is set, and nothing else.
-fn bare(code: Code) -> Job {
-    of_code(code).flags(1 << 63 | 2048 | 5).fill(1 << 62 | 10)
-}
-
-/// What the operands need: registers, xmm words, and cells of every tag. What
-/// stands near another differs from it, so that a change in the wrong place
-/// shows.
-fn stage(code: Code) -> Job {
-    bare(code)
-        .reg(RAX, 1 << 62)
-        .reg(RDX, 1003)
-        .reg(SMALL, 9)
-        .reg(NEAR, 4000)
-        .reg(RSP, CELL)
-        .reg(BASE, 8192)
-        .reg(INDEX, 2048)
-        .reg(TARGET, TOP - 2)
-        .reg(OTHER, 1011)
-        .xmm(1, [1, 2, 3, 4])
-        .fuel(3)
-        .cell(CELL, 64, 7)
-        .cell(4104, 64, 1 << 63 | 5)
-        .cell(4112, 8, 200)
-        .cell(4113, 16, 60_000)
-        .cell(4115, 32, 4_000_000_000)
-}
-
-fn compare(relation: Relation, left: Operand, right: Operand) -> Ocmp {
-    Ocmp::unplaced(relation, left, right)
-}
 
 fn jobs() -> Vec<Vec<u8>> {
     let mut jobs = roles::jobs();

@@ -1,8 +1,10 @@
 //! Every refusal that a job can meet, and the nearest that is none.
 
-use super::*;
-use crate::job::{CELL, HEAD, LONGEST};
+use super::stage::{bare, compare, LEFT, TOP};
+use crate::build::*;
+use crate::job::{Job, CELL, HEAD, LONGEST};
 use crate::tree::Instruction::*;
+use crate::tree::*;
 
 /// Add64 Rax, 1.
 const ADD: [u8; 12] = [0x02, 0x41, 0, 0x40, 1, 0, 0, 0, 0, 0, 0, 0];

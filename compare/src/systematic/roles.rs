@@ -1,8 +1,11 @@
 //! Every operand kind in every role of every instruction with operands; in
 //! every role also memory without a 64-bit cell, in every destination Rsp.
 
-use super::*;
+use super::stage::*;
+use crate::build::*;
+use crate::job::Job;
 use crate::tree::Instruction::*;
+use crate::tree::*;
 use Role::{Destination, Source};
 
 #[derive(Clone, Copy, PartialEq)]

@@ -1,8 +1,11 @@
 //! The instructions on 64-bit words at the edges of the widths, and shifts by
 //! every kind of amount.
 
-use super::*;
+use super::stage::*;
+use crate::build::*;
+use crate::job::Job;
 use crate::tree::Instruction::*;
+use crate::tree::*;
 
 const EDGES: [u64; 6] = [0, 1, 1 << 31, 1 << 32, 1 << 63, TOP];
 const RBX: Reg = 1;
