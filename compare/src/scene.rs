@@ -1,7 +1,7 @@
 //! The scene that generated code plays in: start, cells, and who may be
 //! written. Registers and cells have roles so that most code runs deep:
 //! pointers and amounts keep their value, counters belong to loops, data is
-//! free.
+//! free. An address is formed over the registers that keep their value.
 
 use crate::cells::Cell;
 use crate::rng::Rng;
@@ -112,6 +112,63 @@ impl Scene {
             let count = 1 + self.rng.below(4);
             self.favourites = (0..count).map(|_| 1 + self.rng.below(24)).collect();
         }
+    }
+}
+
+// Addresses.
+impl Scene {
+    /// An address operand that means `target`, where a form can reach it.
+    pub fn address_of(&mut self, target: i128) -> Maddr {
+        for _ in 0..6 {
+            let form = self.rng.below(3);
+            let found = match form {
+                0 => u64::try_from(target).ok().map(Maddr::Const),
+                1 => self.register_form(target),
+                _ => self.index_form(target),
+            };
+            if let Some(m) = found {
+                return m;
+            }
+        }
+        match u64::try_from(target) {
+            Ok(n) => Maddr::Const(n),
+            Err(_) => Maddr::Reg(self.pointer(), self.rng.edge_word() as i64),
+        }
+    }
+
+    fn pointer(&mut self) -> Reg {
+        let all = self.pointers.len() + self.amounts.len();
+        let n = self.rng.below(all);
+        if n < self.pointers.len() {
+            self.pointers[n]
+        } else {
+            self.amounts[n - self.pointers.len()]
+        }
+    }
+
+    fn value(&self, reg: Reg) -> i128 {
+        i128::from(self.start.regs[usize::from(reg)])
+    }
+
+    fn register_form(&mut self, target: i128) -> Option<Maddr> {
+        let reg = self.pointer();
+        let offset = i64::try_from(target - self.value(reg)).ok()?;
+        Some(Maddr::Reg(reg, offset))
+    }
+
+    fn index_form(&mut self, target: i128) -> Option<Maddr> {
+        let base = self.pointer();
+        let index = self.pointer();
+        let scale = match self.rng.below(3) {
+            0 => self.rng.pick(&[1, 2, 4, 8]),
+            1 => self
+                .rng
+                .pick(&[0, 3, -1, -2, -8, 255, i16::MAX, i16::MIN, -32_767]),
+            _ => self.rng.word() as i16,
+        };
+        let reached = self.value(base) + i128::from(scale) * self.value(index);
+        let offset = i64::try_from(target - reached).ok()?;
+        Some(Maddr::Index(base, scale, index, offset))
     }
 }
 
