@@ -14,7 +14,7 @@ use Rattle.code.specs.Tree.{Instruction, Mov64, Add64, AddLea64, AddCarry64, Ad
 use Rattle.eval.specs.Config.{Env, Config, with-flags, End, ends, Outcome, done, fault, spent, refused, continue, check, choose}
 use Rattle.eval.specs.Steps.{cell-of, update-operand, write, write-xmm, run-mulx, run-ins, valid-ocmp, eval-ocmp}
 use Rattle.eval.specs.Running.{run-ocmp, rounds, run-code, run-codes}
-use Rattle.stores.specs.Stores.{Store, with-stores, to-cell, store, stores, stores-of, Completed, behind, way, completed, completed-all, completed-rounds}
+use Rattle.stores.specs.Stores.{Store, with-stores, to-cell, store, stores, stores-of, Completed, if-done, way, completed, completed-all, completed-rounds}
 
 pub make-append : (a b : List Store) (vs : List ℕ) → with-stores (a ++ b) vs ≡ with-stores b (with-stores a vs)
 unfolding with-stores
@@ -62,8 +62,10 @@ module _ (env : Env) where
   unfolding run-mulx
   made-mulx p dst-hi dst-lo hi lo s =
       let t = update-operand env dst-lo lo s in
+      let low = store env dst-lo lo s in
+      let high = store env dst-hi hi t in
       made-check _ 32 p (made-check _ 32 p (made-done _ s _
-      (stored dst-hi hi t ∙ ap (with-stores (store env dst-hi hi t)) (stored dst-lo lo s) ∙ sym (make-append (store env dst-lo lo s) (store env dst-hi hi t) (s .values)))))
+      (stored dst-hi hi t ∙ ap (with-stores high) (stored dst-lo lo s) ∙ sym (make-append low high (s .values)))))
 
   made-xmm : (x : ℕ) (q : Four ℕ) (flags : ℕ) (s : Config) → Made [] s (write-xmm env x q flags s)
   unfolding with-stores
@@ -113,22 +115,22 @@ module _ (env : Env) where
 
   traced-one : (d : Completed) (vs : List ℕ) (o : Outcome) (t : Config) → NotRefused o
       → (o ≡ done → t .values ≡ with-stores (stores env (d .instruction) (d .before)) vs) → ((o ≡ done → ⊥) → t .values ≡ vs)
-      → Traced vs (behind o (d ∷ [])) (ends o t)
-  unfolding behind stores-of with-stores
+      → Traced vs (if-done o (d ∷ [])) (ends o t)
+  unfolding if-done stores-of with-stores
   traced-one d vs done t j f g =
       record { judged = tt; made = f refl ∙ sym (make-append (stores env (d .instruction) (d .before)) [] vs) }
   traced-one d vs (fault n p) t j f g = record { judged = tt; made = g (λ e. let z : _≡_ {A = ℕ} 0 1 = cc in omega arith) }
   traced-one d vs (spent p) t j f g = record { judged = tt; made = g (λ e. let z : _≡_ {A = ℕ} 0 1 = cc in omega arith) }
   traced-one d vs (refused n p) t j f g = absurd j
 
-  traced-behind : (vs : List ℕ) (l : List Completed) (o : Outcome) (t : Config) (k : Config → End) (m : Config → List Completed)
-      → Traced vs l (ends o t) → Traced (t .values) (m t) (k t) → Traced vs (l ++ behind o (m t)) (continue o t k)
-  unfolding behind continue stores-of with-stores
-  traced-behind vs l done t k m h g =
+  traced-if-done : (vs : List ℕ) (l : List Completed) (o : Outcome) (t : Config) (k : Config → End) (m : Config → List Completed)
+      → Traced vs l (ends o t) → Traced (t .values) (m t) (k t) → Traced vs (l ++ if-done o (m t)) (continue o t k)
+  unfolding if-done continue stores-of with-stores
+  traced-if-done vs l done t k m h g =
       record { judged = g .judged; made = g .made ∙ ap (with-stores (stores-of env (m t))) (h .made) ∙ sym (make-both l (m t) vs) }
-  traced-behind vs l (fault n p) t k m h g = record { judged = tt; made = h .made ∙ sym (make-both l [] vs) }
-  traced-behind vs l (spent p) t k m h g = record { judged = tt; made = h .made ∙ sym (make-both l [] vs) }
-  traced-behind vs l (refused n p) t k m h g = absurd (h .judged)
+  traced-if-done vs l (fault n p) t k m h g = record { judged = tt; made = h .made ∙ sym (make-both l [] vs) }
+  traced-if-done vs l (spent p) t k m h g = record { judged = tt; made = h .made ∙ sym (make-both l [] vs) }
+  traced-if-done vs l (refused n p) t k m h g = absurd (h .judged)
 
   traced-way : (q : ℕ) (c : Ocmp) (f g : Config → End) (l m : Config → List Completed) (s : Config)
       → ((t : Config) → Traced (t .values) (l t) (f t)) → ((t : Config) → Traced (t .values) (m t) (g t))
@@ -148,7 +150,7 @@ module _ (env : Env) where
   traced-rounds body inside p q c h zero s = record { judged = tt; made = refl }
   traced-rounds body inside p q c h (suc f) s =
       traced-way q c _ _ _ _ s
-      (λ t. traced-behind (t .values) (inside f t) (body f t .how) (body f t .config) (rounds env body p q c f) (completed-rounds env body inside c f)
+      (λ t. traced-if-done (t .values) (inside f t) (body f t .how) (body f t .config) (rounds env body p q c f) (completed-rounds env body inside c f)
       (h f t) (traced-rounds body inside p q c h f (body f t .config)))
       (λ t. record { judged = tt; made = refl })
 
@@ -157,8 +159,10 @@ module _ (env : Env) where
 
     pub traced : (c : Code) (f : ℕ) (s : Config) → Traced (s .values) (completed env c f s) (run-code env c f s)
     traced (Ins p i) f s =
+        let e = run-ins env p i s in
         let m = made-ins p i s in
-        traced-one (record { instruction = i; before = s }) (s .values) (run-ins env p i s .how) (run-ins env p i s .config) (m .judged) (m .all) (λ n. ap (λ (t : Config). t .values) (m .nothing n))
+        traced-one (record { instruction = i; before = s }) (s .values) (e .how) (e .config)
+        (m .judged) (m .all) (λ n. ap (λ (t : Config). t .values) (m .nothing n))
     traced (Block p cs) f s = traced-all cs f s
     traced (IfElse p q c a b) f s = traced-way q c _ _ _ _ s (traced a f) (traced b f)
     traced (While p q c b) f s = traced-rounds (run-code env b) (completed env b) p q c (traced b) f s
@@ -167,4 +171,5 @@ module _ (env : Env) where
     traced-all ⟨⟩ f s = record { judged = tt; made = refl }
     traced-all (c ∷ᶜ cs) f s =
         let e = run-code env c f s in
-        traced-behind (s .values) (completed env c f s) (e .how) (e .config) (run-codes env cs f) (completed-all env cs f) (traced c f s) (traced-all cs f (e .config))
+        traced-if-done (s .values) (completed env c f s) (e .how) (e .config) (run-codes env cs f) (completed-all env cs f)
+        (traced c f s) (traced-all cs f (e .config))

@@ -37,11 +37,11 @@ pub record Completed : Type 0 where
   pub before : Config
 
 -- what comes behind a part of a run: nothing, unless that part is done
-unfoldable pub behind : Outcome → List Completed → List Completed
-behind done l = l
-behind (fault n p) l = []
-behind (spent p) l = []
-behind (refused n p) l = []
+unfoldable pub if-done : Outcome → List Completed → List Completed
+if-done done l = l
+if-done (fault n p) l = []
+if-done (spent p) l = []
+if-done (refused n p) l = []
 
 -- the way that a comparison takes: none where it faults
 unfoldable pub way : Bool → Bool → (Config → List Completed) → (Config → List Completed) → Config → List Completed
@@ -98,13 +98,13 @@ module _ (env : Env) where
   completed-rounds body inside c zero s = []
   completed-rounds body inside c (suc fuel) s =
       way (valid-ocmp env c s) (eval-ocmp env c s)
-      (λ t. inside fuel t ++ behind (body fuel t .how) (completed-rounds body inside c fuel (body fuel t .config)))
+      (λ t. inside fuel t ++ if-done (body fuel t .how) (completed-rounds body inside c fuel (body fuel t .config)))
       (λ t. []) (with-flags (env .fill) s)
 
   unfoldable mutual
     -- the instructions that the run of a code completes, in order
     pub completed : Code → ℕ → Config → List Completed
-    completed (Ins p i) fuel s = behind (run-ins env p i s .how) (record { instruction = i; before = s } ∷ [])
+    completed (Ins p i) fuel s = if-done (run-ins env p i s .how) (record { instruction = i; before = s } ∷ [])
     completed (Block p cs) fuel s = completed-all cs fuel s
     completed (IfElse p q c a b) fuel s =
         way (valid-ocmp env c s) (eval-ocmp env c s) (completed a fuel) (completed b fuel) (with-flags (env .fill) s)
@@ -114,4 +114,4 @@ module _ (env : Env) where
     pub completed-all : Codes → ℕ → Config → List Completed
     completed-all ⟨⟩ fuel s = []
     completed-all (c ∷ᶜ cs) fuel s =
-        completed c fuel s ++ behind (run-code env c fuel s .how) (completed-all cs fuel (run-code env c fuel s .config))
+        completed c fuel s ++ if-done (run-code env c fuel s .how) (completed-all cs fuel (run-code env c fuel s .config))
