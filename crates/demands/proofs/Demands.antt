@@ -15,7 +15,7 @@ use Rattle.eval.specs.Running.{run-checked, run-read, run-of}
 use Rattle.stores.specs.OnlyStores.{OnlyStores}
 use Rattle.stores.proofs.OnlyStores.{only-stores, fault-writes-nothing, never-refused, runs-tree}
 use Rattle.source.proofs.Correspondence.{correspondence}
-use Rattle.source.proofs.Text.{text}
+use Rattle.source.proofs.Upstream.{text}
 use Rattle.bytemachine.specs.Follows.{IsStart}
 use Rattle.bytemachine.proofs.Follows.{follows-of, start-of}
 use Rattle.demands.specs.Demands.{ran, cells, Demand1, Demand2, Demand3, Demands, Claim}

@@ -17,7 +17,7 @@ use Rattle.eval.specs.Config.{Env, Config, config, End, ends, done, fault, refu
 use Rattle.eval.specs.Steps.{run-ins}
 use Rattle.eval.specs.Running.{run-of}
 use Rattle.stores.specs.OnlyStores.{OnlyStores}
-use Rattle.source.specs.Text.{Text}
+use Rattle.source.specs.Upstream.{Upstream}
 use Rattle.source.specs.Correspondence.{IntToNat64, Corresponds, Correspondence}
 use Rattle.bytemachine.specs.Follows.{FollowsOf}
 
@@ -53,7 +53,7 @@ module _ (code : List ℕ) (env : Env) (fuel : ℕ) (s : Config) where
     -- the log is the source's, ok stays clear, and some `load_mem64` and `int_to_nat64` meet their clauses
     pub correspondence : Correspondence
     -- the source is F*'s text, where it is written another way
-    pub text : (load-mem64 : ℤ → Memory → ℕ) (int-to-nat64 : ℤ → ℕ) (fill : ℕ) → Text load-mem64 int-to-nat64 fill
+    pub text : (load-mem64 : ℤ → Memory → ℕ) (int-to-nat64 : ℤ → ℕ) (fill : ℕ) → Upstream load-mem64 int-to-nat64 fill
 
   -- the third demand
   pub record Demand3 : Type 0 where

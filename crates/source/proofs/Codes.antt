@@ -75,7 +75,8 @@ module _ (load-mem64 : ℤ → Memory → ℕ) (int-to-nat64 : ℤ → ℕ) (fil
   unfolding note-ocmp check Source.check
   clear-ocmp q c f g F G u e = clear-choose _ f g F G _ (bind-clear _ _ u e)
 
-  clear-while : (p q : ℕ) (c : Ocmp) (body : ℕ → State → Logged) → ((f : ℕ) → Clears (body f)) → (f : ℕ) → Clears (log-while load-mem64 int-to-nat64 fill p q c body f)
+  clear-while : (p q : ℕ) (c : Ocmp) (body : ℕ → State → Logged) → ((f : ℕ) → Clears (body f))
+      → (f : ℕ) → Clears (log-while load-mem64 int-to-nat64 fill p q c body f)
   unfolding log-while
   clear-while p q c body h zero u e = tt
   clear-while p q c body h (suc f) u e =
@@ -195,19 +196,24 @@ module _ (env : Env) where
         next : (State × Bool) × List Note → Logged
         next r = after (events q (state-of env s) (r .1)) (choose (r .0 .1) f′ g′ (r .0 .0))
 
-        go : (b : Bool) → Run.valid-ocmp env c s ≡ b
-            → Tells (Config.check b 31 q s (Config.choose (Run.eval-ocmp env c s) f g (with-flags (env .fill) s))) (next (noted s c))
+        -- the way that the run takes
+        taken : End
+        taken = Config.choose (Run.eval-ocmp env c s) f g (with-flags (env .fill) s)
+
+        go : (b : Bool) → Run.valid-ocmp env c s ≡ b → Tells (Config.check b 31 q s taken) (next (noted s c))
         go true e =
-            subst⁻¹ (λ (r : (State × Bool) × List Note). Tells (Config.choose (Run.eval-ocmp env c s) f g (with-flags (env .fill) s)) (next r)) (ocmp-passes c s fits h e)
+            subst⁻¹ (λ (r : (State × Bool) × List Note). Tells taken (next r)) (ocmp-passes c s fits h e)
             (tells-after (passed 31 q ∷ []) _ _ refl (tells-choose (Run.eval-ocmp env c s) f g f′ g′ F G (with-flags (env .fill) s) h))
         go false e =
             let r = noted s c in
+            let u = state-of env s in
             let w = ocmp-fails c s h e in
             ends-fault 31 q s refl
-            (subst⁻¹ (λ (l : List Note). first-bad (events q (state-of env s) l ++ choose (r .0 .1) f′ g′ (r .0 .0) .0) ≡ some (failed 31 q (state-of env s))) (w .1) refl)
+            (subst⁻¹ (λ (l : List Note). first-bad (events q u l ++ choose (r .0 .1) f′ g′ (r .0 .0) .0) ≡ some (failed 31 q u)) (w .1) refl)
             (clear-choose (r .0 .1) f′ g′ F′ G′ (r .0 .0) (w .0))
 
-    tells-ins : (p : ℕ) (s : Config) (o : (Unit {0} × State) × List Note) (r : End) → Said env p s o r → Tells r (events p (state-of env s) (o .1), some (o .0 .1))
+    tells-ins : (p : ℕ) (s : Config) (o : (Unit {0} × State) × List Note) (r : End)
+        → Said env p s o r → Tells r (events p (state-of env s) (o .1), some (o .0 .1))
     tells-ins p s o r (finishes t a h f g) = ends-done t a h (events-good p _ (o .1) f) (ap some g)
     tells-ins p s o r (stops n a f g) = ends-fault n p s a (events-bad p _ (o .1) n f) g
 

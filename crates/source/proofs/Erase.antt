@@ -27,7 +27,8 @@ erase-choose false f g f′ g′ F G s = G s
 
 module _ (load-mem64 : ℤ → Memory → ℕ) (int-to-nat64 : ℤ → ℕ) (fill : ℕ) where
   pub erase-ins : (i : Instruction) (s : State) → (note-ins load-mem64 int-to-nat64 fill i s) .0 ≡ eval-ins load-mem64 int-to-nat64 fill i s
-  unfolding note-ins eval-ins Log._>>=_ Source._>>=_ Log.quiet Log.check Log.check-imm Log.update-operand Source.update-operand Log.update-operand-preserve-flags Source.update-operand-preserve-flags
+  unfolding note-ins eval-ins Log._>>=_ Source._>>=_ Log.quiet Log.check Log.check-imm
+      Log.update-operand Source.update-operand Log.update-operand-preserve-flags Source.update-operand-preserve-flags
   erase-ins (Mov64 dst src) s = refl
   erase-ins (Add64 dst src) s = refl
   erase-ins (AddLea64 dst src1 src2) s = refl

@@ -76,7 +76,8 @@ module _ (env : Env) where
       let r = k (o .0 .1) in
       ((r .0 .0, Source.with-ok (o .0 .1 .ok && r .0 .1 .ok) (r .0 .1)), o .1 ++ r .1)
 
-  said-passed : (p : ℕ) (s0 : Config) (u : State) (l l′ : List Note) (r : End) → first-failed l ≡ none → Said p s0 ((tt, u), l′) r → Said p s0 ((tt, u), l ++ l′) r
+  said-passed : (p : ℕ) (s0 : Config) (u : State) (l l′ : List Note) (r : End)
+      → first-failed l ≡ none → Said p s0 ((tt, u), l′) r → Said p s0 ((tt, u), l ++ l′) r
   said-passed p s0 u l l′ r e (finishes t a h f g) = finishes t a h (passed-then l l′ e ∙ f) g
   said-passed p s0 u l l′ r e (stops n a f g) = stops n a (passed-then l l′ e ∙ f) g
 
@@ -162,13 +163,15 @@ module _ (env : Env) where
   module _ (load-mem64 : ℤ → Memory → ℕ) (loads : LoadsMem64 load-mem64) (int-to-nat64 : ℤ → ℕ) (ints : IntToNat64 int-to-nat64) where
     -- a destination is written, and flags are the fill word
     update-gate : (dst : Operand) (i : Instruction) (v w : ℕ) (s : Config) → Held env s → (Run.valid-dst-operand env dst s ≡ true → v ≡ w)
-        → Gate (update-operand load-mem64 int-to-nat64 (env .fill) dst i v) s (with-flags (env .fill) (Run.update-operand env dst w s)) (Run.valid-dst-operand env dst s) 32
+        → Gate (update-operand load-mem64 int-to-nat64 (env .fill) dst i v)
+        s (with-flags (env .fill) (Run.update-operand env dst w s)) (Run.valid-dst-operand env dst s) 32
     unfolding update-operand Source.update-operand′
     update-gate dst i v w s h same =
+        let put : ℕ → State = λ x. Source.update-operand-preserve-flags′ dst x (state-of env s) in
         put-gate 32 (Source.valid-dst-operand dst) (Source.update-operand′ load-mem64 int-to-nat64 (env .fill) dst i v) s _ _ h
         (update-held env dst w s h)
         (valid-dst-is env dst s h)
-        (λ g. ap (λ x. Source.with-flags (env .fill) (Source.update-operand-preserve-flags′ dst x (state-of env s))) (same g) ∙ ap (Source.with-flags (env .fill)) (update-is env dst w s h g))
+        (λ g. ap (Source.with-flags (env .fill)) (ap put (same g) ∙ update-is env dst w s h g))
 
     -- the values of an operand in the source and in the run
     abbrev read : Operand → Config → ℕ
@@ -331,7 +334,8 @@ module _ (env : Env) where
 
       -- ---- every instruction
       pub says-ins : (i : Instruction) → WfIns i → Says p s (note-ins load-mem64 int-to-nat64 (env .fill) i) s (Run.run-ins env p i s)
-      unfolding WfIns note-ins Run.run-ins Source.eval-ins Source.update-xmm Source.update-xmm-preserve-flags Source.update-cf-of Source._>>=_ sum-mod sum-carry mul-mod add-lanes equal-lanes shl-lanes shr-lanes shuffle-lanes shift-quad
+      unfolding WfIns note-ins Run.run-ins Source.eval-ins Source.update-xmm Source.update-xmm-preserve-flags Source.update-cf-of Source._>>=_
+          sum-mod sum-carry mul-mod add-lanes equal-lanes shl-lanes shr-lanes shuffle-lanes shift-quad
       says-ins (Mov64 dst src) fits = says-get _ _ (says-source src _ _ (λ e. says-keep dst _ _ (λ _. is src (fits .1) e)))
       says-ins (Add64 dst src) fits =
           says-get _ _ (says-sum dst src fits (Add64 dst src) (λ a b. (a + b) % 2 ^ 64) (λ a b. add-flags (env .fill) (s .flags) a b 0))

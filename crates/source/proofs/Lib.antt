@@ -1,4 +1,4 @@
-pub mod Text
+pub mod Upstream
 pub mod Erase
 pub mod OperandLaws
 pub mod Instructions

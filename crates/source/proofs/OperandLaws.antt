@@ -51,12 +51,17 @@ module _ (env : Env) where
   unfolding Source.update-operand-preserve-flags′ Run.update-operand Run.valid-dst-operand Run.valid-operand Run.cell-of valid-dst
   update-is (OConst n) v s h e = cc
   update-is (OReg r) v s h e = refl
-  update-is (OMem m) v s h e = ap (λ (x : Memory). with-mem x (state-of env s)) (go (find-cell (env .addresses) (env .tags) (eval-maddr m (s .regs))) refl (both _ _ e .0))
+  update-is (OMem m) v s h e =
+      ap (λ (x : Memory). with-mem x (state-of env s)) (go (find-cell (env .addresses) (env .tags) at) refl (both _ _ e .0))
     where
-      go : (k : Option ℕ) → find-cell (env .addresses) (env .tags) (eval-maddr m (s .regs)) ≡ k → is-cell k ≡ true
-          → store-mem64 (eval-maddr m (s .regs)) v (memory-of (env .addresses) (env .tags) (s .values)) ≡ memory-of (env .addresses) (env .tags) (set-cell (s .values) k v)
+      at : ℤ
+      at = eval-maddr m (s .regs)
+
+      go : (k : Option ℕ) → find-cell (env .addresses) (env .tags) at ≡ k → is-cell k ≡ true
+          → store-mem64 at v (memory-of (env .addresses) (env .tags) (s .values))
+          ≡ memory-of (env .addresses) (env .tags) (set-cell (s .values) k v)
       go none p f = absurd (let n : _≡_ {A = ℕ} 0 1 = cc in omega arith)
-      go (some i) p f = memory-store (env .addresses) (env .tags) (s .values) (eval-maddr m (s .regs)) i v p h
+      go (some i) p f = memory-store (env .addresses) (env .tags) (s .values) at i v p h
 
   pub update-held : (o : Operand) (v : ℕ) (s : Config) → Held env s → Held env (Run.update-operand env o v s)
   unfolding Run.update-operand

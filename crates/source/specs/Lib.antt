@@ -1,4 +1,4 @@
 pub mod Source
-pub mod Text
+pub mod Upstream
 pub mod Log
 pub mod Correspondence

@@ -1,5 +1,5 @@
 -- X64.Semantics_s, transliterated, in its names; what needs no open place stands first. It runs on after a failed check.
--- Where it is written another way than the text (Text names the places), Text says that the two are the same.
+-- Where it is written another way than the text (Upstream names the places), Upstream says that the two are the same.
 -- Open places: every `load_mem64` and `int_to_nat64` that meets its clause is a parameter; `havoc` is the fill word.
 use Prim.Native.Nat.{ℕ, zero, suc, _+_, _*_, _%_, _^_}
 use mathlib.Core.Bool.{Bool, true, false, not, _&&_, cond}

@@ -23,7 +23,7 @@ use Rattle.code.specs.Tree.{Add64, AddCarry64, Pcmpeqd}
 use Rattle.eval.specs.Flags.{add-flags}
 use Rattle.machine.specs.Memory.{Memory}
 use Rattle.source.specs.Source.{State, eval-reg, eval-xmm, update-reg′, update-xmm′, choose, if-some, eval-ins, eval-while, eval-code, eval-codes}
-use Rattle.source.specs.Text.{Text, IntToNatN, add64-text, add-carry64-text, pcmpeqd-text}
+use Rattle.source.specs.Upstream.{Upstream, IntToNatN, add64-text, add-carry64-text, pcmpeqd-text}
 
 choose-is : {A B : Type 0} (b : Bool) (f g : A → B) (a : A) → choose b f g a ≡ cond b (f a) (g a)
 unfolding choose
@@ -108,7 +108,7 @@ module _ (load-mem64 : ℤ → Memory → ℕ) (int-to-nat64 : ℤ → ℕ) (fil
   unfolding eval-ins add-flags sum-carry
   ins-add-carry dst src = refl
 
-  pub text : Text load-mem64 int-to-nat64 fill
+  pub text : Upstream load-mem64 int-to-nat64 fill
   unfolding eval-code eval-codes eval-while
   text = record {
     ins-add = ins-add;

@@ -99,7 +99,7 @@ module _ (load-mem64 : ℤ → Memory → ℕ) (int-to-nat64 : ℤ → ℕ) (fil
     update-xmm-preserve-flags dst eq-val
 
   -- where the two are the same
-  pub record Text : Type 0 where
+  pub record Upstream : Type 0 where
     pub ins-add : (dst src : Operand) → eval-ins (Add64 dst src) ≡ add64-text dst src
     pub ins-add-carry : (dst src : Operand) → eval-ins (AddCarry64 dst src) ≡ add-carry64-text dst src
     -- `(a - b) % pow2_64`, of words
