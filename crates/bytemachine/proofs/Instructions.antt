@@ -62,7 +62,7 @@ module _ (env : Env) (memory : ByteMemory) where
 
     -- a destination is read and written with a source, and the flags are made of the two words
     combined : (p : ℕ) (dst src : Operand) (f g : ℕ → ℕ → ℕ) → WfTwo dst src → ((a b : ℕ) → a < 2 ^ 64 → b < 2 ^ 64 → f a b < 2 ^ 64)
-        → source env p src s (write env p dst (f (eval-operand env dst s) (eval-operand env src s)) (g (eval-operand env dst s) (eval-operand env src s)) s) ≡ ends done t
+        → (let a = eval-operand env dst s in let b = eval-operand env src s in source env p src s (write env p dst (f a b) (g a b) s)) ≡ ends done t
         → Goes (flagged (g (read dst (at s)) (read src (at s))) (put-to dst (f (read dst (at s)) (read src (at s))) (at s))) s t
     combined p dst src f g fits h e =
         let c = passed _ 31 p s _ t e in
@@ -80,7 +80,8 @@ module _ (env : Env) (memory : ByteMemory) where
         (record { same = refl; kept = with-flags-kept flags (set-xmm-kept x q h kept); rsp = refl })
 
     -- two sources
-    summed : (p : ℕ) (dst a b : Operand) → source env p a s (source env p b s (write env p dst (sum-mod 64 (eval-operand env a s + eval-operand env b s)) (s .flags) s)) ≡ ends done t
+    summed : (p : ℕ) (dst a b : Operand)
+        → source env p a s (source env p b s (write env p dst (sum-mod 64 (eval-operand env a s + eval-operand env b s)) (s .flags) s)) ≡ ends done t
         → Goes (put-to dst (sum-mod 64 (read a (at s) + read b (at s))) (at s)) s t
     summed p dst a b e =
         let c = passed _ 31 p s _ t e in

@@ -108,8 +108,9 @@ module _ (env : Env) (memory : ByteMemory) where
   puts (OMem m) v s e h k = go (eval-maddr m (s .regs)) (find-cell (env .addresses) (env .tags) (eval-maddr m (s .regs))) refl e
     where
       go : (z : ℤ) (c : Option ℕ) → find-cell (env .addresses) (env .tags) z ≡ c → (is-cell c && true) ≡ true
-          → Follows (record { regs = s .regs; xmms = s .xmms; flags = s .flags; bytes = write-bytes (wrap z) v (over (env .addresses) (env .tags) (s .values) memory) })
-          s (record { regs = s .regs; xmms = s .xmms; flags = s .flags; values = set-cell (s .values) c v })
+          → (let m′ = write-bytes (wrap z) v (over (env .addresses) (env .tags) (s .values) memory) in
+          Follows (record { regs = s .regs; xmms = s .xmms; flags = s .flags; bytes = m′ })
+          s (record { regs = s .regs; xmms = s .xmms; flags = s .flags; values = set-cell (s .values) c v }))
       go z none p q = absurd (let z : _≡_ {A = ℕ} 0 1 = cc in omega arith)
       go z (some i) p q =
           record {

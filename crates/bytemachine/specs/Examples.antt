@@ -61,7 +61,8 @@ examples =
 
 -- what the machine shows for each row
 unfoldable pub shown-of : List Example → List (Option (List ℕ))
-unfolding exec execs step test branch go-on loop read write seen eval-maddr byte wrap spelled read-bytes distance write-bytes xmm-at set-xmm ishl shl-lanes shift-quad
+unfolding exec execs step test branch go-on loop read write seen eval-maddr byte wrap spelled read-bytes distance write-bytes
+    xmm-at set-xmm ishl shl-lanes shift-quad
 shown-of [] = []
 shown-of (e ∷ es) = seen (exec 0 (e .code) (e .fuel) start) ∷ shown-of es
 
