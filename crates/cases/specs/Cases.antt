@@ -61,17 +61,33 @@ one-cell a = record { addresses = a ∷ []; tags = 64 ∷ []; fill = 0 }
 abbrev row : List ℕ → Env → ℕ → Config → Outcome → Config → Kernel
 row code env fuel start how end = record { code = code; env = env; fuel = fuel; start = start; end = ends how end }
 
+-- Add64 Rax, 1
+abbrev add-one : List ℕ
+add-one = 0x02 ∷ 0x41 ∷ 0x00 ∷ 0x40 ∷ 0x01 ∷ 0x00 ∷ 0x00 ∷ 0x00 ∷ 0x00 ∷ 0x00 ∷ 0x00 ∷ 0x00 ∷ []
+
+-- While Rax differs from Rax, an empty Block
+abbrev never : List ℕ
+never = 0x22 ∷ 0x05 ∷ 0x00 ∷ 0x00 ∷ 0x00 ∷ 0x31 ∷ 0x41 ∷ 0x00 ∷ 0x41 ∷ 0x00 ∷ 0x20 ∷ 0x00 ∷ 0x00 ∷ 0x00 ∷ 0x00 ∷ []
+
+-- While Rax differs from 0, Sub64 Rax, 1
+abbrev count-down : List ℕ
+count-down =
+    0x22 ∷ 0x0c ∷ 0x00 ∷ 0x00 ∷ 0x00 ∷ 0x31 ∷ 0x41 ∷ 0x00 ∷ 0x40 ∷ 0x00 ∷ 0x00 ∷ 0x00 ∷ 0x00 ∷ 0x00 ∷ 0x00 ∷ 0x00 ∷ 0x00
+    ∷ 0x07 ∷ 0x41 ∷ 0x00 ∷ 0x40 ∷ 0x01 ∷ 0x00 ∷ 0x00 ∷ 0x00 ∷ 0x00 ∷ 0x00 ∷ 0x00 ∷ 0x00 ∷ []
+
 -- the table: code, cells and fill, fuel, start, how it ends, and with what
 pub kernels : List Kernel
 kernels =
     -- P1: Add64 Rax 2^64-1 and 1
-    row (0x02 ∷ 0x41 ∷ 0x00 ∷ 0x40 ∷ 0x01 ∷ 0x00 ∷ 0x00 ∷ 0x00 ∷ 0x00 ∷ 0x00 ∷ 0x00 ∷ 0x00 ∷ []) (no-cells 0) 0 (rax 18446744073709551615) done (with-flags 1 (rax 0))
+    row add-one (no-cells 0) 0 (rax 18446744073709551615) done (with-flags 1 (rax 0))
     -- P2: Add64 1 and 1, flags 2048
-    ∷ row (0x02 ∷ 0x41 ∷ 0x00 ∷ 0x40 ∷ 0x01 ∷ 0x00 ∷ 0x00 ∷ 0x00 ∷ 0x00 ∷ 0x00 ∷ 0x00 ∷ 0x00 ∷ []) (no-cells 0) 0 (with-flags 2048 (rax 1)) done (with-flags 2048 (rax 2))
+    ∷ row add-one (no-cells 0) 0 (with-flags 2048 (rax 1)) done (with-flags 2048 (rax 2))
     -- P3: Sub64 0 less 1, fill 9
-    ∷ row (0x07 ∷ 0x41 ∷ 0x00 ∷ 0x40 ∷ 0x01 ∷ 0x00 ∷ 0x00 ∷ 0x00 ∷ 0x00 ∷ 0x00 ∷ 0x00 ∷ 0x00 ∷ []) (no-cells 9) 0 (rax 0) done (with-flags 9 (rax 18446744073709551615))
+    ∷ row (0x07 ∷ 0x41 ∷ 0x00 ∷ 0x40 ∷ 0x01 ∷ 0x00 ∷ 0x00 ∷ 0x00 ∷ 0x00 ∷ 0x00 ∷ 0x00 ∷ 0x00 ∷ [])
+    (no-cells 9) 0 (rax 0) done (with-flags 9 (rax 18446744073709551615))
     -- P4: Mulx64, both destinations Rax, Rdx 2^63, source 2
-    ∷ row (0x09 ∷ 0x41 ∷ 0x00 ∷ 0x41 ∷ 0x00 ∷ 0x40 ∷ 0x02 ∷ 0x00 ∷ 0x00 ∷ 0x00 ∷ 0x00 ∷ 0x00 ∷ 0x00 ∷ 0x00 ∷ []) (no-cells 0) 0 (reg 3 9223372036854775808 (rax 0)) done (reg 3 9223372036854775808 (rax 1))
+    ∷ row (0x09 ∷ 0x41 ∷ 0x00 ∷ 0x41 ∷ 0x00 ∷ 0x40 ∷ 0x02 ∷ 0x00 ∷ 0x00 ∷ 0x00 ∷ 0x00 ∷ 0x00 ∷ 0x00 ∷ 0x00 ∷ [])
+    (no-cells 0) 0 (reg 3 9223372036854775808 (rax 0)) done (reg 3 9223372036854775808 (rax 1))
     -- P5: Xor64 Rax with Rax, fill 2^64-1
     ∷ row (0x0b ∷ 0x41 ∷ 0x00 ∷ 0x41 ∷ 0x00 ∷ []) (no-cells 18446744073709551615) 0 (rax 5) done (with-flags 18446744073709549566 (rax 0))
     -- P6: Shl64 of 1 by 63
@@ -88,27 +104,37 @@ kernels =
     ∷ row (0x18 ∷ 0x00 ∷ 0x00 ∷ 0x05 ∷ []) (no-cells 0) 0 (xmm0 1 2 3 4) (fault 35 0) (xmm0 1 2 3 4)
     -- P9: Pshufd (10,11,12,13) by 27
     ∷ row (0x13 ∷ 0x00 ∷ 0x00 ∷ 0x1b ∷ []) (no-cells 0) 0 (xmm0 10 11 12 13) done (xmm0 13 12 11 10)
-    -- P10: While with a false condition (Rax differs from Rax, over an empty Block), fuel 0
-    ∷ row (0x22 ∷ 0x05 ∷ 0x00 ∷ 0x00 ∷ 0x00 ∷ 0x31 ∷ 0x41 ∷ 0x00 ∷ 0x41 ∷ 0x00 ∷ 0x20 ∷ 0x00 ∷ 0x00 ∷ 0x00 ∷ 0x00 ∷ []) (no-cells 0) 0 zeros (spent 0) zeros
+    -- P10: While with a false condition, fuel 0
+    ∷ row never (no-cells 0) 0 zeros (spent 0) zeros
     -- P10: fuel 1
-    ∷ row (0x22 ∷ 0x05 ∷ 0x00 ∷ 0x00 ∷ 0x00 ∷ 0x31 ∷ 0x41 ∷ 0x00 ∷ 0x41 ∷ 0x00 ∷ 0x20 ∷ 0x00 ∷ 0x00 ∷ 0x00 ∷ 0x00 ∷ []) (no-cells 0) 1 zeros done zeros
+    ∷ row never (no-cells 0) 1 zeros done zeros
     -- P11: reading MReg Rax, offset 1, into Rbx, Rax 2^64-1, a 64-bit cell at 0
-    ∷ row (0x01 ∷ 0x41 ∷ 0x01 ∷ 0x43 ∷ 0x00 ∷ 0x01 ∷ 0x00 ∷ 0x00 ∷ 0x00 ∷ 0x00 ∷ 0x00 ∷ 0x00 ∷ 0x00 ∷ []) (one-cell 0) 0 (with-values (6 ∷ []) (rax 18446744073709551615)) (fault 31 0) (with-values (6 ∷ []) (rax 18446744073709551615))
+    ∷ row (0x01 ∷ 0x41 ∷ 0x01 ∷ 0x43 ∷ 0x00 ∷ 0x01 ∷ 0x00 ∷ 0x00 ∷ 0x00 ∷ 0x00 ∷ 0x00 ∷ 0x00 ∷ 0x00 ∷ [])
+    (one-cell 0) 0 (with-values (6 ∷ []) (rax 18446744073709551615)) (fault 31 0) (with-values (6 ∷ []) (rax 18446744073709551615))
     -- P12: Mov64 of 1 to Rsp
     ∷ row (0x01 ∷ 0x41 ∷ 0x07 ∷ 0x40 ∷ 0x01 ∷ 0x00 ∷ 0x00 ∷ 0x00 ∷ 0x00 ∷ 0x00 ∷ 0x00 ∷ 0x00 ∷ []) (no-cells 0) 0 zeros (fault 32 0) zeros
     -- P13: Pextrq (1,2,3,4) index 1 into Rax
     ∷ row (0x15 ∷ 0x00 ∷ 0x01 ∷ 0x41 ∷ 0x00 ∷ []) (no-cells 0) 0 (xmm0 1 2 3 4) done (reg 0 17179869187 (xmm0 1 2 3 4))
     -- P13: Pinsrd of 7, index 5, fills word 1
     ∷ row (0x16 ∷ 0x00 ∷ 0x05 ∷ 0x40 ∷ 0x07 ∷ 0x00 ∷ 0x00 ∷ 0x00 ∷ 0x00 ∷ 0x00 ∷ 0x00 ∷ 0x00 ∷ []) (no-cells 0) 0 (xmm0 1 2 3 4) done (xmm0 1 7 3 4)
-    -- P14: While Rax differs from 0, Sub64 Rax 1, from 3, fuel 4
-    ∷ row (0x22 ∷ 0x0c ∷ 0x00 ∷ 0x00 ∷ 0x00 ∷ 0x31 ∷ 0x41 ∷ 0x00 ∷ 0x40 ∷ 0x00 ∷ 0x00 ∷ 0x00 ∷ 0x00 ∷ 0x00 ∷ 0x00 ∷ 0x00 ∷ 0x00 ∷ 0x07 ∷ 0x41 ∷ 0x00 ∷ 0x40 ∷ 0x01 ∷ 0x00 ∷ 0x00 ∷ 0x00 ∷ 0x00 ∷ 0x00 ∷ 0x00 ∷ 0x00 ∷ []) (no-cells 0) 4 (rax 3) done (rax 0)
+    -- P14: from 3, fuel 4
+    ∷ row count-down (no-cells 0) 4 (rax 3) done (rax 0)
     -- P14: fuel 3
-    ∷ row (0x22 ∷ 0x0c ∷ 0x00 ∷ 0x00 ∷ 0x00 ∷ 0x31 ∷ 0x41 ∷ 0x00 ∷ 0x40 ∷ 0x00 ∷ 0x00 ∷ 0x00 ∷ 0x00 ∷ 0x00 ∷ 0x00 ∷ 0x00 ∷ 0x00 ∷ 0x07 ∷ 0x41 ∷ 0x00 ∷ 0x40 ∷ 0x01 ∷ 0x00 ∷ 0x00 ∷ 0x00 ∷ 0x00 ∷ 0x00 ∷ 0x00 ∷ 0x00 ∷ []) (no-cells 0) 3 (rax 3) (spent 0) (rax 0)
+    ∷ row count-down (no-cells 0) 3 (rax 3) (spent 0) (rax 0)
     ∷ []
 
 -- Running, with all that it computes with opened
 unfoldable pub ran : Kernel → End
-unfolding run-of run-read run-checked run-code rounds run-ocmp continue check choose cell-of valid-operand eval-operand valid-dst-operand update-operand run-mulx run-ins valid-ocmp eval-ocmp add-flags find-cell eqℤ eval-maddr valid-dst xmm-at set-xmm cf overflow update-cf update-of sum-mod sum-carry sub-mod mul-div mul-mod shl-lanes shuffle-lanes shift-quad to-vec from-vec map2 xor ixor ishl nat-to-four two-select two-to-nat four-select four-insert followed with-fields read-record read-operands read-with read-ocmp read-part read-codes read-block read-if read-while read-structure read-body read-code parse verdict-of check-code body-length operand-count register-fields number-at spelled signed-at operand-at behind operands-at ins-at ocmp-at is-tag cell-rule check-from check-cells
+unfolding run-of run-read run-checked run-code rounds run-ocmp continue check choose
+    cell-of valid-operand eval-operand valid-dst-operand update-operand run-mulx run-ins valid-ocmp eval-ocmp add-flags
+    find-cell eqℤ eval-maddr valid-dst xmm-at set-xmm
+    cf overflow update-cf update-of
+    sum-mod sum-carry sub-mod mul-div mul-mod shl-lanes shuffle-lanes shift-quad
+    to-vec from-vec map2 xor ixor ishl nat-to-four two-select two-to-nat four-select four-insert
+    followed with-fields read-record read-operands read-with read-ocmp read-part read-codes
+    read-block read-if read-while read-structure read-body read-code parse verdict-of check-code
+    body-length operand-count register-fields number-at spelled signed-at operand-at behind operands-at ins-at ocmp-at
+    is-tag cell-rule check-from check-cells
 ran k = run-of (k .code) (k .env) (k .fuel) (k .start)
 
 -- what Running makes of each row
@@ -127,7 +153,7 @@ unfolding ends-of named kernels ran
 kernels-hold = refl
 
 -- Add64 Rax, 1, as bytes and as a tree; the first eleven bytes alone give 3 at 3
-pub code-is : parse (0x02 ∷ 0x41 ∷ 0x00 ∷ 0x40 ∷ 0x01 ∷ 0x00 ∷ 0x00 ∷ 0x00 ∷ 0x00 ∷ 0x00 ∷ 0x00 ∷ 0x00 ∷ []) ≡ got (Ins 0 (Add64 (OReg Rax) (OConst 1))) 12
+pub code-is : parse add-one ≡ got (Ins 0 (Add64 (OReg Rax) (OConst 1))) 12
 unfolding ran
 code-is = refl
 
@@ -143,14 +169,16 @@ checked [] = []
 checked (xs ∷ xss) = check-cells xs (replicate (length xs) 64) (replicate (length xs) 0) ∷ checked xss
 
 -- at 0 and 7: 15 at 1; at 0 and 8: accepted; at 2^64-8 accepted, at 2^64-7 not
-pub cells-hold : checked ((0 ∷ 7 ∷ []) ∷ (0 ∷ 8 ∷ []) ∷ (18446744073709551608 ∷ []) ∷ (18446744073709551609 ∷ []) ∷ []) ≡ refused 15 1 ∷ accepted ∷ accepted ∷ refused 15 0 ∷ []
+pub cells-hold : checked ((0 ∷ 7 ∷ []) ∷ (0 ∷ 8 ∷ []) ∷ (18446744073709551608 ∷ []) ∷ (18446744073709551609 ∷ []) ∷ [])
+    ≡ refused 15 1 ∷ accepted ∷ accepted ∷ refused 15 0 ∷ []
 unfolding checked
 cells-hold = refl
 
 -- the run of the job: Add64 of Rax, 5, to a cell at 4096 tagged 64 with value 7
 pub job : List Kernel
 job =
-    row (0x02 ∷ 0x42 ∷ 0x00 ∷ 0x10 ∷ 0x00 ∷ 0x00 ∷ 0x00 ∷ 0x00 ∷ 0x00 ∷ 0x00 ∷ 0x41 ∷ 0x00 ∷ []) (one-cell 4096) 0 (with-values (7 ∷ []) (rax 5)) done (with-values (12 ∷ []) (rax 5))
+    row (0x02 ∷ 0x42 ∷ 0x00 ∷ 0x10 ∷ 0x00 ∷ 0x00 ∷ 0x00 ∷ 0x00 ∷ 0x00 ∷ 0x00 ∷ 0x41 ∷ 0x00 ∷ [])
+    (one-cell 4096) 0 (with-values (7 ∷ []) (rax 5)) done (with-values (12 ∷ []) (rax 5))
     ∷ []
 
 -- done, flags 0, Rax 5, the cell 12, and all else 0
