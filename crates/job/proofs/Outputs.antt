@@ -12,7 +12,7 @@ use Rattle.eval.specs.declared.answer.Setting.{Setting}
 use Rattle.eval.specs.Config.{config, refused, End}
 use Rattle.eval.specs.Running.{run-of}
 use Rattle.job.specs.Text.{first-line, render}
-use Rattle.job.specs.Job.{numbers, fuel-of, fill-of, env-of, start-of, code-at, check-job, end-checked, run-of-job, printed, output, lent-list}
+use Rattle.job.specs.Job.{numbers, fuel-of, fill-of, env-of, start-of, Holding, code-at, check-job, end-checked, run-of-job, printed, output, lent-list}
 use Rattle.job.specs.Written.{Wrote, Printed}
 
 pub length-numbers : (size step n : ℕ) (bs : List ℕ) (at : ℕ) → length (numbers size step n bs at) ≡ n
@@ -64,7 +64,7 @@ output-run bs e = sym (ap (λ v. printed bs (end-checked v bs)) e)
 pub ran :
     (bs code xs ts vs : List ℕ) (s : State) (g : Setting) (e : End)
     → code ≡ drop (code-at bs) bs
-    → (xs ≡ env-of bs .addresses) × (ts ≡ env-of bs .tags) × (vs ≡ start-of bs .values)
+    → Holding bs (start-of bs .values) xs ts vs
     → (s .regs ≡ start-of bs .regs) × (s .xmms ≡ start-of bs .xmms) × (s .flags ≡ start-of bs .flags)
     → (g .fill ≡ fill-of bs) × (g .fuel ≡ fuel-of bs)
     → e ≡ run-of code (record { addresses = xs; tags = ts; fill = g .fill }) (g .fuel) (config s vs)

@@ -74,6 +74,14 @@ pub record Complete (bs : List ℕ) : Type 0 where
   pub few : count-of bs ≤ 1024
   pub cells : code-at bs ≤ length bs
 
+-- lists that are as long as the job's cells are many
+abbrev pub Room : List ℕ → List ℕ → List ℕ → List ℕ → Type 0
+Room bs addresses tags values = (length addresses ≡ count-of bs) × (length tags ≡ count-of bs) × (length values ≡ count-of bs)
+
+-- lists that hold the job's cells, with the values vs
+abbrev pub Holding : List ℕ → List ℕ → List ℕ → List ℕ → List ℕ → Type 0
+Holding bs vs addresses tags values = (addresses ≡ env-of bs .addresses) × (tags ≡ env-of bs .tags) × (values ≡ vs)
+
 -- the end of an accepted job: the run's
 abbrev pub run-of-job : List ℕ → End
 run-of-job bs = run-of (code-of bs) (env-of bs) (fuel-of bs) (start-of bs)

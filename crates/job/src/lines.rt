@@ -131,7 +131,9 @@ pub fn put_cells(
 ) -> usize
     requires { ⌜ (length (now tags) ≡ length (now addresses)) × (length (now values) ≡ length (now addresses)) ⌝ }
     requires { ⌜ at + 51 * length (now addresses) + 68 ≤ 65536 ⌝ }
-    ensures { λ r. ⌜ Wrote (51 * length (now (addresses .entry))) (now (out .entry)) at (cell-lines (now (addresses .entry)) (now (tags .entry)) (now (values .entry))) (now (out .exit)) r ⌝ }
+    ensures { λ r. ⌜
+        Wrote (51 * length (now (addresses .entry))) (now (out .entry)) at
+        (cell-lines (now (addresses .entry)) (now (tags .entry)) (now (values .entry))) (now (out .exit)) r ⌝ }
 {
     let mut next = at;
     let mut i = 0;

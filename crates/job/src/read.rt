@@ -51,7 +51,8 @@ pub fn read_tags(input: &[u8], from: usize, to: &mut [u8])
 
 pub fn read_state(input: &[u8]) -> State
     requires { ⌜ 406 ≤ length (now input) ⌝ }
-    ensures { λ r. ⌜ (r .regs ≡ start-of (now (input .entry)) .regs) × (r .xmms ≡ start-of (now (input .entry)) .xmms) × (r .flags ≡ start-of (now (input .entry)) .flags) ⌝ }
+    ensures { λ r. ⌜ (r .regs ≡ start-of (now (input .entry)) .regs) × (r .xmms ≡ start-of (now (input .entry)) .xmms)
+        × (r .flags ≡ start-of (now (input .entry)) .flags) ⌝ }
 {
     let mut regs = [0u64; 16];
     let mut xmms = [0u32; 64];

@@ -26,7 +26,9 @@ fn put_end(
 ) -> usize
     requires { ⌜ (length (now tags) ≡ length (now addresses)) × (length (now values) ≡ length (now addresses)) ⌝ }
     requires { ⌜ (at ≤ 53) × (length (now addresses) ≤ 1024) ⌝ }
-    ensures { λ r. ⌜ Wrote 65483 (now (out .entry)) at (end-lines (now (addresses .entry)) (now (tags .entry)) (config state (now (values .entry)))) (now (out .exit)) r ⌝ }
+    ensures { λ r. ⌜
+        Wrote 65483 (now (out .entry)) at
+        (end-lines (now (addresses .entry)) (now (tags .entry)) (config state (now (values .entry)))) (now (out .exit)) r ⌝ }
 {
     let regs = state.regs;
     let xmms = state.xmms;
@@ -45,7 +47,9 @@ pub fn render(
 ) -> usize
     requires { ⌜ (length (now tags) ≡ length (now addresses)) × (length (now values) ≡ length (now addresses)) ⌝ }
     requires { ⌜ length (now addresses) ≤ 1024 ⌝ }
-    ensures { λ r. ⌜ Wrote 65536 (now (out .entry)) 0 (rendered (now (addresses .entry)) (now (tags .entry)) (end-of run (now (values .entry)))) (now (out .exit)) r ⌝ }
+    ensures { λ r. ⌜
+        Wrote 65536 (now (out .entry)) 0
+        (rendered (now (addresses .entry)) (now (tags .entry)) (end-of run (now (values .entry)))) (now (out .exit)) r ⌝ }
 {
     let answer = run.answer;
     let next = put_answer(out, answer);

@@ -3,7 +3,7 @@ ghost use mathlib.Core.Path.{_≡_};
 ghost use Prim.Native.Nat.{_≤_};
 ghost use lib.ListN.{length};
 ghost use Rattle.machine.specs.Cells.{accepted};
-ghost use Rattle.job.specs.Job.{Complete, count-of, env-of, code-of, state-of, setting-of, start-of, check-job, output, printed, run-of-job, Lists};
+ghost use Rattle.job.specs.Job.{Complete, Room, Holding, code-of, state-of, setting-of, start-of, check-job, output, printed, run-of-job, Lists};
 ghost use Rattle.eval.specs.Inputs.{IsInput};
 ghost use Rattle.job.specs.Written.{Wrote, Printed};
 use crate::cells::read_cells;
@@ -25,7 +25,7 @@ fn finish(
     out: &mut [u8; 65536],
 ) -> usize
     requires { ⌜ Complete (now input) ⌝ }
-    requires { ⌜ (now addresses ≡ env-of (now input) .addresses) × (now tags ≡ env-of (now input) .tags) × (now values ≡ start-of (now input) .values) ⌝ }
+    requires { ⌜ Holding (now input) (start-of (now input) .values) (now addresses) (now tags) (now values) ⌝ }
     ensures { λ r. ⌜ Wrote 65536 (now (out .entry)) 0 (printed (now (input .entry)) (run-of-job (now (input .entry)))) (now (out .exit)) r ⌝ }
     ensures { λ _. ⌜ now (values .exit) ≡ run-of-job (now (input .entry)) .config .values ⌝ }
 {
@@ -45,9 +45,11 @@ fn run_job(
     out: &mut [u8; 65536],
 ) -> usize
     requires { ⌜ Complete (now input) ⌝ }
-    requires { ⌜ (length (now addresses) ≡ count-of (now input)) × (length (now tags) ≡ count-of (now input)) × (length (now values) ≡ count-of (now input)) ⌝ }
+    requires { ⌜ Room (now input) (now addresses) (now tags) (now values) ⌝ }
     ensures { λ r. ⌜ Wrote 65536 (now (out .entry)) 0 (printed (now (input .entry)) (run-of-job (now (input .entry)))) (now (out .exit)) r ⌝ }
-    ensures { λ _. ⌜ (now (addresses .exit) ≡ env-of (now (input .entry)) .addresses) × (now (tags .exit) ≡ env-of (now (input .entry)) .tags) × (now (values .exit) ≡ run-of-job (now (input .entry)) .config .values) ⌝ }
+    ensures { λ _. ⌜
+        Holding (now (input .entry)) (run-of-job (now (input .entry)) .config .values)
+        (now (addresses .exit)) (now (tags .exit)) (now (values .exit)) ⌝ }
 {
     read_cells(input, addresses, tags, values);
     finish(input, addresses, tags, values, out)
@@ -64,7 +66,9 @@ fn run_cells(
     requires { ⌜ (check-job (now input) ≡ accepted) × Complete (now input) ⌝ }
     requires { ⌜ (1024 ≤ length (now addresses)) × (1024 ≤ length (now tags)) × (1024 ≤ length (now values)) ⌝ }
     ensures { λ r. ⌜ Wrote 65536 (now (out .entry)) 0 (printed (now (input .entry)) (run-of-job (now (input .entry)))) (now (out .exit)) r ⌝ }
-    ensures { λ _. ⌜ Lists (now (input .entry)) (now (addresses .entry)) (now (tags .entry)) (now (values .entry)) (now (addresses .exit)) (now (tags .exit)) (now (values .exit)) ⌝ }
+    ensures { λ _. ⌜
+        Lists (now (input .entry)) (now (addresses .entry)) (now (tags .entry)) (now (values .entry))
+        (now (addresses .exit)) (now (tags .exit)) (now (values .exit)) ⌝ }
 {
     let count = number2(input, 404);
     run_job(
@@ -93,7 +97,9 @@ pub fn job(
     out: &mut [u8; 65536],
 ) -> usize
     ensures { λ r. ⌜ Printed (output (now (input .entry))) (now (out .entry)) (now (out .exit)) r ⌝ }
-    ensures { λ _. ⌜ Lists (now (input .entry)) (now (addresses .entry)) (now (tags .entry)) (now (values .entry)) (now (addresses .exit)) (now (tags .exit)) (now (values .exit)) ⌝ }
+    ensures { λ _. ⌜
+        Lists (now (input .entry)) (now (addresses .entry)) (now (tags .entry)) (now (values .entry))
+        (now (addresses .exit)) (now (tags .exit)) (now (values .exit)) ⌝ }
     ensures { λ _. ⌜ IsInput (code-of (now (input .entry))) (state-of (now (input .entry))) (setting-of (now (input .entry))) ⌝ }
 {
     size(out);

@@ -17,7 +17,9 @@ abbrev μ-loop : tie.MeasureT-loop
 μ-loop input from step to₀ at₀ i₀ to at i = length to₀ - i
 
 loop-holds : tie.Need-loop-holds Inv-loop μ-loop
-loop-holds c = (omega arith, refl, omega arith, got-none 8 (c .before .before .args .step) (c .before .before .args .input .now) (c .before .before .args .from) (c .before .before .args .to .now))
+loop-holds c =
+    let args = c .before .before .args in
+    (omega arith, refl, omega arith, got-none 8 (args .step) (args .input .now) (args .from) (args .to .now))
 
 number8-requires : tie.Need-number8-requires Inv-loop μ-loop
 number8-requires c κs =

@@ -59,7 +59,9 @@ returns c =
     let bs = start .args .input .now in
     let count = run .before .before .before .number2 in
     let place : 406 + 17 * count .result ≡ code-at bs = omega (arith, count .ensures .0) in
-    let ended = ran bs _ _ _ _ _ _ _ (behind-cells bs place) (start .pre .1) (state .read-state .ensures) (setting .read-setting .ensures) (run .run .ensures .0) in (
+    let started = state .read-state .ensures in
+    let set = setting .read-setting .ensures in
+    let ended = ran bs _ _ _ _ _ _ _ (behind-cells bs place) (start .pre .1) started set (run .run .ensures .0) in (
       spelled (render-run bs _ _ _ (start .pre .1 .0, start .pre .1 .1) ended) (c .render .ensures),
       ap (λ (e : End). e .config .values) ended,
     )
