@@ -105,7 +105,11 @@ pub extern "C" fn pokchrei_run(
     number: &mut u8,
     place: &mut usize,
 ) -> u8
-    ensures { λ r. ⌜ ending (told r (now (number .exit)) (now (place .exit))) (held (now (regs .exit)) (now (xmms .exit)) (now (flags .exit)) (now (values .exit))) ≡ ending-of (run-of (now (code .entry)) (environment (now (addresses .entry)) (now (tags .entry)) fill) fuel (held (now (regs .entry)) (now (xmms .entry)) (now (flags .entry)) (now (values .entry)))) ⌝ }
+    ensures { λ r. ⌜
+        ending (told r (now (number .exit)) (now (place .exit)))
+        (held (now (regs .exit)) (now (xmms .exit)) (now (flags .exit)) (now (values .exit)))
+        ≡ ending-of (run-of (now (code .entry)) (environment (now (addresses .entry)) (now (tags .entry)) fill) fuel
+        (held (now (regs .entry)) (now (xmms .entry)) (now (flags .entry)) (now (values .entry)))) ⌝ }
     ensures { λ _. ⌜ IsInput (now (code .entry)) (lent-state (now (regs .entry)) (now (xmms .entry)) (now (flags .entry))) (lent-setting fill fuel) ⌝ }
 {
     let first_regs = *regs;
