@@ -5,7 +5,9 @@ use mathlib.Core.Bool.{true}
 use mathlib.Core.List.{List, _∷_}
 use native.Mathlib.Omega.{arith}
 use lib.ListN.{length}
-use Rattle.code.specs.Tree.{Ocmp, OEq, ONe, OLe, OGe, OLt, OGt, Code, Ins, Block, IfElse, While, Codes, ⟨⟩, _∷ᶜ_}
+use Rattle.code.specs.declared.tree.Ocmp.{Ocmp}
+use Rattle.code.specs.declared.tree.Ocmp.the-variants.{OEq, ONe, OLe, OGe, OLt, OGt}
+use Rattle.code.specs.Tree.{Code, Ins, Block, IfElse, While, Codes, ⟨⟩, _∷ᶜ_}
 use Rattle.code.specs.Records.{is-ins, is-ocmp, body-length, operand-count, byte-at, number-at, operand-at, operands-at, behind, ins-at, ocmp-at}
 use Rattle.code.specs.Spells.{Operands, Stands, Spells, SpellsAll}
 use Rattle.code.proofs.Passing.{between-true}

@@ -8,7 +8,8 @@ use native.Mathlib.Nat.{eq-or-lt-of-le}
 use native.Mathlib.Omega.{arith}
 use lib.ListN.{length}
 use Rattle.machine.specs.declared.Operand.{Operand}
-use Rattle.code.specs.Tree.{Instruction, Mov64, Add64, AddLea64, AddCarry64, Adcx64, Adox64, Sub64, Mul64, Mulx64, IMul64, Xor64, And64, Shr64, Shl64, Paddd, Pxor, Pslld, Psrld, Pshufd, Pcmpeqd, Pextrq, Pinsrd, Pinsrq, VPSLLDQ}
+use Rattle.code.specs.declared.tree.Instruction.{Instruction}
+use Rattle.code.specs.declared.tree.Instruction.the-variants.{Mov64, Add64, AddLea64, AddCarry64, Adcx64, Adox64, Sub64, Mul64, Mulx64, IMul64, Xor64, And64, Shr64, Shl64, Paddd, Pxor, Pslld, Psrld, Pshufd, Pcmpeqd, Pextrq, Pinsrd, Pinsrq, VPSLLDQ}
 use Rattle.code.specs.Records.{between, is-ins, body-length, operand-count, register-fields, byte-at, operand-at, operands-at, behind, ins-at}
 use Rattle.code.specs.Spells.{Fields, Operands, OperandsFrom, Stands}
 use Rattle.code.specs.Families.{at-kind, is-two, two-ins, quads-ins, shifts-ins, inserts-ins}

@@ -9,7 +9,8 @@ use borrow.Author.Tests.{eq-eqb, ne-eqb, lt-ltb, le-ltb, lt-leb, le-leb}
 use lib.Dec.{eqb, ltb, leb}
 use lib.ListN.{length}
 use Rattle.machine.specs.Cells.{Verdict, accepted, refused}
-use Rattle.code.specs.Tree.{Ocmp, Code, Ins, Block, IfElse, While, Codes, ⟨⟩, _∷ᶜ_}
+use Rattle.code.specs.declared.tree.Ocmp.{Ocmp}
+use Rattle.code.specs.Tree.{Code, Ins, Block, IfElse, While, Codes, ⟨⟩, _∷ᶜ_}
 use Rattle.code.specs.Records.{between, is-ins, is-structure, is-code, body-length, byte-at, number-at, behind, ins-at}
 use Rattle.code.specs.Reader.{Read, got, trouble, followed, unless, with-kind, with-body, read-with, read-ocmp, One, read-part, read-codes, read-block, read-if, read-while, read-structure, read-body, read-code, parse, verdict-of, check-code}
 use Rattle.code.specs.Reached.{reached, reach, rest-of-all, structure-of}

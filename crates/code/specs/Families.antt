@@ -5,7 +5,8 @@ use mathlib.Core.Bool.{Bool, cond, _||_}
 use lib.Dec.{eqb}
 use Rattle.machine.specs.declared.Operand.{Operand}
 use Rattle.code.specs.Records.{between}
-use Rattle.code.specs.Tree.{Instruction, Mov64, Add64, AddCarry64, Adcx64, Adox64, Sub64, IMul64, Xor64, And64, Shr64, Shl64, Paddd, Pxor, Pcmpeqd, Pslld, Psrld, Pinsrd, Pinsrq}
+use Rattle.code.specs.declared.tree.Instruction.{Instruction}
+use Rattle.code.specs.declared.tree.Instruction.the-variants.{Mov64, Add64, AddCarry64, Adcx64, Adox64, Sub64, IMul64, Xor64, And64, Shr64, Shl64, Paddd, Pxor, Pcmpeqd, Pslld, Psrld, Pinsrd, Pinsrq}
 
 -- the choice of a kind among two
 abbrev pub at-kind : {A : Type 0} → ℕ → ℕ → A → A → A

@@ -4,6 +4,7 @@ mod kinds;
 mod numbers;
 mod reader;
 mod records;
+mod tree;
 
 pub use kinds::Class;
 pub use kinds::class_of;
@@ -15,3 +16,5 @@ pub use records::Form;
 pub use records::form_at;
 pub use records::memory_at;
 pub use records::operand_behind;
+pub use tree::Instruction;
+pub use tree::Ocmp;
