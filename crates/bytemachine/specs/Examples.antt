@@ -12,7 +12,9 @@ use Rattle.machine.specs.Operands.{eval-maddr}
 use Rattle.machine.specs.Bytes.{byte, wrap, spelled, read-bytes, distance, write-bytes}
 use Rattle.machine.specs.declared.Maddr.the-variants.{MConst, MReg}
 use Rattle.machine.specs.declared.Operand.the-variants.{OConst, OReg, OMem}
-use Rattle.code.specs.Tree.{Mov64, Shl64, Pslld, VPSLLDQ, OEq, ONe, Code, Ins, Block, While, ⟨⟩}
+use Rattle.code.specs.declared.tree.Instruction.the-variants.{Mov64, Shl64, Pslld, VPSLLDQ}
+use Rattle.code.specs.declared.tree.Ocmp.the-variants.{OEq, ONe}
+use Rattle.code.specs.Tree.{Code, Ins, Block, While, ⟨⟩}
 use Rattle.bytemachine.specs.ByteMachine.{BState, read, write, step, test, branch, go-on, loop, exec, execs}
 
 -- code, fuel, and what is seen at the end; none where the machine halts out of fuel

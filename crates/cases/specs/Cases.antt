@@ -15,7 +15,8 @@ use Rattle.machine.specs.Registers.{Rax, xmm-at, set-xmm}
 use Rattle.machine.specs.Operands.{eval-maddr, valid-dst}
 use Rattle.machine.specs.Cells.{Verdict, accepted, refused, is-tag, cell-rule, check-from, check-cells, find-cell, eqℤ}
 use Rattle.machine.specs.declared.Operand.the-variants.{OConst, OReg}
-use Rattle.code.specs.Tree.{Add64, Ins}
+use Rattle.code.specs.declared.tree.Instruction.the-variants.{Add64}
+use Rattle.code.specs.Tree.{Ins}
 use Rattle.code.specs.Records.{body-length, operand-count, register-fields, number-at, signed-at, operand-at, behind, operands-at, ins-at, ocmp-at}
 use Rattle.code.specs.Reader.{got, followed, with-fields, read-record, read-operands, read-with, read-ocmp, read-part, read-codes, read-block, read-if, read-while, read-structure, read-body, read-code, parse, verdict-of, check-code}
 use Rattle.eval.specs.Config.{Env, Config, with-flags, with-values, End, ends, Outcome, done, fault, spent, continue, check, choose}

@@ -10,7 +10,8 @@ use Rattle.machine.specs.Cells.{refused as cells-refused}
 use Rattle.machine.specs.Memory.{Memory, LoadsMem64}
 use Rattle.machine.specs.Bytes.{ByteMemory, Agree}
 use Rattle.machine.specs.declared.State.{State}
-use Rattle.code.specs.Tree.{Instruction, Code}
+use Rattle.code.specs.declared.tree.Instruction.{Instruction}
+use Rattle.code.specs.Tree.{Code}
 use Rattle.code.specs.Reader.{got, parse, check-code}
 use Rattle.code.specs.WellFormed.{Bytes}
 use Rattle.eval.specs.Config.{Env, Config, config, End, ends, done, fault, refused}

@@ -9,7 +9,8 @@ use native.Mathlib.Numerals.{sub-one}
 use borrow.Author.Tests.{eq-eqb, ne-eqb, eqb-true}
 use lib.Dec.{eqb}
 use lib.ListN.{length}
-use Rattle.code.specs.Tree.{Ocmp, Code, Codes, ⟨⟩, _∷ᶜ_}
+use Rattle.code.specs.declared.tree.Ocmp.{Ocmp}
+use Rattle.code.specs.Tree.{Code, Codes, ⟨⟩, _∷ᶜ_}
 use Rattle.code.specs.Records.{is-ins, is-ocmp, byte-at, number-at, ins-at, ocmp-at}
 use Rattle.code.specs.Spells.{Stands, Spells, SpellsAll}
 use Rattle.code.proofs.Sound.{stands-past}

@@ -1,7 +1,7 @@
 -- The run of an instruction, from what its bytes say of it, family by family. Assumes nothing.
 use Prim.Native.Nat.{ℕ}
 use mathlib.Core.List.{List}
-use Rattle.code.specs.Tree.{Instruction}
+use Rattle.code.specs.declared.tree.Instruction.{Instruction}
 use Rattle.code.specs.Records.{is-ins, ins-at}
 use Rattle.code.specs.Spells.{Stands}
 use Rattle.code.proofs.Families.{after, Stood}

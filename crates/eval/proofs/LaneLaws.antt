@@ -11,7 +11,7 @@ use Rattle.words.specs.Types.{quad32, quad32-xor, extract-nat64, insert-nat32, 
 use Rattle.words.specs.declared.Quad32.{Quad32}
 use Rattle.machine.specs.Registers.{xmm-at, set-xmm}
 use Rattle.machine.specs.declared.Operand.{Operand}
-use Rattle.code.specs.Tree.{Paddd, Pxor, Pcmpeqd, Pslld, Psrld, Pshufd, Pextrq, Pinsrd, Pinsrq, VPSLLDQ}
+use Rattle.code.specs.declared.tree.Instruction.the-variants.{Paddd, Pxor, Pcmpeqd, Pslld, Psrld, Pshufd, Pextrq, Pinsrd, Pinsrq, VPSLLDQ}
 use Rattle.code.specs.Families.{at-kind, quads-ins, shifts-ins, inserts-ins}
 use Rattle.code.proofs.Families.{quads-ins-is, shifts-ins-is, inserts-ins-is}
 use Rattle.eval.specs.Config.{Env, Config, ends, done, fault, check}

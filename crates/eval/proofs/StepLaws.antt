@@ -10,7 +10,8 @@ use lib.Dec.{ltb, leb}
 use lib.ListN.{getD, set}
 use Rattle.words.specs.Sums.{sum-mod, mul-div, mul-mod}
 use Rattle.machine.specs.declared.Operand.{Operand}
-use Rattle.code.specs.Tree.{Instruction, AddLea64, Mul64, Mulx64}
+use Rattle.code.specs.declared.tree.Instruction.{Instruction}
+use Rattle.code.specs.declared.tree.Instruction.the-variants.{AddLea64, Mul64, Mulx64}
 use Rattle.code.specs.Records.{operand-at, behind}
 use Rattle.code.specs.Families.{is-two, two-ins}
 use Rattle.code.proofs.Passing.{and-both}

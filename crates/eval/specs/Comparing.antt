@@ -5,7 +5,7 @@ use mathlib.Core.Bool.{Bool, false, not, cond}
 use mathlib.Core.List.{List, [], _∷_}
 use lib.Dec.{eqb, ltb, leb}
 use lib.ListN.{getD}
-use Rattle.code.specs.Tree.{Ocmp}
+use Rattle.code.specs.declared.tree.Ocmp.{Ocmp}
 use Rattle.eval.specs.Config.{Env, Config}
 use Rattle.eval.specs.Steps.{valid-ocmp, eval-ocmp}
 use Rattle.eval.specs.declared.comparison.Compared.{Compared}

@@ -3,7 +3,8 @@ use Prim.Native.Nat.{ℕ, zero, suc}
 use mathlib.Core.List.{List}
 use Rattle.machine.specs.Cells.{Verdict, check-cells}
 use Rattle.machine.specs.Cells.{accepted as cells-accepted, refused as cells-refused}
-use Rattle.code.specs.Tree.{Ocmp, Code, Ins, Block, IfElse, While, Codes, ⟨⟩, _∷ᶜ_}
+use Rattle.code.specs.declared.tree.Ocmp.{Ocmp}
+use Rattle.code.specs.Tree.{Code, Ins, Block, IfElse, While, Codes, ⟨⟩, _∷ᶜ_}
 use Rattle.code.specs.Reader.{Read, got, trouble, parse}
 use Rattle.eval.specs.Config.{Env, Config, with-flags, End, ends, done, spent, refused, continue, and-then, check, choose}
 use Rattle.eval.specs.Steps.{run-ins, valid-ocmp, eval-ocmp}

@@ -4,7 +4,7 @@ ghost use mathlib.Core.List.{List};
 ghost use Prim.Native.Nat.{ℕ, _+_, _<_, _≤_};
 ghost use lib.ListN.{length, getD};
 ghost use Rattle.words.specs.Types.{quad32};
-ghost use Rattle.code.specs.Tree.{Pshufd, VPSLLDQ, Pextrq};
+ghost use Rattle.code.specs.declared.tree.Instruction.the-variants.{Pshufd, VPSLLDQ, Pextrq};
 ghost use Rattle.code.specs.Records.{operand-at, behind};
 ghost use Rattle.code.specs.Spells.{OperandsFrom};
 ghost use Rattle.code.specs.Families.{at-kind, quads-ins, shifts-ins, inserts-ins};

@@ -1,7 +1,7 @@
 // Products of two words, in two words: Rax and Rdx, or two destinations.
 ghost use mathlib.Core.List.{List};
 ghost use Prim.Native.Nat.{ℕ, _+_};
-ghost use Rattle.code.specs.Tree.{Mul64, Mulx64};
+ghost use Rattle.code.specs.declared.tree.Instruction.the-variants.{Mul64, Mulx64};
 ghost use Rattle.code.specs.Records.{operand-at, behind};
 ghost use Rattle.code.specs.Spells.{OperandsFrom};
 ghost use Rattle.eval.specs.Steps.{run-ins};

@@ -5,7 +5,7 @@ ghost use mathlib.Core.List.{List};
 ghost use Prim.Native.Nat.{ℕ, _+_};
 ghost use lib.Dec.{leb};
 ghost use lib.ListN.{getD};
-ghost use Rattle.code.specs.Tree.{AddLea64};
+ghost use Rattle.code.specs.declared.tree.Instruction.the-variants.{AddLea64};
 ghost use Rattle.code.specs.Records.{operand-at, behind};
 ghost use Rattle.code.specs.Spells.{OperandsFrom};
 ghost use Rattle.code.specs.Families.{is-two, two-ins};

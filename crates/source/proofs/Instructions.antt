@@ -16,7 +16,8 @@ use Rattle.machine.specs.Registers.{Rax, Rdx, reg-at, set-reg, xmm-at, set-xmm}
 use Rattle.machine.specs.Memory.{Memory, LoadsMem64}
 use Rattle.machine.specs.declared.Operand.{Operand}
 use Rattle.machine.specs.declared.Operand.the-variants.{OConst, OReg, OMem}
-use Rattle.code.specs.Tree.{Instruction, Mov64, Add64, AddLea64, AddCarry64, Adcx64, Adox64, Sub64, Mul64, Mulx64, IMul64, Xor64, And64, Shr64, Shl64, Paddd, Pxor, Pslld, Psrld, Pshufd, Pcmpeqd, Pextrq, Pinsrd, Pinsrq, VPSLLDQ}
+use Rattle.code.specs.declared.tree.Instruction.{Instruction}
+use Rattle.code.specs.declared.tree.Instruction.the-variants.{Mov64, Add64, AddLea64, AddCarry64, Adcx64, Adox64, Sub64, Mul64, Mulx64, IMul64, Xor64, And64, Shr64, Shl64, Paddd, Pxor, Pslld, Psrld, Pshufd, Pcmpeqd, Pextrq, Pinsrd, Pinsrq, VPSLLDQ}
 use Rattle.code.specs.WellFormed.{WfOperand, WfTwo, WfIns}
 use Rattle.eval.specs.Flags.{add-flags}
 use Rattle.eval.specs.Config.{Env, Config, with-regs, with-xmms, with-flags, End, ends, done, fault}

@@ -12,7 +12,8 @@ use Rattle.machine.specs.Memory.{Memory, LoadsMem64, memory-of, store-mem64}
 use Rattle.machine.specs.declared.Operand.{Operand}
 use Rattle.machine.specs.declared.Operand.the-variants.{OConst, OReg, OMem}
 use Rattle.machine.proofs.MemoryLaws.{valid-is-cell, load-at, memory-store}
-use Rattle.code.specs.Tree.{Ocmp, OEq, ONe, OLe, OGe, OLt, OGt}
+use Rattle.code.specs.declared.tree.Ocmp.{Ocmp}
+use Rattle.code.specs.declared.tree.Ocmp.the-variants.{OEq, ONe, OLe, OGe, OLt, OGt}
 use Rattle.code.specs.WellFormed.{WfOperand, WfTwo, WfOcmp}
 use Rattle.eval.specs.Config.{Env, Config}
 use Rattle.eval.specs.Steps as Run

@@ -18,7 +18,10 @@ use Rattle.machine.specs.Bytes.{wrap}
 use Rattle.machine.specs.declared.reg.Reg.{Reg}
 use Rattle.machine.specs.declared.Operand.{Operand}
 use Rattle.machine.specs.Memory.{Memory}
-use Rattle.code.specs.Tree.{Instruction, Add64, AddCarry64, Pcmpeqd, Ocmp, Code, Ins, Block, IfElse, While, Codes, ⟨⟩, _∷ᶜ_}
+use Rattle.code.specs.declared.tree.Instruction.{Instruction}
+use Rattle.code.specs.declared.tree.Instruction.the-variants.{Add64, AddCarry64, Pcmpeqd}
+use Rattle.code.specs.declared.tree.Ocmp.{Ocmp}
+use Rattle.code.specs.Tree.{Code, Ins, Block, IfElse, While, Codes, ⟨⟩, _∷ᶜ_}
 use Rattle.source.specs.Source as Source
 use Rattle.source.specs.Source.{State, St, pow2-64, _>>=_, _>>_, get, check, valid-operand, eval-reg, eval-xmm, update-reg′, update-xmm′, update-xmm-preserve-flags, update-flags, run, if-some}
 
