@@ -5,7 +5,7 @@ use mathlib.Core.List.{List, [], _∷_, _++_}
 use native.Mathlib.Omega.{arith}
 use native.Mathlib.Nat.{mul-add, mul-one, mul-le-mul-left}
 use native.Mathlib.Numerals.{add-one}
-use lib.ListN.{length, set, take}
+use lib.ListN.{length, set, length-set, take}
 use lib.Seq.{take-suc-set, take-all}
 use Rattle.code.specs.Records.{number-at}
 use Rattle.job.specs.Job.{numbers}
@@ -35,26 +35,35 @@ numbers-snoc size step (suc i) bs at =
     (numbers-snoc size step i bs (at + step)
     ∙ ap (λ (k : ℕ). numbers size step i bs (at + step) ++ (number-at size bs k ∷ [])) e)
 
--- what has been read of `l` from the front
-abbrev pub Got : ℕ → ℕ → List ℕ → ℕ → ℕ → List ℕ → Type 0
-Got size step bs from i l = take i l ≡ numbers size step i bs from
+-- a loop that reads numbers into the list `to`, which was to₀: the first i are read
+pub record Reading (size step : ℕ) (bs : List ℕ) (from : ℕ) (to₀ : List ℕ) (i : ℕ) (to : List ℕ) : Type 0 where
+  pub within : i ≤ length to₀
+  pub long : length to ≡ length to₀
+  pub got : take i to ≡ numbers size step i bs from
 
-pub got-none : (size step : ℕ) (bs : List ℕ) (from : ℕ) (l : List ℕ) → Got size step bs from 0 l
+pub reading-none : (size step : ℕ) (bs : List ℕ) (from : ℕ) (to : List ℕ) → Reading size step bs from to 0 to
 unfolding numbers
-got-none size step bs from l = refl
+reading-none size step bs from to = record { within = omega arith; long = refl; got = refl }
 
-pub got-more :
-    (size step : ℕ) (bs : List ℕ) (from i : ℕ) (l : List ℕ) {v : ℕ}
-    → Got size step bs from i l → i < length l → v ≡ number-at size bs (from + step * i) → Got size step bs from (i + 1) (set l i v)
-got-more size step bs from i l {v} g h e =
-    ap (λ (k : ℕ). take k (set l i v)) (add-one i)
-    ∙ take-suc-set l i v h
-    ∙ ap (λ (xs : List ℕ). xs ++ (v ∷ [])) g
-    ∙ ap (λ (k : ℕ). numbers size step i bs from ++ (k ∷ [])) e
-    ∙ sym (numbers-snoc size step i bs from)
-    ∙ ap (λ (k : ℕ). numbers size step k bs from) (sym (add-one i))
+pub reading-more :
+    {size step from i v : ℕ} {bs to₀ to : List ℕ} → Reading size step bs from to₀ i to
+    → i < length to₀ → v ≡ number-at size bs (from + step * i) → Reading size step bs from to₀ (i + 1) (set to i v)
+reading-more {size} {step} {from} {i} {v} {bs} {to} r h e =
+    record {
+      within = omega arith;
+      long = length-set to i v ∙ r .long;
+      got =
+          ap (λ (k : ℕ). take k (set to i v)) (add-one i)
+          ∙ take-suc-set to i v (omega (arith, r .long))
+          ∙ ap (λ (xs : List ℕ). xs ++ (v ∷ [])) (r .got)
+          ∙ ap (λ (k : ℕ). numbers size step i bs from ++ (k ∷ [])) e
+          ∙ sym (numbers-snoc size step i bs from)
+          ∙ ap (λ (k : ℕ). numbers size step k bs from) (sym (add-one i));
+    }
 
-pub got-all :
-    (size step : ℕ) (bs : List ℕ) (from i n : ℕ) (l : List ℕ)
-    → Got size step bs from i l → length l ≤ i → i ≡ n → l ≡ numbers size step n bs from
-got-all size step bs from i n l g h e = sym (take-all i l h) ∙ g ∙ ap (λ (k : ℕ). numbers size step k bs from) e
+pub reading-all :
+    {size step from i : ℕ} {bs to₀ to : List ℕ} → Reading size step bs from to₀ i to
+    → length to₀ ≤ i → to ≡ numbers size step (length to₀) bs from
+reading-all {size} {step} {from} {i} {bs} {to₀} {to} r h =
+    let all : i ≡ length to₀ = omega (arith, r .within) in
+    sym (take-all i to (omega (arith, r .long))) ∙ r .got ∙ ap (λ (k : ℕ). numbers size step k bs from) all

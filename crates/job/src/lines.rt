@@ -6,7 +6,7 @@ ghost use Prim.Native.Nat.{_+_, _*_, _≤_, _<_};
 ghost use lib.Dec.{eqb};
 ghost use lib.ListN.{length};
 ghost use Rattle.eval.specs.Config.{outcome};
-ghost use Rattle.job.specs.Text.{field, newline, word-at, word-flags, word-cell, name-of, first-line, reg-lines, xmm-line, xmm-lines, cell-lines};
+ghost use Rattle.job.specs.Text.{field, newline, word-cell, name-of, first-line, reg-lines, xmm-line, xmm-lines, cell-lines};
 ghost use Rattle.job.specs.Written.{Wrote};
 use crate::text::put_byte;
 use crate::text::put_decimal;
@@ -144,22 +144,13 @@ pub fn put_cells(
     next
 }
 
-pub fn put_flags(out: &mut [u8; 65536], at: usize, flags: u64) -> usize
-    requires { ⌜ at + 27 ≤ 65536 ⌝ }
-    ensures { λ r. ⌜ Wrote 27 (now (out .entry)) at (word-flags ++ field flags ++ newline) (now (out .exit)) r ⌝ }
+// A word and a number to the end of the line: the flags' line, or the place that ends a first line.
+pub fn put_line(out: &mut [u8; 65536], at: usize, word: &[u8], n: u64) -> usize
+    requires { ⌜ at + length (now word) + 22 ≤ 65536 ⌝ }
+    ensures { λ r. ⌜ Wrote (length (now (word .entry)) + 22) (now (out .entry)) at (now (word .entry) ++ field n ++ newline) (now (out .exit)) r ⌝ }
 {
-    let next = put_word(out, at, b"flags");
-    let next = put_field(out, next, flags);
-    put_byte(out, next, b'\n')
-}
-
-// The end of a first line that has a place.
-fn put_place(out: &mut [u8; 65536], at: usize, place: usize) -> usize
-    requires { ⌜ at + 25 ≤ 65536 ⌝ }
-    ensures { λ r. ⌜ Wrote 25 (now (out .entry)) at (word-at ++ field place ++ newline) (now (out .exit)) r ⌝ }
-{
-    let next = put_word(out, at, b" at");
-    let next = put_field(out, next, place as u64);
+    let next = put_word(out, at, word);
+    let next = put_field(out, next, n);
     put_byte(out, next, b'\n')
 }
 
@@ -171,16 +162,16 @@ pub fn put_answer(out: &mut [u8; 65536], answer: Answer) -> usize
         Answer::Fault(number, place) => {
             let next = put_word(out, 0, b"fault");
             let next = put_field(out, next, number as u64);
-            put_place(out, next, place)
+            put_line(out, next, b" at", place as u64)
         }
         Answer::Spent(place) => {
             let next = put_word(out, 0, b"spent");
-            put_place(out, next, place)
+            put_line(out, next, b" at", place as u64)
         }
         Answer::Refused(number, place) => {
             let next = put_word(out, 0, b"refused");
             let next = put_field(out, next, number as u64);
-            put_place(out, next, place)
+            put_line(out, next, b" at", place as u64)
         }
     }
 }

@@ -8,7 +8,7 @@ ghost use Rattle.job.specs.Text.{render as rendered, end-lines};
 ghost use Rattle.job.specs.Written.{Wrote};
 use crate::lines::put_answer;
 use crate::lines::put_cells;
-use crate::lines::put_flags;
+use crate::lines::put_line;
 use crate::lines::put_regs;
 use crate::lines::put_xmms;
 use eval::Answer;
@@ -32,7 +32,7 @@ fn put_end(
 {
     let regs = state.regs;
     let xmms = state.xmms;
-    let next = put_flags(out, at, state.flags);
+    let next = put_line(out, at, b"flags", state.flags);
     let next = put_regs(out, next, &regs);
     let next = put_xmms(out, next, &xmms);
     put_cells(out, next, addresses, tags, values)

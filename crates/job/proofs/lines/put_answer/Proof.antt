@@ -30,8 +30,11 @@ cast-put-field c = search needs
 put-field-requires : tie.Need-put-field-requires
 put-field-requires c κs = search needs
 
-put-place-requires : tie.Need-put-place-requires
-put-place-requires c κs = search needs
+slice-aggregate-put-line : tie.Need-slice-aggregate-put-line
+slice-aggregate-put-line c = search needs
+
+put-line-requires : tie.Need-put-line-requires
+put-line-requires c κs = search needs
 
 enum-known-answer-2 : tie.Need-enum-known-answer-2
 enum-known-answer-2 c = search needs
@@ -42,8 +45,11 @@ slice-aggregate-put-word-3 c = search needs
 put-word-requires-3 : tie.Need-put-word-requires-3
 put-word-requires-3 c κs = search needs
 
-put-place-requires-2 : tie.Need-put-place-requires-2
-put-place-requires-2 c κs = search needs
+slice-aggregate-put-line-2 : tie.Need-slice-aggregate-put-line-2
+slice-aggregate-put-line-2 c = search needs
+
+put-line-requires-2 : tie.Need-put-line-requires-2
+put-line-requires-2 c κs = search needs
 
 enum-known-answer-3 : tie.Need-enum-known-answer-3
 enum-known-answer-3 c = search needs
@@ -60,8 +66,11 @@ cast-put-field-2 c = search needs
 put-field-requires-2 : tie.Need-put-field-requires-2
 put-field-requires-2 c κs = search needs
 
-put-place-requires-3 : tie.Need-put-place-requires-3
-put-place-requires-3 c κs = search needs
+slice-aggregate-put-line-3 : tie.Need-slice-aggregate-put-line-3
+slice-aggregate-put-line-3 c = search needs
+
+put-line-requires-3 : tie.Need-put-line-requires-3
+put-line-requires-3 c κs = search needs
 
 returns : tie.Need-returns
 returns c =
@@ -69,25 +78,25 @@ returns c =
 
 returns-2 : tie.Need-returns-2
 returns-2 c =
-    let number = c .before .before in
+    let number = c .before .before .before in
     let word = number .before .before in
     let told = word .before .before .before in
     looser (omega arith) (spelled (line-fault _ _ (told .before .answer .given .1))
-    (word .put-word2 .ensures ▸ number .put-field .ensures ▸ c .put-place .ensures))
+    (word .put-word2 .ensures ▸ number .put-field .ensures ▸ c .put-line .ensures))
 
 returns-3 : tie.Need-returns-3
 returns-3 c =
-    let word = c .before .before in
+    let word = c .before .before .before in
     let told = word .before .before .before in
-    looser (omega arith) (spelled (line-spent _ (told .before .answer2 .given .1)) (word .put-word3 .ensures ▸ c .put-place2 .ensures))
+    looser (omega arith) (spelled (line-spent _ (told .before .answer2 .given .1)) (word .put-word3 .ensures ▸ c .put-line2 .ensures))
 
 returns-4 : tie.Need-returns-4
 returns-4 c =
-    let number = c .before .before in
+    let number = c .before .before .before in
     let word = number .before .before in
     let told = word .before .before .before in
     spelled (line-refused _ _ (told .before .answer3 .given .1))
-    (word .put-word4 .ensures ▸ number .put-field2 .ensures ▸ c .put-place3 .ensures)
+    (word .put-word4 .ensures ▸ number .put-field2 .ensures ▸ c .put-line3 .ensures)
 
 pub put-answer-spec : {M : Type 1} → statement M
 put-answer-spec =
@@ -101,17 +110,20 @@ put-answer-spec =
     put-word-requires-2
     cast-put-field
     put-field-requires
-    put-place-requires
+    slice-aggregate-put-line
+    put-line-requires
     enum-known-answer-2
     slice-aggregate-put-word-3
     put-word-requires-3
-    put-place-requires-2
+    slice-aggregate-put-line-2
+    put-line-requires-2
     enum-known-answer-3
     slice-aggregate-put-word-4
     put-word-requires-4
     cast-put-field-2
     put-field-requires-2
-    put-place-requires-3
+    slice-aggregate-put-line-3
+    put-line-requires-3
     returns
     returns-2
     returns-3

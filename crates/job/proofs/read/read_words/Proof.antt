@@ -1,17 +1,17 @@
 -- In each turn the first i numbers are read, and the next one stands i steps behind the first.
-use Prim.Native.Nat.{_+_, _*_, _-_, _≤_, _<_}
-use mathlib.Core.Path.{_≡_, refl, sym, ap, _∙_}
+use Prim.Native.Nat.{_+_, _*_, _-_, _<_}
+use mathlib.Core.Path.{_≡_, ap, _∙_}
 use native.Mathlib.Omega.{arith}
 use borrow.Author.Needs.{needs}
-use lib.ListN.{length, length-set}
-use Rattle.job.proofs.Numbers.{Got, got-none, got-more, got-all, steps-more, steps-within}
+use lib.ListN.{length}
+use Rattle.job.proofs.Numbers.{Reading, reading-none, reading-more, reading-all, steps-more, steps-within}
 use Rattle.code.specs.Records.{number-at}
 use Rattle.job.proofs.read.read_words.Statement.{statement}
 use Rattle.job.proofs.read.read_words.Tie as tie
 
 abbrev Inv-loop : tie.InvT-loop
 Inv-loop input from step to₀ at₀ i₀ to at i =
-    (i ≤ length to₀) × (length to ≡ length to₀) × (at ≡ from + step * i) × Got 8 step input from i to
+    (at ≡ from + step * i) × Reading 8 step input from to₀ i to
 
 abbrev μ-loop : tie.MeasureT-loop
 μ-loop input from step to₀ at₀ i₀ to at i = length to₀ - i
@@ -19,7 +19,7 @@ abbrev μ-loop : tie.MeasureT-loop
 loop-holds : tie.Need-loop-holds Inv-loop μ-loop
 loop-holds c =
     let args = c .before .before .args in
-    (omega arith, refl, omega arith, got-none 8 (args .step) (args .input .now) (args .from) (args .to .now))
+    (omega arith, reading-none 8 (args .step) (args .input .now) (args .from) (args .to .now))
 
 number8-requires : tie.Need-number8-requires Inv-loop μ-loop
 number8-requires c κs =
@@ -51,24 +51,15 @@ loop-again : tie.Need-loop-again Inv-loop μ-loop
 loop-again c =
     let args = c .before .before .before .before .before .args in
     let loop = c .before .before .loop in
-    let inside : loop .i < length (loop .to) = omega arith in
     let more = steps-more (args .step) (loop .i) in
-    let place : loop .at ≡ args .from + args .step * loop .i = loop .inv .2 in
-    let value = c .number8 .ensures ∙ ap (number-at 8 (args .input .now)) place in (
-      omega arith,
-      length-set (loop .to) (loop .i) (c .number8 .result) ∙ loop .inv .1,
-      omega arith,
-      got-more 8 (args .step) (args .input .now) (args .from) (loop .i) (loop .to) (loop .inv .3) inside value,
-    )
+    let value = c .number8 .ensures ∙ ap (number-at 8 (args .input .now)) (loop .inv .0) in
+    (omega arith, reading-more (loop .inv .1) (omega arith) value)
 
 same-length : tie.Need-same-length Inv-loop μ-loop
-same-length c = c .before .loop .inv .1
+same-length c = c .before .loop .inv .1 .long
 
 returns : tie.Need-returns Inv-loop μ-loop
-returns c =
-    let args = c .before .before .before .before .args in
-    let loop = c .before .loop in
-    got-all 8 (args .step) (args .input .now) (args .from) (loop .i) (length (args .to .now)) (loop .to) (loop .inv .3) (omega arith) (omega arith)
+returns c = reading-all (c .before .loop .inv .1) (omega arith)
 
 pub read-words-spec : {M : Type 1} → statement M
 read-words-spec =

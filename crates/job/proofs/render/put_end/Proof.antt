@@ -7,8 +7,11 @@ use borrow.Author.Needs.{needs}
 use Rattle.job.proofs.render.put_end.Statement.{statement}
 use Rattle.job.proofs.render.put_end.Tie as tie
 
-put-flags-requires : tie.Need-put-flags-requires
-put-flags-requires c κs = search needs
+slice-aggregate-put-line : tie.Need-slice-aggregate-put-line
+slice-aggregate-put-line c = search needs
+
+put-line-requires : tie.Need-put-line-requires
+put-line-requires c κs = search needs
 
 put-regs-requires : tie.Need-put-regs-requires
 put-regs-requires c κs = search needs
@@ -24,13 +27,13 @@ returns c =
     let xmms = c .before .before in
     let regs = xmms .before .before .before in
     let flags = regs .before .before .before in
-    let start = flags .before .before .before .before .before .before .before in
+    let start = flags .before .before .before .before .before .before .before .before in
     let cells = length (start .args .addresses .now) in
     let few : 2459 + 51 * cells ≤ 65483 = omega arith in
     looser {m = 2459 + 51 * cells} few
-    (flags .put-flags .ensures ▸ regs .put-regs .ensures ▸ xmms .put-xmms .ensures ▸ c .put-cells .ensures)
+    (flags .put-line .ensures ▸ regs .put-regs .ensures ▸ xmms .put-xmms .ensures ▸ c .put-cells .ensures)
 
 pub put-end-spec : {M : Type 1} → statement M
 put-end-spec =
     tie.close
-    (tie.spec put-flags-requires put-regs-requires put-xmms-requires put-cells-requires returns)
+    (tie.spec slice-aggregate-put-line put-line-requires put-regs-requires put-xmms-requires put-cells-requires returns)
