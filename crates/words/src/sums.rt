@@ -4,7 +4,6 @@ ghost use Rattle.words.specs.Bits.{bit};
 ghost use Rattle.words.specs.Sums.{Added, Subtracted};
 use crate::Sum32;
 use crate::Sum64;
-use std::num::wrapping_add_u32;
 use std::num::wrapping_add_u64;
 use std::num::wrapping_sub_u32;
 use std::num::wrapping_sub_u64;
@@ -21,14 +20,14 @@ pub fn add64(a: u64, b: u64, carry: bool) -> Sum64
     }
 }
 
+// The sum of two 32-bit words and a carry fits 64 bits.
 pub fn add32(a: u32, b: u32, carry: bool) -> Sum32
     ensures { λ r. ⌜ Added 32 (a + b + bit carry) (r .word) (r .carry) ⌝ }
 {
-    let part = wrapping_add_u32(a, b);
-    let word = wrapping_add_u32(part, carry as u32);
+    let sum = a as u64 + b as u64 + carry as u64;
     Sum32 {
-        word,
-        carry: part < a || word < part,
+        word: (sum % 4294967296) as u32,
+        carry: sum >= 4294967296,
     }
 }
 

@@ -5,18 +5,6 @@ use Rattle.words.proofs.PartLaws.{four-eq}
 use Rattle.words.proofs.lanes.add_lanes.Statement.{statement}
 use Rattle.words.proofs.lanes.add_lanes.Tie as tie
 
-wrapping-add-u32-requires : tie.Need-wrapping-add-u32-requires
-wrapping-add-u32-requires c κs = search needs
-
-wrapping-add-u32-requires-2 : tie.Need-wrapping-add-u32-requires-2
-wrapping-add-u32-requires-2 c κs = search needs
-
-wrapping-add-u32-requires-3 : tie.Need-wrapping-add-u32-requires-3
-wrapping-add-u32-requires-3 c κs = search needs
-
-wrapping-add-u32-requires-4 : tie.Need-wrapping-add-u32-requires-4
-wrapping-add-u32-requires-4 c κs = search needs
-
 returns : tie.Need-returns
 unfolding add-lanes
 returns c =
@@ -24,4 +12,4 @@ returns c =
     (c .before .wrapping-add-u323 .ensures) (c .wrapping-add-u324 .ensures)
 
 pub add-lanes-spec : {M : Type 1} → statement M
-add-lanes-spec = tie.close (tie.spec wrapping-add-u32-requires wrapping-add-u32-requires-2 wrapping-add-u32-requires-3 wrapping-add-u32-requires-4 returns)
+add-lanes-spec = tie.close (tie.spec (λ c κs. search needs) (λ c κs. search needs) (λ c κs. search needs) (λ c κs. search needs) returns)

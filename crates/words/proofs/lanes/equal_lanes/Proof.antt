@@ -5,18 +5,6 @@ use Rattle.words.proofs.PartLaws.{four-eq}
 use Rattle.words.proofs.lanes.equal_lanes.Statement.{statement}
 use Rattle.words.proofs.lanes.equal_lanes.Tie as tie
 
-equal-word-requires : tie.Need-equal-word-requires
-equal-word-requires c κs = search needs
-
-equal-word-requires-2 : tie.Need-equal-word-requires-2
-equal-word-requires-2 c κs = search needs
-
-equal-word-requires-3 : tie.Need-equal-word-requires-3
-equal-word-requires-3 c κs = search needs
-
-equal-word-requires-4 : tie.Need-equal-word-requires-4
-equal-word-requires-4 c κs = search needs
-
 returns : tie.Need-returns
 unfolding equal-lanes
 returns c =
@@ -24,4 +12,4 @@ returns c =
     (c .before .equal-word3 .ensures) (c .equal-word4 .ensures)
 
 pub equal-lanes-spec : {M : Type 1} → statement M
-equal-lanes-spec = tie.close (tie.spec equal-word-requires equal-word-requires-2 equal-word-requires-3 equal-word-requires-4 returns)
+equal-lanes-spec = tie.close (tie.spec (λ c κs. search needs) (λ c κs. search needs) (λ c κs. search needs) (λ c κs. search needs) returns)

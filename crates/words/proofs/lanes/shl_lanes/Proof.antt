@@ -5,22 +5,10 @@ use Rattle.words.proofs.PartLaws.{four-eq}
 use Rattle.words.proofs.lanes.shl_lanes.Statement.{statement}
 use Rattle.words.proofs.lanes.shl_lanes.Tie as tie
 
-ishl32-requires : tie.Need-ishl32-requires
-ishl32-requires c κs = search needs
-
-ishl32-requires-2 : tie.Need-ishl32-requires-2
-ishl32-requires-2 c κs = search needs
-
-ishl32-requires-3 : tie.Need-ishl32-requires-3
-ishl32-requires-3 c κs = search needs
-
-ishl32-requires-4 : tie.Need-ishl32-requires-4
-ishl32-requires-4 c κs = search needs
-
 returns : tie.Need-returns
 unfolding shl-lanes
 returns c =
     four-eq (c .before .before .before .ishl32 .ensures) (c .before .before .ishl322 .ensures) (c .before .ishl323 .ensures) (c .ishl324 .ensures)
 
 pub shl-lanes-spec : {M : Type 1} → statement M
-shl-lanes-spec = tie.close (tie.spec ishl32-requires ishl32-requires-2 ishl32-requires-3 ishl32-requires-4 returns)
+shl-lanes-spec = tie.close (tie.spec (λ c κs. search needs) (λ c κs. search needs) (λ c κs. search needs) (λ c κs. search needs) returns)

@@ -1,30 +1,26 @@
--- A wrapped first sum is below its first term; else the second sum may wrap, and is then below the first.
+-- The sum is below 2^64, so nothing wraps: its low half is the word, and the rest is the carry.
+use native.Mathlib.Omega.{arith}
 use borrow.Author.Needs.{needs}
-use lib.Dec.{lit<}
-use Rattle.words.proofs.SumLaws.{added-wraps, added-stays}
+use Rattle.words.specs.Sums.{sum-mod, sum-carry}
+use Rattle.words.proofs.BitLaws.{bit-lt}
 use Rattle.words.proofs.sums.add32.Statement.{statement}
 use Rattle.words.proofs.sums.add32.Tie as tie
 
-wrapping-add-u32-requires : tie.Need-wrapping-add-u32-requires
-wrapping-add-u32-requires c κs = search needs
+add-sum : tie.Need-add-sum
+add-sum c = search needs
 
-cast-wrapping-add-u32 : tie.Need-cast-wrapping-add-u32
-cast-wrapping-add-u32 c = search needs
+cast-sum : tie.Need-cast-sum
+cast-sum c = search needs
 
-wrapping-add-u32-requires-2 : tie.Need-wrapping-add-u32-requires-2
-wrapping-add-u32-requires-2 c κs = search needs
+add-sum-2 : tie.Need-add-sum-2
+add-sum-2 c = omega (arith, bit-lt (c .args .carry))
+
+cast-t9 : tie.Need-cast-t9
+cast-t9 c = search needs
 
 returns : tie.Need-returns
-returns c =
-    let s = c .before .before .before in
-    added-wraps 32 (s .args .a) (s .args .b) (s .args .carry) _ _ (lit< tt) (s .fits .a .fits) (s .fits .b .fits)
-    (c .before .before .wrapping-add-u32 .ensures) (c .before .wrapping-add-u322 .ensures) (c .if1 .taken)
-
-returns-2 : tie.Need-returns-2
-returns-2 c =
-    let s = c .before .before .before in
-    added-stays 32 (s .args .a) (s .args .b) (s .args .carry) _ _ (lit< tt) (s .fits .a .fits) (s .fits .b .fits)
-    (c .before .before .wrapping-add-u32 .ensures) (c .before .wrapping-add-u322 .ensures) (c .if1 .left)
+unfolding sum-mod sum-carry
+returns c = search needs
 
 pub add32-spec : {M : Type 1} → statement M
-add32-spec = tie.close (tie.spec wrapping-add-u32-requires cast-wrapping-add-u32 wrapping-add-u32-requires-2 returns returns-2)
+add32-spec = tie.close (tie.spec add-sum cast-sum add-sum-2 cast-t9 returns)
