@@ -2,11 +2,13 @@
 -- are the two numbers whose difference it answers with, and the product of a scale and a word leaves both far below 2^80.
 use Prim.Native.Nat.{_+_, _*_, _^_, _<_}
 use mathlib.Core.Path.{_≡_}
-use mathlib.Core.Bool.{true, false}
+use mathlib.Core.Bool.{Bool, true, false}
 use native.Mathlib.Omega.{arith}
 use borrow.Author.Needs.{needs}
-use lib.IntN.{natAbs}
+use lib.IntN.{pos, natAbs}
+use lib.Signed.{ltZ}
 use mir.Syntax.{w16, w64}
+use mir.Val.{toZ, ofZ}
 use Rattle.machine.specs.Wide.{number}
 use Rattle.machine.proofs.Exact.{sign, size-of, widened, scale-of, factor-small, product-small, sum-small, gathered, plus-plus, plus-minus, minus-plus, minus-minus}
 use Rattle.machine.proofs.addressing.exact_address.Statement.{statement}
@@ -28,6 +30,15 @@ product c =
 
 size : (c : tie.After-magnitude2) → c .magnitude2 .result ≡ natAbs (c .before .before .before .args .offset)
 size c = let s = c .before .before .before in size-of w64 (s .args .offset) (s .fits .offset) _ (c .magnitude2 .ensures)
+
+-- the tests of the two signs are tests of the exact scale and offset
+scale-sign : (k : tie.After-magnitude2) (b : Bool)
+    → let z = k .before .before .before .args .scale in ltZ (toZ w16 (ofZ w16 z)) (pos 0) ≡ b → ltZ z (pos 0) ≡ b
+scale-sign k b = let s = k .before .before .before in sign w16 (s .args .scale) (s .fits .scale) b
+
+offset-sign : (k : tie.After-magnitude2) (b : Bool)
+    → let z = k .before .before .before .args .offset in ltZ (toZ w64 (ofZ w64 z)) (pos 0) ≡ b → ltZ z (pos 0) ≡ b
+offset-sign k b = let s = k .before .before .before in sign w64 (s .args .offset) (s .fits .offset) b
 
 cast-magnitude : tie.Need-cast-magnitude
 cast-magnitude c = widened (c .args .scale) (c .fits .scale)
@@ -87,50 +98,38 @@ difference-requires-4 c κs = search needs
 returns : tie.Need-returns
 returns c =
     let k = c .before .before .before .before .before in
-    let s = k .before .before .before in
-    let a = s .args in
-    let p = product (k .before) in
-    let o = size k in
+    let a = k .before .before .before .args in
     gathered _ _ (c .before .before .of-word .result) (c .before .plus .result) (a .base) (natAbs (a .scale) * a .index + natAbs (a .offset))
-    (c .difference .ensures) (cc) (cc)
-    (minus-minus (a .base) (a .index) (a .scale) (a .offset) (sign w16 _ (s .fits .scale) true (c .before .before .before .before .if1 .taken))
-    (sign w64 _ (s .fits .offset) true (c .before .before .before .if2 .taken)))
+    (c .difference .ensures) (cc) (cc (product (k .before), size k))
+    (minus-minus (a .base) (a .index) (a .scale) (a .offset) (scale-sign k true (c .before .before .before .before .if1 .taken))
+    (offset-sign k true (c .before .before .before .if2 .taken)))
 
 returns-2 : tie.Need-returns-2
 returns-2 c =
     let k = c .before .before .before .before .before in
-    let s = k .before .before .before in
-    let a = s .args in
-    let p = product (k .before) in
-    let o = size k in
+    let a = k .before .before .before .args in
     gathered _ _ (c .before .plus2 .result) (k .before .times .result) (a .base + natAbs (a .offset)) (natAbs (a .scale) * a .index)
-    (c .difference2 .ensures) (cc) (cc)
-    (minus-plus (a .base) (a .index) (a .scale) (a .offset) (sign w16 _ (s .fits .scale) true (c .before .before .before .before .if1 .taken))
-    (sign w64 _ (s .fits .offset) false (c .before .before .before .if2 .left)))
+    (c .difference2 .ensures) (cc (size k)) (product (k .before))
+    (minus-plus (a .base) (a .index) (a .scale) (a .offset) (scale-sign k true (c .before .before .before .before .if1 .taken))
+    (offset-sign k false (c .before .before .before .if2 .left)))
 
 returns-3 : tie.Need-returns-3
 returns-3 c =
     let k = c .before .before .before .before .before in
-    let s = k .before .before .before in
-    let a = s .args in
-    let p = product (k .before) in
-    let o = size k in
+    let a = k .before .before .before .args in
     gathered _ _ (c .before .before .before .plus3 .result) (c .before .of-word3 .result) (natAbs (a .scale) * a .index + a .base) (natAbs (a .offset))
-    (c .difference3 .ensures) (cc) (cc)
-    (plus-minus (a .base) (a .index) (a .scale) (a .offset) (sign w16 _ (s .fits .scale) false (c .before .before .before .before .if1 .left))
-    (sign w64 _ (s .fits .offset) true (c .before .before .if3 .taken)))
+    (c .difference3 .ensures) (cc (product (k .before))) (cc (size k))
+    (plus-minus (a .base) (a .index) (a .scale) (a .offset) (scale-sign k false (c .before .before .before .before .if1 .left))
+    (offset-sign k true (c .before .before .if3 .taken)))
 
 returns-4 : tie.Need-returns-4
 returns-4 c =
     let k = c .before .before .before .before .before .before in
-    let s = k .before .before .before in
-    let a = s .args in
-    let p = product (k .before) in
-    let o = size k in
+    let a = k .before .before .before .args in
     gathered _ _ (c .before .before .plus4 .result) (c .before .of-word4 .result) (natAbs (a .scale) * a .index + a .base + natAbs (a .offset)) (0)
-    (c .difference4 .ensures) (cc) (cc)
-    (plus-plus (a .base) (a .index) (a .scale) (a .offset) (sign w16 _ (s .fits .scale) false (c .before .before .before .before .before .if1 .left))
-    (sign w64 _ (s .fits .offset) false (c .before .before .before .if3 .left)))
+    (c .difference4 .ensures) (cc (product (k .before), size k)) (cc)
+    (plus-plus (a .base) (a .index) (a .scale) (a .offset) (scale-sign k false (c .before .before .before .before .before .if1 .left))
+    (offset-sign k false (c .before .before .before .if3 .left)))
 
 pub exact-address-spec : {M : Type 1} → statement M
 exact-address-spec =

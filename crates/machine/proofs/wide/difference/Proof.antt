@@ -5,12 +5,6 @@ use Rattle.machine.proofs.Exact.{carry-fits, level, apart}
 use Rattle.machine.proofs.wide.difference.Statement.{statement}
 use Rattle.machine.proofs.wide.difference.Tie as tie
 
-sub64-requires : tie.Need-sub64-requires
-sub64-requires c κs = search needs
-
-cast-high : tie.Need-cast-high
-cast-high c = search needs
-
 add-high : tie.Need-add-high
 add-high c =
     let s = c .before .before .before in
@@ -29,4 +23,4 @@ returns-2 c =
     apart (s .args .up) (s .args .down) (low .result .word) (low .result .carry) (low .ensures) (search needs) (search needs) (c .if1 .left)
 
 pub difference-spec : {M : Type 1} → statement M
-difference-spec = tie.close (tie.spec sub64-requires cast-high add-high returns returns-2)
+difference-spec = tie.close (tie.spec (λ c κs. search needs) (λ c. search needs) add-high returns returns-2)

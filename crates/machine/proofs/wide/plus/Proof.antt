@@ -6,12 +6,6 @@ use Rattle.machine.proofs.Exact.{carry-fits}
 use Rattle.machine.proofs.wide.plus.Statement.{statement}
 use Rattle.machine.proofs.wide.plus.Tie as tie
 
-add64-requires : tie.Need-add64-requires
-add64-requires c κs = search needs
-
-cast-t4 : tie.Need-cast-t4
-cast-t4 c = search needs
-
 add-t5 : tie.Need-add-t5
 add-t5 c =
     let s = c .before .before .before in
@@ -23,4 +17,4 @@ returns c =
     omega (arith, added-number 64 _ (sum .result .word) (sum .result .carry) (sum .ensures) (omega arith))
 
 pub plus-spec : {M : Type 1} → statement M
-plus-spec = tie.close (tie.spec add64-requires cast-t4 add-t5 returns)
+plus-spec = tie.close (tie.spec (λ c κs. search needs) (λ c. search needs) add-t5 returns)
