@@ -6,27 +6,11 @@ use borrow.Author.Needs.{needs}
 use Rattle.machine_main.proofs.searches.find.Statement.{statement}
 use Rattle.machine_main.proofs.searches.find.Tie as tie
 
-check-cells-requires : tie.Need-check-cells-requires
-check-cells-requires c κs = search needs
-
-enum-told : tie.Need-enum-told
-enum-told c = search needs
-
 find-cell-requires : tie.Need-find-cell-requires
 find-cell-requires c κs =
     searchable-of _ _ _
     (accepted-of _ _ _ (sym (c .before .before .check-cells .ensures) ∙ ap verdict (c .enum-told .given .1)))
 
-enum-told-2 : tie.Need-enum-told-2
-enum-told-2 c = search needs
-
-returns : tie.Need-returns
-returns c = search needs
-
-returns-2 : tie.Need-returns-2
-returns-2 c = search needs
-
 pub find-spec : {M : Type 1} → statement M
 find-spec =
-    tie.close
-    (tie.spec check-cells-requires enum-told find-cell-requires enum-told-2 returns returns-2)
+    tie.close (tie.spec (λ c κs. search needs) (λ c. search needs) find-cell-requires (λ c. search needs) (λ c. search needs) (λ c. search needs))
