@@ -2,7 +2,6 @@
 
 mod addressing;
 mod cells;
-mod destination;
 mod reg;
 mod wide;
 mod xmm;
@@ -13,8 +12,6 @@ pub use addressing::register_address;
 pub use cells::cell_of;
 pub use cells::check_cells;
 pub use cells::find_cell;
-pub use destination::valid_dst;
-pub use destination::writable_register;
 pub use reg::Reg;
 pub use xmm::set_xmm;
 pub use xmm::xmm_at;

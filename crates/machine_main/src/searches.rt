@@ -1,11 +1,10 @@
-// Finding cells, by address and by operand, and the destination rule. The expected answers are by hand.
+// Finding cells, by address and by operand. The expected answers are by hand.
 
 use crate::tally::Tally;
 use crate::tally::counted;
 use machine::Checked;
 use machine::Found;
 use machine::Maddr;
-use machine::Operand;
 use machine::Reg;
 ghost use Rattle.machine.specs.Operands.{NamesRegisters};
 
@@ -190,23 +189,4 @@ pub fn empties(t: Tally) -> Tally {
     let t = counted(t, is_found(find(&[], &[], &[], TOP), Found::Nothing));
     let got = named(Maddr::MConst(0), &[], &[], &[]);
     counted(t, is_found(got, Found::Nothing))
-}
-
-fn register(t: Tally, r: Reg, expected: bool) -> Tally {
-    let t = counted(t, machine::writable_register(r.number) == expected);
-    counted(t, machine::valid_dst(Operand::OReg(r)) == expected)
-}
-
-pub fn destinations(t: Tally) -> Tally {
-    let t = register(t, Reg::RAX, true);
-    let t = register(t, Reg::RSI, true);
-    let t = register(t, Reg::RBP, true);
-    let t = register(t, Reg::RSP, false);
-    let t = register(t, Reg::R8, true);
-    let t = register(t, Reg::R15, true);
-    let t = counted(t, !machine::valid_dst(Operand::OConst(7)));
-    counted(
-        t,
-        machine::valid_dst(Operand::OMem(Maddr::MReg(Reg::RSP, 0))),
-    )
 }
