@@ -71,14 +71,14 @@ fn read_operands(code: &[u8], end: usize, from: usize, count: usize) -> Reach
     let mut at = from;
     let mut left = count;
     while left != 0 {
-        let step = read_operand(code, end, at);
-        match step {
+        let read = read_operand(code, end, at);
+        match read {
             Reach::Next(next) => {
                 at = next;
                 left -= 1;
             }
             _ => {
-                return step;
+                return read;
             }
         }
     }
@@ -207,14 +207,14 @@ fn read_part(code: &[u8], end: usize, at: usize, depth: usize) -> Reach
     requires { ⌜ end ≤ length (now code) ⌝ }
     ensures { λ r. ⌜ reach r ≡ reached (read-part (read-code depth (now (code .entry))) end at) ⌝ }
 {
-    let step = read_code(code, end, at, depth);
-    let Reach::Next(next) = step else {
-        return step;
+    let read = read_code(code, end, at, depth);
+    let Reach::Next(next) = read else {
+        return read;
     };
     if next != end {
         return Reach::Trouble(6, next);
     }
-    step
+    read
 }
 
 fn read_codes(code: &[u8], end: usize, from: usize, depth: usize) -> Reach
@@ -223,13 +223,13 @@ fn read_codes(code: &[u8], end: usize, from: usize, depth: usize) -> Reach
 {
     let mut at = from;
     while at < end {
-        let step = read_code(code, end, at, depth);
-        match step {
+        let read = read_code(code, end, at, depth);
+        match read {
             Reach::Next(next) => {
                 at = next;
             }
             _ => {
-                return step;
+                return read;
             }
         }
     }
@@ -246,8 +246,8 @@ pub fn check_code(code: &[u8]) -> Checked
     if 16384 < len {
         return Checked::Refused(1, 0);
     }
-    let step = read_part(code, len, 0, 32);
-    match step {
+    let read = read_part(code, len, 0, 32);
+    match read {
         Reach::Next(_) => Checked::Accepted,
         Reach::Trouble(number, place) => Checked::Refused(number, place),
     }

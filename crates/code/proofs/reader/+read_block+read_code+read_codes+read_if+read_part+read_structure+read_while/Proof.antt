@@ -92,10 +92,10 @@ abbrev μ-loop : read-codes-lts.MeasureT-loop
 
 codes-less : (t : ℕ) → read-codes-lts.Need-loop-less (codes-claims t) (at of-part read-codes.Pre t) read-codes.Post Inv-loop μ-loop
 codes-less t c =
-    let read = c .before .before .before in
-    let test = read .before in
+    let code = c .before .before .before in
+    let test = code .before in
     let l = test .before .loop in
-    omega (arith, codes-past _ _ _ _ _ (l .inv) (test .loop-test .taken) _ (read .read-code .ensures) _ (c .before .step .given .1))
+    omega (arith, codes-past _ _ _ _ _ (l .inv) (test .loop-test .taken) _ (code .read-code .ensures) _ (c .before .read .given .1))
 
 codes-meets : {M : Type 1} (t : ℕ) → read-codes-lts.Closed (codes-claims t) (at of-part read-codes.Pre t) read-codes.Post M
 codes-meets t =
