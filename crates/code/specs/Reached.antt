@@ -1,11 +1,20 @@
--- What the functions of the reader answer: where a reading goes on, without the tree that it has read.
-use Prim.Native.Nat.{ℕ}
+-- What the functions of the reader ask, and what they answer: where a reading goes on, without the tree that it has read.
+use Prim.Native.Nat.{ℕ, _≤_, _<_}
+use mathlib.Core.Path.{_≡_}
+use mathlib.Core.Bool.{Bool, true}
 use mathlib.Core.List.{List}
+use lib.ListN.{length}
 use Rattle.code.specs.Records.{operand-count, register-fields, byte-at, behind}
 use Rattle.code.specs.Tree.{Code}
 use Rattle.code.specs.Reader.{Read, got, trouble, followed, with-body, with-fields, read-operands, read-structure, read-code}
 use Rattle.code.specs.declared.reader.Reach.{Reach}
 use Rattle.code.specs.declared.reader.Reach.the-variants.{Next, Trouble}
+
+-- a record of an allowed kind begins at `at`, in the part that ends at e
+pub record Begins (allowed : ℕ → Bool) (bs : List ℕ) (e at : ℕ) : Type 0 where
+  pub in-part : at < e
+  pub inside : e ≤ length bs
+  pub kind : allowed (byte-at bs at) ≡ true
 
 -- a reading without what was read
 unfoldable pub reached : {A : Type 0} → Read A → Read (Unit {0})

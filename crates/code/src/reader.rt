@@ -1,14 +1,13 @@
 // Checking code: reading goes front to back and stops at the first trouble. A code reads its parts
 // and a part reads its codes.
 ghost use mathlib.Core.Path.{_≡_};
-ghost use mathlib.Core.Bool.{true};
-ghost use Prim.Native.Nat.{_+_, _-_, _<_, _≤_};
+ghost use Prim.Native.Nat.{_+_, _-_, _≤_};
 ghost use lib.ListN.{length};
 ghost use Rattle.machine.specs.Cells.{verdict};
-ghost use Rattle.code.specs.Records.{byte-at, is-operand, is-structure};
+ghost use Rattle.code.specs.Records.{is-operand, is-structure};
 ghost use Rattle.code.specs.Kinds.{is-used};
 ghost use Rattle.code.specs.Reader.{read-record, read-operands, read-ocmp, read-part, read-codes, read-block, read-if, read-while, read-code, check-code};
-ghost use Rattle.code.specs.Reached.{reach, reached, rest-of-record, rest-of-all, structure-of};
+ghost use Rattle.code.specs.Reached.{Begins, reach, reached, rest-of-record, rest-of-all, structure-of};
 use crate::kinds::Class;
 use crate::kinds::body_length;
 use crate::kinds::class_of;
@@ -25,7 +24,7 @@ pub enum Reach {
 
 // The body of the record at `at`, whose kind is used.
 fn read_body(code: &[u8], end: usize, at: usize) -> Reach
-    requires { ⌜ (at < end) × (end ≤ length (now code)) × (is-used (byte-at (now code) at) ≡ true) ⌝ }
+    requires { ⌜ Begins is-used (now code) end at ⌝ }
     ensures { λ r. ⌜ reach r ≡ rest-of-record (now (code .entry)) end at ⌝ }
 {
     let kind = code[at];
@@ -87,7 +86,7 @@ fn read_operands(code: &[u8], end: usize, from: usize, count: usize) -> Reach
 
 // The body and the operands of the record at `at`, whose kind is used.
 fn read_rest(code: &[u8], end: usize, at: usize) -> Reach
-    requires { ⌜ (at < end) × (end ≤ length (now code)) × (is-used (byte-at (now code) at) ≡ true) ⌝ }
+    requires { ⌜ Begins is-used (now code) end at ⌝ }
     ensures { λ r. ⌜ reach r ≡ rest-of-all (now (code .entry)) end at ⌝ }
 {
     let body = read_body(code, end, at);
@@ -138,7 +137,7 @@ fn read_code(code: &[u8], end: usize, at: usize, depth: usize) -> Reach
 }
 
 fn read_structure(code: &[u8], end: usize, at: usize, depth: usize) -> Reach
-    requires { ⌜ (at < end) × (end ≤ length (now code)) × (is-structure (byte-at (now code) at) ≡ true) ⌝ }
+    requires { ⌜ Begins is-structure (now code) end at ⌝ }
     ensures { λ r. ⌜ reach r ≡ reached (structure-of depth (now (code .entry)) end at) ⌝ }
 {
     let kind = code[at];
