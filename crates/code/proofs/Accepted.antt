@@ -1,38 +1,25 @@
 -- Every tree that bytes spell is well formed: its fields are bytes, numbers of eight bytes, and registers that were checked.
 -- Assumes nothing.
 use Prim.Native.Nat.{ℕ, zero, suc, _+_, _-_, _*_, _^_, _≤_, _<_}
-use mathlib.Core.Path.{_≡_, refl, ap, subst}
+use mathlib.Core.Path.{_≡_, refl, ap, _∙_}
 use mathlib.Core.Bool.{Bool, true, false, cond}
-use mathlib.Core.List.{List, _∷_}
-use mathlib.Core.Logic.{⊎-elim}
-use native.Mathlib.Nat.{eq-or-lt-of-le}
+use mathlib.Core.List.{List, [], _∷_}
 use native.Mathlib.Omega.{arith}
 use borrow.Author.Tests.{ltb-true, ltb-false}
 use lib.Dec.{ltb}
 use lib.IntN.{pos, negsuc}
-use lib.ListN.{length}
+use lib.ListN.{length, getD}
+use Rattle.code.specs.Layout.{Byte, number, amount, numbers-from, shape}
 use Rattle.code.specs.Tree.{Code, Ins, Block, IfElse, While, Codes, ⟨⟩, _∷ᶜ_}
-use Rattle.code.specs.Records.{is-ins, is-ocmp, is-operand, body-length, operand-count, register-fields, byte-at, number-at, signed-at, operand-at, operands-at, behind, ins-at, ocmp-at}
+use Rattle.code.specs.Records.{is-ins, is-ocmp, is-operand, body-length, operand-count, register-fields, byte-at, number-at, signed-at, operand-at, behind, bytes-at, operands-at, ins-at, ocmp-at}
 use Rattle.code.specs.Reader.{got, parse}
 use Rattle.code.specs.Spells.{Fields, IsRecord, Operands, Stands, Spells, SpellsAll}
 use Rattle.code.specs.WellFormed.{Bytes, Signed, WfOperand, WfIns, WfOcmp, WfCode, WfCodes}
 use Rattle.code.proofs.Passing.{between-true}
 use Rattle.code.proofs.NumberLaws.{number-lt}
+use Rattle.code.proofs.KindLaws.{each, _▹_}
+use Rattle.code.proofs.Layouts.{ins-body, ins-fields, like, firsts, ins-laid, ocmp-laid, WfBytes, WfOperands, bounded}
 use Rattle.code.proofs.Sound.{parse-sound}
-
--- what holds of n numbers from low on
-abbrev pub Each : (ℕ → Type 0) → ℕ → ℕ → Type 0
-Each P low zero = Unit {0}
-Each P low (suc n) = P low × Each P (suc low) n
-
-pub _▹_ : {A B : Type 0} → A → B → A × B
-a ▹ b = (a, b)
-
-infixr 5 _▹_
-pub each : (P : ℕ → Type 0) (n low : ℕ) → Each P low n → (k : ℕ) → low ≤ k → k < low + n → P k
-each P zero low h k l m = absurd (omega arith)
-each P (suc n) low h k l m =
-    ⊎-elim (λ e. subst P e (h .0)) (λ e. each P n (suc low) (h .1) k (omega arith) (omega arith)) (eq-or-lt-of-le l)
 
 -- numbers of bytes
 module _ (bs : List ℕ) (bytes : Bytes bs) where
@@ -72,95 +59,64 @@ module _ (bs : List ℕ) (bytes : Bytes bs) where
       let k = between-true 0x40 0x44 (byte-at bs at) (s .kind) in
       operand-forms-wf at (byte-at bs at) (k .0) (omega (arith, k .1)) refl (s .fields)
 
-  pub operands-wf : (n at e : ℕ) → Operands n bs at e → (i : ℕ) → i < n → WfOperand (operands-at bs at i)
+  pub operands-wf : (n at e : ℕ) → Operands n bs at e → WfOperands (operands-at n bs at)
   unfolding operands-at
-  operands-wf zero at e s i l = absurd (omega arith)
-  operands-wf (suc n) at e s zero l = operand-wf at e (s .0)
-  operands-wf (suc n) at e s (suc i) l = operands-wf n (behind bs at) e (s .1) i (omega arith)
+  operands-wf zero at e s = tt
+  operands-wf (suc n) at e s = (operand-wf at e (s .0), operands-wf n (behind bs at) e (s .1))
 
-  first : (at : ℕ) → byte-at bs (at + 1 + 0) ≡ byte-at bs (at + 1)
-  first at = ap (byte-at bs) (omega arith)
+  -- byte i of those from a place on
+  byte-of : (n p i : ℕ) → i < n → getD (bytes-at n bs p) i 0 ≡ byte-at bs (p + i)
+  byte-of zero p i l = absurd (omega arith)
+  byte-of (suc n) p zero l = ap (byte-at bs) (omega arith)
+  byte-of (suc n) p (suc i) l = byte-of n (p + 1) i (omega arith) ∙ ap (byte-at bs) (omega arith)
 
-  second : (at : ℕ) → byte-at bs (at + 1 + 1) ≡ byte-at bs (at + 2)
-  second at = ap (byte-at bs) (omega arith)
+  -- a body of some sorts of bytes, the first at f from the kind byte
+  body-wf :
+      (at : ℕ) (sorts : List Byte) (f : ℕ) (b : ℕ → ℕ) → ((i : ℕ) → i < length sorts → b i ≡ byte-at bs (at + f + i)) →
+      Fields (numbers-from f sorts) bs at → WfBytes (like sorts b)
+  body-wf at [] f b is h = tt
+  body-wf at (number n ∷ sorts) f b is h = (omega (arith, is 0 (omega arith), here, h .0), body-wf at sorts (suc f) _ later (h .1))
+    where
+      here : byte-at bs (at + f + 0) ≡ byte-at bs (at + f)
+      here = ap (byte-at bs) (omega arith)
 
-  -- an instruction, by its kind: its body's bytes, and its operands
-  abbrev InsWf : ℕ → ℕ → Type 0
-  InsWf at k =
-      byte-at bs at ≡ k →
-      Fields (register-fields k) bs at →
-      ((i : ℕ) → i < operand-count k → WfOperand (operands-at bs (behind bs at) i)) →
-      WfIns (ins-at bs at)
+      later : (i : ℕ) → i < length sorts → b (suc i) ≡ byte-at bs (at + suc f + i)
+      later i l = is (suc i) (omega arith) ∙ ap (byte-at bs) (omega arith)
+  body-wf at (amount n ∷ sorts) f b is h = (rw (is 0 (omega arith)) (bytes (at + f + 0)), body-wf at sorts (suc f) _ later h)
+    where
+      later : (i : ℕ) → i < length sorts → b (suc i) ≡ byte-at bs (at + suc f + i)
+      later i l = is (suc i) (omega arith) ∙ ap (byte-at bs) (omega arith)
 
-  ins-forms-wf : (at k : ℕ) → 0x01 ≤ k → k < 0x19 → InsWf at k
-  unfolding ins-at register-fields operand-count WfIns
-  ins-forms-wf at =
-      each (InsWf at) 24 0x01
-      ((λ h f o. rw h (o 0 (omega arith), o 1 (omega arith)))
-      ▹ (λ h f o. rw h (o 0 (omega arith), o 1 (omega arith)))
-      ▹ (λ h f o. rw h (o 0 (omega arith), o 1 (omega arith), o 2 (omega arith)))
-      ▹ (λ h f o. rw h (o 0 (omega arith), o 1 (omega arith)))
-      ▹ (λ h f o. rw h (o 0 (omega arith), o 1 (omega arith)))
-      ▹ (λ h f o. rw h (o 0 (omega arith), o 1 (omega arith)))
-      ▹ (λ h f o. rw h (o 0 (omega arith), o 1 (omega arith)))
-      ▹ (λ h f o. rw h (o 0 (omega arith)))
-      ▹ (λ h f o. rw h (o 0 (omega arith), o 1 (omega arith), o 2 (omega arith)))
-      ▹ (λ h f o. rw h (o 0 (omega arith), o 1 (omega arith)))
-      ▹ (λ h f o. rw h (o 0 (omega arith), o 1 (omega arith)))
-      ▹ (λ h f o. rw h (o 0 (omega arith), o 1 (omega arith)))
-      ▹ (λ h f o. rw h (o 0 (omega arith), o 1 (omega arith)))
-      ▹ (λ h f o. rw h (o 0 (omega arith), o 1 (omega arith)))
-      ▹ (λ h f o. rw h (omega (arith, f .0, first at), omega (arith, f .1 .0, second at)))
-      ▹ (λ h f o. rw h (omega (arith, f .0, first at), omega (arith, f .1 .0, second at)))
-      ▹ (λ h f o. rw h (omega (arith, f .0, first at), bytes (at + 1 + 1)))
-      ▹ (λ h f o. rw h (omega (arith, f .0, first at), bytes (at + 1 + 1)))
-      ▹ (λ h f o. rw h (omega (arith, f .0, first at), omega (arith, f .1 .0, second at), bytes (at + 1 + 2)))
-      ▹ (λ h f o. rw h (omega (arith, f .0, first at), omega (arith, f .1 .0, second at)))
-      ▹ (λ h f o. rw h (o 0 (omega arith), omega (arith, f .0, first at), bytes (at + 1 + 1)))
-      ▹ (λ h f o. rw h (omega (arith, f .0, first at), o 0 (omega arith), bytes (at + 1 + 1)))
-      ▹ (λ h f o. rw h (omega (arith, f .0, first at), o 0 (omega arith), bytes (at + 1 + 1)))
-      ▹ (λ h f o. rw h (omega (arith, f .0, first at), omega (arith, f .1 .0, second at), bytes (at + 1 + 2)))
-      ▹ tt)
+  -- as many operands as the kind has
+  firsts-are : (n at : ℕ) → firsts n (operands-at n bs at) ≡ operands-at n bs at
+  unfolding operands-at
+  firsts-are zero at = refl
+  firsts-are (suc n) at = ap (λ os. operand-at bs at ∷ os) (firsts-are n (behind bs at))
+
+  firsts-wf : (n at e : ℕ) → Operands n bs at e → WfOperands (firsts n (operands-at n bs at))
+  firsts-wf n at e s = rw (firsts-are n at) (operands-wf n at e s)
 
   pub ins-wf : (at e : ℕ) → Stands is-ins bs at e → WfIns (ins-at bs at)
+  unfolding WfIns ins-at
   ins-wf at e s =
-      let k = between-true 0x01 0x18 (byte-at bs at) (s .head .kind) in
-      ins-forms-wf at (byte-at bs at) (k .0) (omega (arith, k .1)) refl (s .head .fields)
-      (operands-wf (operand-count (byte-at bs at)) (behind bs at) e (s .operands))
-
-  abbrev OcmpWf : ℕ → ℕ → Type 0
-  OcmpWf at k =
-      byte-at bs at ≡ k →
-      ((i : ℕ) → i < operand-count k → WfOperand (operands-at bs (behind bs at) i)) →
-      WfOcmp (ocmp-at bs at)
-
-  -- a comparison has no body
-  no-body : (at k : ℕ) → 0x30 ≤ k → k < 0x36 → byte-at bs at ≡ k → behind bs at ≡ at + 1
-  unfolding behind body-length
-  no-body at =
-      each (λ k. byte-at bs at ≡ k → behind bs at ≡ at + 1) 6 0x30
-      ((λ h. rw h (omega arith)) ▹ (λ h. rw h (omega arith)) ▹ (λ h. rw h (omega arith)) ▹ (λ h. rw h (omega arith)) ▹ (λ h. rw h (omega arith)) ▹ (λ h. rw h (omega arith)) ▹ tt)
-
-  ocmp-forms-wf : (at k : ℕ) → 0x30 ≤ k → k < 0x36 → OcmpWf at k
-  unfolding ocmp-at operand-count WfOcmp
-  ocmp-forms-wf at k l m h o =
-      each
-      (λ k. byte-at bs at ≡ k → ((i : ℕ) → i < operand-count k → WfOperand (operands-at bs (at + 1) i)) → WfOcmp (ocmp-at bs at))
-      6 0x30
-      ((λ h o. rw h (o 0 (omega arith), o 1 (omega arith)))
-      ▹ (λ h o. rw h (o 0 (omega arith), o 1 (omega arith)))
-      ▹ (λ h o. rw h (o 0 (omega arith), o 1 (omega arith)))
-      ▹ (λ h o. rw h (o 0 (omega arith), o 1 (omega arith)))
-      ▹ (λ h o. rw h (o 0 (omega arith), o 1 (omega arith)))
-      ▹ (λ h o. rw h (o 0 (omega arith), o 1 (omega arith)))
-      ▹ tt)
-      k l m h (rw (← no-body at k l m h) o)
+      let k = byte-at bs at in
+      let is = s .head .kind in
+      let size = ins-body k is in
+      let sorts = shape k .body in
+      let body = bytes-at (body-length k) bs (at + 1) in
+      let count = operand-count k in
+      let os = operands-at count bs (behind bs at) in
+      let b : ℕ → ℕ = λ i. getD body i 0 in
+      let body-fits = body-wf at sorts 1 b (λ i l. byte-of (body-length k) (at + 1) i (omega arith)) (rw (ins-fields k is) at (s .head .fields)) in
+      rw (ins-laid k body os is) (bounded k (like sorts b) (firsts count os) body-fits (firsts-wf count (behind bs at) e (s .operands)))
 
   pub ocmp-wf : (at e : ℕ) → Stands is-ocmp bs at e → WfOcmp (ocmp-at bs at)
+  unfolding WfOcmp ocmp-at
   ocmp-wf at e s =
-      let k = between-true 0x30 0x35 (byte-at bs at) (s .head .kind) in
-      ocmp-forms-wf at (byte-at bs at) (k .0) (omega (arith, k .1)) refl
-      (operands-wf (operand-count (byte-at bs at)) (behind bs at) e (s .operands))
+      let k = byte-at bs at in
+      let count = operand-count k in
+      let os = operands-at count bs (behind bs at) in
+      rw (ocmp-laid k [] os (s .head .kind)) (bounded k [] (firsts count os) tt (firsts-wf count (behind bs at) e (s .operands)))
 
   mutual
     unfolding Spells SpellsAll WfCode WfCodes

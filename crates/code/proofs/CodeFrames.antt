@@ -1,40 +1,37 @@
 -- What the bytes of a comparison and of a code say, whichever code it is. Assumes nothing.
 use Prim.Native.Nat.{ℕ, _+_, _-_, _≤_, _<_}
-use mathlib.Core.Path.{_≡_, refl, subst}
+use mathlib.Core.Path.{_≡_, refl}
 use mathlib.Core.Bool.{true}
-use mathlib.Core.List.{List, _∷_}
+use mathlib.Core.List.{List, [], _∷_}
 use native.Mathlib.Omega.{arith}
 use lib.ListN.{length}
 use Rattle.code.specs.declared.tree.Ocmp.{Ocmp}
 use Rattle.code.specs.declared.tree.Ocmp.the-variants.{OEq, ONe, OLe, OGe, OLt, OGt}
 use Rattle.code.specs.Tree.{Code, Ins, Block, IfElse, While, Codes, ⟨⟩, _∷ᶜ_}
-use Rattle.code.specs.Records.{is-ins, is-ocmp, body-length, operand-count, byte-at, number-at, operand-at, operands-at, behind, ins-at, ocmp-at}
+use Rattle.code.specs.Layout.{ocmp-of}
+use Rattle.code.specs.Records.{is-ins, is-ocmp, operand-count, byte-at, number-at, operand-at, behind, operands-at, ins-at, ocmp-at}
 use Rattle.code.specs.Spells.{Operands, Stands, Spells, SpellsAll}
 use Rattle.code.proofs.Passing.{between-true}
 use Rattle.code.proofs.Sound.{stands-past}
 use Rattle.code.proofs.Complete.{code-past, codes-le}
-use Rattle.code.proofs.Accepted.{each, _▹_}
+use Rattle.code.proofs.Layouts.{ocmp-counts}
 use Rattle.code.proofs.Frames.{TwoOperands, two-operands}
 
 -- a comparison: no body, two operands
-ocmp-counts : (bs : List ℕ) (at k : ℕ) → 0x30 ≤ k → k < 0x36 → byte-at bs at ≡ k → (behind bs at ≡ at + 1) × (operand-count (byte-at bs at) ≡ 2)
-unfolding behind body-length operand-count
-ocmp-counts bs at =
-    each (λ k. byte-at bs at ≡ k → (behind bs at ≡ at + 1) × (operand-count (byte-at bs at) ≡ 2)) 6 0x30
-    ((λ h. (rw h (omega arith), rw h))
-    ▹ (λ h. (rw h (omega arith), rw h))
-    ▹ (λ h. (rw h (omega arith), rw h))
-    ▹ (λ h. (rw h (omega arith), rw h))
-    ▹ (λ h. (rw h (omega arith), rw h))
-    ▹ (λ h. (rw h (omega arith), rw h))
-    ▹ tt)
+module _ (bs : List ℕ) (at m : ℕ) (s : Stands is-ocmp bs at m) where
+  no-body : behind bs at ≡ at + 1
+  unfolding behind
+  no-body = omega (arith, ocmp-counts (byte-at bs at) (s .head .kind) .0)
 
-pub ocmp-operands : (bs : List ℕ) (at m : ℕ) → Stands is-ocmp bs at m → Operands 2 bs (at + 1) m
-ocmp-operands bs at m s =
-    let k = between-true 0x30 0x35 (byte-at bs at) (s .head .kind) in
-    let w = ocmp-counts bs at (byte-at bs at) (k .0) (omega (arith, k .1)) refl in
-    subst (λ (n : ℕ). Operands n bs (at + 1) m) (w .1)
-    (subst (λ (n : ℕ). Operands (operand-count (byte-at bs at)) bs n m) (w .0) (s .operands))
+  two : operand-count (byte-at bs at) ≡ 2
+  two = ocmp-counts (byte-at bs at) (s .head .kind) .1
+
+  pub ocmp-operands : Operands 2 bs (at + 1) m
+  ocmp-operands = rw (two, no-body) at (s .operands)
+
+  says : ocmp-at bs at ≡ ocmp-of (byte-at bs at) (operand-at bs (at + 1) ∷ operand-at bs (behind bs (at + 1)) ∷ [])
+  unfolding ocmp-at operands-at
+  says = rw (two, no-body)
 
 pub record OcmpFrame (bs : List ℕ) (at m : ℕ) : Type 0 where
   pub starts : at < length bs
@@ -49,18 +46,18 @@ pub record OcmpFrame (bs : List ℕ) (at m : ℕ) : Type 0 where
   pub high : byte-at bs at ≤ 0x35
 
 pub ocmp-frame : (bs : List ℕ) (at m : ℕ) → Stands is-ocmp bs at m → m ≤ length bs → OcmpFrame bs at m
-unfolding ocmp-at operands-at
 ocmp-frame bs at m s l =
     let k = between-true 0x30 0x35 (byte-at bs at) (s .head .kind) in
+    let is = says bs at m s in
     record {
       starts = omega (arith, stands-past is-ocmp bs at m s);
       operands = two-operands bs (at + 1) m l (ocmp-operands bs at m s);
-      eq = λ h. rw h;
-      ne = λ h. rw h;
-      le = λ h. rw h;
-      ge = λ h. rw h;
-      lt = λ h. rw h;
-      gt = λ h. rw h;
+      eq = λ h. rw h at is;
+      ne = λ h. rw h at is;
+      le = λ h. rw h at is;
+      ge = λ h. rw h at is;
+      lt = λ h. rw h at is;
+      gt = λ h. rw h at is;
       low = k .0;
       high = k .1;
     }

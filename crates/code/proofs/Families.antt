@@ -14,7 +14,7 @@ use Rattle.code.specs.Records.{between, is-ins, body-length, operand-cou
 use Rattle.code.specs.Spells.{Fields, Operands, OperandsFrom, Stands}
 use Rattle.code.specs.Families.{at-kind, is-two, two-ins, quads-ins, shifts-ins, inserts-ins}
 use Rattle.code.proofs.Passing.{between-true, never}
-use Rattle.code.proofs.Accepted.{each, _▹_}
+use Rattle.code.proofs.KindLaws.{each, _▹_}
 use Rattle.code.proofs.Frames.{inside}
 
 -- ---- which kinds are whose
@@ -194,14 +194,14 @@ module _ (bs : List ℕ) (at e : ℕ) (st : Stands is-ins bs at e) (l : e ≤ le
   mulx-stood q = plain 0x09 3 _ q refl refl (λ b. rw (b, q))
 
   -- ---- a body of bytes: the first is an xmm number, and in some the second
-  first : at + 1 + 0 ≡ at + 1
-  first = omega arith
-
   second : at + 1 + 1 ≡ at + 2
   second = omega arith
 
   third : at + 1 + 2 ≡ at + 3
   third = omega arith
+
+  next : at + 2 + 1 ≡ at + 3
+  next = omega arith
 
   abbrev byte : ℕ → ℕ
   byte i = byte-at bs (at + i)
@@ -234,39 +234,39 @@ module _ (bs : List ℕ) (at e : ℕ) (st : Stands is-ins bs at e) (l : e ≤ le
   unfolding quads-ins ins-at body-length operand-count register-fields
   quads-stood k (inl e) q =
       let p = q ∙ e in
-      rw e (two-xmms 0x0f 2 0 (at + 3) _ p refl refl third (registers 0x0f p) (λ _. rw (p, first, second)))
+      rw e (two-xmms 0x0f 2 0 (at + 3) _ p refl refl third (registers 0x0f p) (λ _. rw (p, second)))
   quads-stood k (inr (inl e)) q =
       let p = q ∙ e in
-      rw e (two-xmms 0x10 2 0 (at + 3) _ p refl refl third (registers 0x10 p) (λ _. rw (p, first, second)))
+      rw e (two-xmms 0x10 2 0 (at + 3) _ p refl refl third (registers 0x10 p) (λ _. rw (p, second)))
   quads-stood k (inr (inr e)) q =
       let p = q ∙ e in
-      rw e (two-xmms 0x14 2 0 (at + 3) _ p refl refl third (registers 0x14 p) (λ _. rw (p, first, second)))
+      rw e (two-xmms 0x14 2 0 (at + 3) _ p refl refl third (registers 0x14 p) (λ _. rw (p, second)))
 
   pub shifts-stood : (k : ℕ) → 0x11 ≤ k → k < 0x13 → byte-at bs at ≡ k → OneXmm (shifts-ins k (byte 1) (byte 2)) 0 (at + 3)
   unfolding shifts-ins ins-at body-length operand-count register-fields
   shifts-stood =
       each (λ (k : ℕ). byte-at bs at ≡ k → OneXmm (shifts-ins k (byte 1) (byte 2)) 0 (at + 3)) 2 0x11
-      ((λ q. one-xmm 0x11 2 0 (at + 3) _ q refl refl third (registers 0x11 q .0) (λ _. rw (q, first, second)))
-      ▹ (λ q. one-xmm 0x12 2 0 (at + 3) _ q refl refl third (registers 0x12 q .0) (λ _. rw (q, first, second)))
+      ((λ q. one-xmm 0x11 2 0 (at + 3) _ q refl refl third (registers 0x11 q .0) (λ _. rw (q, second)))
+      ▹ (λ q. one-xmm 0x12 2 0 (at + 3) _ q refl refl third (registers 0x12 q .0) (λ _. rw (q, second)))
       ▹ tt)
 
   pub shuffle-stood : byte-at bs at ≡ 0x13 → TwoXmms (Pshufd (byte 1) (byte 2) (byte 3)) 0 (at + 4)
   unfolding ins-at body-length operand-count register-fields
-  shuffle-stood q = two-xmms 0x13 3 0 (at + 4) _ q refl refl (omega arith) (registers 0x13 q) (λ _. rw (q, first, second, third))
+  shuffle-stood q = two-xmms 0x13 3 0 (at + 4) _ q refl refl (omega arith) (registers 0x13 q) (λ _. rw (q, second, next))
 
   pub word-shift-stood : byte-at bs at ≡ 0x18 → TwoXmms (VPSLLDQ (byte 1) (byte 2) (byte 3)) 0 (at + 4)
   unfolding ins-at body-length operand-count register-fields
-  word-shift-stood q = two-xmms 0x18 3 0 (at + 4) _ q refl refl (omega arith) (registers 0x18 q) (λ _. rw (q, first, second, third))
+  word-shift-stood q = two-xmms 0x18 3 0 (at + 4) _ q refl refl (omega arith) (registers 0x18 q) (λ _. rw (q, second, next))
 
   pub extract-stood : byte-at bs at ≡ 0x15 → OneXmm (Pextrq (operand-at bs (at + 3)) (byte 1) (byte 2)) 1 (at + 3)
   unfolding ins-at operands-at body-length operand-count register-fields
-  extract-stood q = one-xmm 0x15 2 1 (at + 3) _ q refl refl third (registers 0x15 q .0) (λ b. rw (q, b, first, second))
+  extract-stood q = one-xmm 0x15 2 1 (at + 3) _ q refl refl third (registers 0x15 q .0) (λ b. rw (q, b, second))
 
   pub inserts-stood :
       (k : ℕ) → 0x16 ≤ k → k < 0x18 → byte-at bs at ≡ k → OneXmm (inserts-ins k (byte 1) (operand-at bs (at + 3)) (byte 2)) 1 (at + 3)
   unfolding inserts-ins ins-at operands-at body-length operand-count register-fields
   inserts-stood =
       each (λ (k : ℕ). byte-at bs at ≡ k → OneXmm (inserts-ins k (byte 1) (operand-at bs (at + 3)) (byte 2)) 1 (at + 3)) 2 0x16
-      ((λ q. one-xmm 0x16 2 1 (at + 3) _ q refl refl third (registers 0x16 q .0) (λ b. rw (q, b, first, second)))
-      ▹ (λ q. one-xmm 0x17 2 1 (at + 3) _ q refl refl third (registers 0x17 q .0) (λ b. rw (q, b, first, second)))
+      ((λ q. one-xmm 0x16 2 1 (at + 3) _ q refl refl third (registers 0x16 q .0) (λ b. rw (q, b, second)))
+      ▹ (λ q. one-xmm 0x17 2 1 (at + 3) _ q refl refl third (registers 0x17 q .0) (λ b. rw (q, b, second)))
       ▹ tt)

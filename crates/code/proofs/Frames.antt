@@ -13,7 +13,7 @@ use Rattle.code.specs.Spells.{Fields, IsRecord, OperandBytes, Operands}
 use Rattle.code.proofs.Passing.{between-true}
 use Rattle.code.proofs.Sound.{behind-past}
 use Rattle.code.proofs.Complete.{behind-structure}
-use Rattle.code.proofs.Accepted.{each, _▹_}
+use Rattle.code.proofs.KindLaws.{each, _▹_}
 
 -- what follows from each kind of operand follows
 pub by-kind :

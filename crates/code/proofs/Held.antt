@@ -1,4 +1,4 @@
--- Bytes that stand in a row, and the numbers and operands that they spell. Assumes nothing.
+-- Bytes that stand in a row, and the numbers, the operands and the body that they spell. Assumes nothing.
 use Prim.Native.Nat.{ℕ, zero, suc, _+_, _-_, _*_, _/_, _^_, _≤_, _<_}
 use mathlib.Core.Path.{_≡_, refl, sym, ap, subst, _∙_}
 use mathlib.Core.Bool.{true}
@@ -14,11 +14,13 @@ use Rattle.machine.specs.declared.Maddr.{Maddr}
 use Rattle.machine.specs.declared.Maddr.the-variants.{MConst, MReg, MIndex}
 use Rattle.machine.specs.declared.Operand.{Operand}
 use Rattle.machine.specs.declared.Operand.the-variants.{OConst, OReg, OMem}
-use Rattle.code.specs.Records.{is-operand, body-length, register-fields, byte-at, number-at, signed-at, operand-at, operands-at, behind}
+use Rattle.code.specs.Layout.{Byte, number, amount, values, numbers-from}
+use Rattle.code.specs.Records.{is-operand, body-length, register-fields, byte-at, number-at, signed-at, operand-at, behind, bytes-at, operands-at}
 use Rattle.code.specs.Spells.{Fields, Operands}
 use Rattle.code.specs.WellFormed.{Signed, WfMaddr, WfOperand}
 use Rattle.code.specs.Writer.{bytes-of, signed-bytes, bytes-of-maddr, bytes-of-operand, bytes-of-operands}
 use Rattle.code.proofs.NumberLaws.{number-is}
+use Rattle.code.proofs.Layouts.{WfBytes, WfOperands}
 use Rattle.code.proofs.Complete.{behind-structure}
 use Rattle.code.proofs.Sound.{operands-le}
 
@@ -157,12 +159,8 @@ module _ (bs : List ℕ) (at : ℕ) where
   operand-held (OMem m) h l = maddr-held m h l
 
 -- operands in a row
-abbrev pub WfAll : List Operand → Type 0
-WfAll [] = Unit {0}
-WfAll (o ∷ os) = WfOperand o × WfAll os
-
 pub operands-held :
-    (os : List Operand) (bs : List ℕ) (at : ℕ) → Holds bs at (bytes-of-operands os) → WfAll os →
+    (os : List Operand) (bs : List ℕ) (at : ℕ) → Holds bs at (bytes-of-operands os) → WfOperands os →
     Operands (length os) bs at (at + length (bytes-of-operands os))
 unfolding bytes-of-operands
 operands-held [] bs at h l = omega arith
@@ -179,14 +177,25 @@ operands-held (o ∷ os) bs at h l =
     (record { kind = s .kind; inside = operands-le (length os) bs (behind bs at) _ t; fields = s .fields }, t)
 
 pub operands-say :
-    (os : List Operand) (bs : List ℕ) (at : ℕ) → Holds bs at (bytes-of-operands os) → WfAll os →
-    (i : ℕ) → i < length os → operands-at bs at i ≡ getD os i (OConst 0)
+    (os : List Operand) (bs : List ℕ) (at : ℕ) → Holds bs at (bytes-of-operands os) → WfOperands os → operands-at (length os) bs at ≡ os
 unfolding bytes-of-operands operands-at
-operands-say [] bs at h l i m = absurd (omega arith)
-operands-say (o ∷ os) bs at h l zero m =
-    let w = split bs at (bytes-of-operand o) (bytes-of-operands os) h (at + length (bytes-of-operand o)) refl in
-    operand-held bs at o (w .0) (l .0) .says
-operands-say (o ∷ os) bs at h l (suc i) m =
+operands-say [] bs at h l = refl
+operands-say (o ∷ os) bs at h l =
     let w = split bs at (bytes-of-operand o) (bytes-of-operands os) h (at + length (bytes-of-operand o)) refl in
     let s = operand-held bs at o (w .0) (l .0) in
-    rw (s .ends) (operands-say os bs (at + length (bytes-of-operand o)) (w .1) (l .1) i (omega arith))
+    rw (s .says, s .ends, operands-say os bs (at + length (bytes-of-operand o)) (w .1) (l .1))
+
+-- the bytes of a body, and its register fields
+pub bytes-say : (xs bs : List ℕ) (at : ℕ) → Holds bs at xs → (x : ℕ) → at ≡ x → bytes-at (length xs) bs x ≡ xs
+bytes-say [] bs at h x e = refl
+bytes-say (b ∷ xs) bs at h x e =
+    let c : byte-at bs x ≡ b = ap (byte-at bs) (sym e) ∙ h .0 in
+    rw (c, bytes-say xs bs (suc at) (h .1) (x + 1) (omega arith))
+
+pub fields-held :
+    (bytes : List Byte) (f : ℕ) (bs : List ℕ) (at x : ℕ) → Holds bs x (values bytes) → x ≡ at + f → WfBytes bytes → Fields (numbers-from f bytes) bs at
+fields-held [] f bs at x h e w = tt
+fields-held (number n ∷ bytes) f bs at x h e w =
+    let c : byte-at bs (at + f) ≡ n = ap (byte-at bs) (sym e) ∙ h .0 in
+    (omega (arith, w .0), fields-held bytes (suc f) bs at (suc x) (h .1) (omega arith) (w .1))
+fields-held (amount n ∷ bytes) f bs at x h e w = fields-held bytes (suc f) bs at (suc x) (h .1) (omega arith) (w .1)

@@ -29,6 +29,20 @@ within f (suc n) low h k l m =
     (λ e. within f n (suc low) (w .1) k (omega arith) (omega arith))
     (eq-or-lt-of-le l)
 
+-- what holds of n numbers from low on
+abbrev pub Each : (ℕ → Type 0) → ℕ → ℕ → Type 0
+Each P low zero = Unit {0}
+Each P low (suc n) = P low × Each P (suc low) n
+
+pub _▹_ : {A B : Type 0} → A → B → A × B
+a ▹ b = (a, b)
+
+infixr 5 _▹_
+pub each : (P : ℕ → Type 0) (n low : ℕ) → Each P low n → (k : ℕ) → low ≤ k → k < low + n → P k
+each P zero low h k l m = absurd (omega arith)
+each P (suc n) low h k l m =
+    ⊎-elim (λ e. subst P e (h .0)) (λ e. each P n (suc low) (h .1) k (omega arith) (omega arith)) (eq-or-lt-of-le l)
+
 and-none : (a b : Bool) → b ≡ false → (a && b) ≡ false
 and-none true b h = h
 and-none false b h = refl
@@ -95,7 +109,7 @@ same [] (y ∷ ys) = false
 same (x ∷ xs) [] = false
 same (x ∷ xs) (y ∷ ys) = eqb x y && same xs ys
 
-same-true : (xs ys : List ℕ) → same xs ys ≡ true → xs ≡ ys
+pub same-true : (xs ys : List ℕ) → same xs ys ≡ true → xs ≡ ys
 unfolding same
 same-true [] [] h = refl
 same-true [] (y ∷ ys) h = let z : _≡_ {A = ℕ} 0 1 = cc in absurd (omega arith)

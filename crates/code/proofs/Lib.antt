@@ -5,6 +5,7 @@ pub mod Unique
 pub mod Accepted
 pub mod Reading
 pub mod KindLaws
+pub mod Layouts
 pub mod NumberLaws
 pub mod Classes
 pub mod Steps

@@ -3,248 +3,85 @@
 use Prim.Native.Nat.{ℕ, zero, suc, _+_, _*_, _^_, _≤_, _<_}
 use mathlib.Core.Path.{_≡_, refl, sym, ap, subst, _∙_}
 use mathlib.Core.Bool.{Bool, true}
-use mathlib.Core.List.{List, [], _∷_, _++_}
+use mathlib.Core.List.{List, _∷_, _++_}
 use native.Mathlib.Omega.{arith}
-use lib.ListN.{length, getD, length-append}
-use Rattle.machine.specs.declared.Operand.{Operand}
-use Rattle.machine.specs.declared.Operand.the-variants.{OConst}
+use lib.ListN.{length, length-append, length-map}
 use Rattle.code.specs.declared.tree.Instruction.{Instruction}
-use Rattle.code.specs.declared.tree.Instruction.the-variants.{Mov64, Add64, AddLea64, AddCarry64, Adcx64, Adox64, Sub64, Mul64, Mulx64, IMul64, Xor64, And64, Shr64, Shl64, Paddd, Pxor, Pslld, Psrld, Pshufd, Pcmpeqd, Pextrq, Pinsrd, Pinsrq, VPSLLDQ}
 use Rattle.code.specs.declared.tree.Ocmp.{Ocmp}
-use Rattle.code.specs.declared.tree.Ocmp.the-variants.{OEq, ONe, OLe, OGe, OLt, OGt}
 use Rattle.code.specs.Tree.{Code, Ins, Block, IfElse, While, Codes, ⟨⟩, _∷ᶜ_}
-use Rattle.code.specs.Records.{is-ins, is-ocmp, body-length, operand-count, register-fields, byte-at, number-at, operands-at, behind, ins-at, ocmp-at}
+use Rattle.code.specs.Layout.{Layout, layout, ocmp-layout, value, values}
+use Rattle.code.specs.Records.{is-ins, is-ocmp, body-length, operand-count, byte-at, number-at, behind, bytes-at, operands-at, ins-at, ocmp-at}
 use Rattle.code.specs.Reader.{got, parse}
-use Rattle.code.specs.Spells.{Fields, IsRecord, Operands, Stands, IsBlock, IsOcmp, IsIfElse, IsWhile, Spells, SpellsAll, Nests, Parsed}
-use Rattle.code.specs.WellFormed.{WfOperand, WfIns, WfOcmp, WfCode, WfCodes}
+use Rattle.code.specs.Spells.{Operands, Stands, IsBlock, IsOcmp, IsIfElse, IsWhile, Spells, SpellsAll, Nests, Parsed}
+use Rattle.code.specs.WellFormed.{WfLayout, WfIns, WfOcmp, WfCode, WfCodes}
 use Rattle.code.specs.Writer.{bytes-of, bytes-of-operands, bytes-of-record, bytes-of-ins, bytes-of-ocmp, bytes-of-code, bytes-of-codes, PlacedAt, PlacedAll}
+use Rattle.code.proofs.Layouts.{Agrees, ins-agrees, ins-read, ocmp-agrees, ocmp-read, bounds}
 use Rattle.code.proofs.Sound.{operands-le}
-use Rattle.code.proofs.Complete.{behind-structure, parse-complete}
-use Rattle.code.proofs.Held.{Holds, holds-from, split, holds-self, length-bytes, number-held, WfAll, operands-held, operands-say}
+use Rattle.code.proofs.Complete.{parse-complete}
+use Rattle.code.proofs.Held.{Holds, holds-from, split, holds-self, length-bytes, number-held, operands-held, operands-say, bytes-say, fields-held}
 
--- a record of kind k
-module _ (allowed : ℕ → Bool) (k : ℕ) (body : List ℕ) (os : List Operand) (bs : List ℕ) (at : ℕ)
-    (held : Holds bs at (bytes-of-record k body os)) (wf : WfAll os)
-    (right : allowed k ≡ true) (sized : body-length k ≡ length body) (counted : operand-count k ≡ length os) where
-  kind-is : byte-at bs at ≡ k
+-- a record that is laid out so is read so
+module _ (allowed : ℕ → Bool) (l : Layout) (agrees : Agrees allowed l) (wf : WfLayout l) (bs : List ℕ) (at : ℕ)
+    (held : Holds bs at (bytes-of-record l)) where
+  kind-is : byte-at bs at ≡ l .kind
   unfolding bytes-of-record
   kind-is = held .0
 
-  behind-is : behind bs at ≡ at + 1 + length body
-  behind-is = behind-structure bs at k kind-is ∙ ap (λ (n : ℕ). at + 1 + n) sized
+  body-is : body-length (byte-at bs at) ≡ length (values (l .body))
+  body-is = ap body-length kind-is ∙ agrees .sized ∙ sym (length-map (l .body) value)
 
-  parts : Holds bs (suc at) body × Holds bs (behind bs at) (bytes-of-operands os)
-  unfolding bytes-of-record
-  parts = split bs (suc at) body (bytes-of-operands os) (held .1) (behind bs at) (omega (arith, behind-is))
+  count-is : operand-count (byte-at bs at) ≡ length (l .operands)
+  count-is = ap operand-count kind-is ∙ agrees .counted
 
-  ends-at : behind bs at + length (bytes-of-operands os) ≡ at + length (bytes-of-record k body os)
-  unfolding bytes-of-record
-  ends-at = omega (arith, behind-is, length-append body (bytes-of-operands os))
+  parts : Holds bs (suc at) (values (l .body)) × Holds bs (behind bs at) (bytes-of-operands (l .operands))
+  unfolding bytes-of-record behind
+  parts = split bs (suc at) (values (l .body)) (bytes-of-operands (l .operands)) (held .1) (behind bs at) (omega (arith, body-is))
 
-  stands : Fields (register-fields k) bs at → Stands allowed bs at (at + length (bytes-of-record k body os))
-  stands f =
-      let e = at + length (bytes-of-record k body os) in
-      let o : Operands (operand-count (byte-at bs at)) bs (behind bs at) e =
-      subst (λ (n : ℕ). Operands n bs (behind bs at) e) (sym (ap operand-count kind-is ∙ counted))
-      (subst (λ (n : ℕ). Operands (length os) bs (behind bs at) n) ends-at (operands-held os bs (behind bs at) (parts .1) wf)) in
+  ends-at : behind bs at + length (bytes-of-operands (l .operands)) ≡ at + length (bytes-of-record l)
+  unfolding bytes-of-record behind
+  ends-at = omega (arith, body-is, length-append (values (l .body)) (bytes-of-operands (l .operands)))
+
+  body-said : bytes-at (body-length (byte-at bs at)) bs (at + 1) ≡ values (l .body)
+  body-said = rw body-is (bytes-say (values (l .body)) bs (suc at) (parts .0) (at + 1) (omega arith))
+
+  operands-said : operands-at (operand-count (byte-at bs at)) bs (behind bs at) ≡ l .operands
+  operands-said = rw count-is (operands-say (l .operands) bs (behind bs at) (parts .1) (bounds l wf .1))
+
+  stands : Stands allowed bs at (at + length (bytes-of-record l))
+  stands =
+      let e = at + length (bytes-of-record l) in
+      let there = operands-held (l .operands) bs (behind bs at) (parts .1) (bounds l wf .1) in
+      let o : Operands (operand-count (byte-at bs at)) bs (behind bs at) e = rw (← count-is, ends-at) at there in
+      let f = fields-held (l .body) 1 bs at (suc at) (parts .0) (omega arith) (bounds l wf .0) in
       record {
         head =
             record {
-              kind = subst (λ (n : ℕ). allowed n ≡ true) (sym kind-is) right;
+              kind = rw kind-is (agrees .right);
               inside = operands-le (operand-count (byte-at bs at)) bs (behind bs at) e o;
-              fields = subst (λ (n : ℕ). Fields (register-fields n) bs at) (sym kind-is) f;
+              fields = rw (kind-is, agrees .fields) f;
             };
         operands = o;
       }
 
-  said : (i : ℕ) → i < length os → operands-at bs (behind bs at) i ≡ getD os i (OConst 0)
-  said i l = operands-say os bs (behind bs at) (parts .1) wf i l
-
-  bytes-say : (i : ℕ) → i < length body → byte-at bs (at + 1 + i) ≡ getD body i 0
-  bytes-say i l = from body (suc at) (parts .0) i l (at + 1 + i) (omega arith)
-    where
-      from : (xs : List ℕ) (x : ℕ) → Holds bs x xs → (i : ℕ) → i < length xs → (y : ℕ) → y ≡ x + i → byte-at bs y ≡ getD xs i 0
-      from [] x h i l y e = absurd (omega arith)
-      from (b ∷ xs) x h zero l y e = ap (byte-at bs) (omega arith) ∙ h .0
-      from (b ∷ xs) x h (suc i) l y e = from xs (suc x) (h .1) i (omega arith) y (omega arith)
-
--- an instruction's record spells it
-abbrev Written : Instruction → List ℕ → ℕ → Type 0
-Written i bs at = Stands is-ins bs at (at + length (bytes-of-ins i)) × (ins-at bs at ≡ i)
-
 module _ (bs : List ℕ) (at : ℕ) where
-  first-field : (x : ℕ) → byte-at bs (at + 1 + 0) ≡ x → x < 16 → byte-at bs (at + 1) ≤ 15
-  first-field x h l =
-      let e : byte-at bs (at + 1) ≡ byte-at bs (at + 1 + 0) = ap (byte-at bs) (omega arith) in
-      omega arith
-
-  second-field : (x : ℕ) → byte-at bs (at + 1 + 1) ≡ x → x < 16 → byte-at bs (at + 2) ≤ 15
-  second-field x h l =
-      let e : byte-at bs (at + 2) ≡ byte-at bs (at + 1 + 1) = ap (byte-at bs) (omega arith) in
-      omega arith
-
-  ins-written : (i : Instruction) → Holds bs at (bytes-of-ins i) → WfIns i → Written i bs at
-  unfolding bytes-of-ins WfIns ins-at body-length operand-count register-fields
-  ins-written (Mov64 a b) h l =
-      let o0 : operands-at bs (behind bs at) 0 ≡ a = said is-ins 0x01 ([]) (a ∷ b ∷ []) bs at h (l .0, (l .1, tt)) refl refl refl 0 (omega arith) in
-      let o1 : operands-at bs (behind bs at) 1 ≡ b = said is-ins 0x01 ([]) (a ∷ b ∷ []) bs at h (l .0, (l .1, tt)) refl refl refl 1 (omega arith) in
-      (stands is-ins 0x01 ([]) (a ∷ b ∷ []) bs at h (l .0, (l .1, tt)) refl refl refl tt, rw (kind-is is-ins 0x01 ([]) (a ∷ b ∷ []) bs at h (l .0, (l .1, tt)) refl refl refl, o0, o1))
-  ins-written (Add64 a b) h l =
-      let o0 : operands-at bs (behind bs at) 0 ≡ a = said is-ins 0x02 ([]) (a ∷ b ∷ []) bs at h (l .0, (l .1, tt)) refl refl refl 0 (omega arith) in
-      let o1 : operands-at bs (behind bs at) 1 ≡ b = said is-ins 0x02 ([]) (a ∷ b ∷ []) bs at h (l .0, (l .1, tt)) refl refl refl 1 (omega arith) in
-      (stands is-ins 0x02 ([]) (a ∷ b ∷ []) bs at h (l .0, (l .1, tt)) refl refl refl tt, rw (kind-is is-ins 0x02 ([]) (a ∷ b ∷ []) bs at h (l .0, (l .1, tt)) refl refl refl, o0, o1))
-  ins-written (AddLea64 a b c) h l =
-      let o0 : operands-at bs (behind bs at) 0 ≡ a = said is-ins 0x03 ([]) (a ∷ b ∷ c ∷ []) bs at h (l .0, (l .1, (l .2, tt))) refl refl refl 0 (omega arith) in
-      let o1 : operands-at bs (behind bs at) 1 ≡ b = said is-ins 0x03 ([]) (a ∷ b ∷ c ∷ []) bs at h (l .0, (l .1, (l .2, tt))) refl refl refl 1 (omega arith) in
-      let o2 : operands-at bs (behind bs at) 2 ≡ c = said is-ins 0x03 ([]) (a ∷ b ∷ c ∷ []) bs at h (l .0, (l .1, (l .2, tt))) refl refl refl 2 (omega arith) in
-      (stands is-ins 0x03 ([]) (a ∷ b ∷ c ∷ []) bs at h (l .0, (l .1, (l .2, tt))) refl refl refl tt, rw (kind-is is-ins 0x03 ([]) (a ∷ b ∷ c ∷ []) bs at h (l .0, (l .1, (l .2, tt))) refl refl refl, o0, o1, o2))
-  ins-written (AddCarry64 a b) h l =
-      let o0 : operands-at bs (behind bs at) 0 ≡ a = said is-ins 0x04 ([]) (a ∷ b ∷ []) bs at h (l .0, (l .1, tt)) refl refl refl 0 (omega arith) in
-      let o1 : operands-at bs (behind bs at) 1 ≡ b = said is-ins 0x04 ([]) (a ∷ b ∷ []) bs at h (l .0, (l .1, tt)) refl refl refl 1 (omega arith) in
-      (stands is-ins 0x04 ([]) (a ∷ b ∷ []) bs at h (l .0, (l .1, tt)) refl refl refl tt, rw (kind-is is-ins 0x04 ([]) (a ∷ b ∷ []) bs at h (l .0, (l .1, tt)) refl refl refl, o0, o1))
-  ins-written (Adcx64 a b) h l =
-      let o0 : operands-at bs (behind bs at) 0 ≡ a = said is-ins 0x05 ([]) (a ∷ b ∷ []) bs at h (l .0, (l .1, tt)) refl refl refl 0 (omega arith) in
-      let o1 : operands-at bs (behind bs at) 1 ≡ b = said is-ins 0x05 ([]) (a ∷ b ∷ []) bs at h (l .0, (l .1, tt)) refl refl refl 1 (omega arith) in
-      (stands is-ins 0x05 ([]) (a ∷ b ∷ []) bs at h (l .0, (l .1, tt)) refl refl refl tt, rw (kind-is is-ins 0x05 ([]) (a ∷ b ∷ []) bs at h (l .0, (l .1, tt)) refl refl refl, o0, o1))
-  ins-written (Adox64 a b) h l =
-      let o0 : operands-at bs (behind bs at) 0 ≡ a = said is-ins 0x06 ([]) (a ∷ b ∷ []) bs at h (l .0, (l .1, tt)) refl refl refl 0 (omega arith) in
-      let o1 : operands-at bs (behind bs at) 1 ≡ b = said is-ins 0x06 ([]) (a ∷ b ∷ []) bs at h (l .0, (l .1, tt)) refl refl refl 1 (omega arith) in
-      (stands is-ins 0x06 ([]) (a ∷ b ∷ []) bs at h (l .0, (l .1, tt)) refl refl refl tt, rw (kind-is is-ins 0x06 ([]) (a ∷ b ∷ []) bs at h (l .0, (l .1, tt)) refl refl refl, o0, o1))
-  ins-written (Sub64 a b) h l =
-      let o0 : operands-at bs (behind bs at) 0 ≡ a = said is-ins 0x07 ([]) (a ∷ b ∷ []) bs at h (l .0, (l .1, tt)) refl refl refl 0 (omega arith) in
-      let o1 : operands-at bs (behind bs at) 1 ≡ b = said is-ins 0x07 ([]) (a ∷ b ∷ []) bs at h (l .0, (l .1, tt)) refl refl refl 1 (omega arith) in
-      (stands is-ins 0x07 ([]) (a ∷ b ∷ []) bs at h (l .0, (l .1, tt)) refl refl refl tt, rw (kind-is is-ins 0x07 ([]) (a ∷ b ∷ []) bs at h (l .0, (l .1, tt)) refl refl refl, o0, o1))
-  ins-written (Mul64 a) h l =
-      let o0 : operands-at bs (behind bs at) 0 ≡ a = said is-ins 0x08 ([]) (a ∷ []) bs at h (l, tt) refl refl refl 0 (omega arith) in
-      (stands is-ins 0x08 ([]) (a ∷ []) bs at h (l, tt) refl refl refl tt, rw (kind-is is-ins 0x08 ([]) (a ∷ []) bs at h (l, tt) refl refl refl, o0))
-  ins-written (Mulx64 a b c) h l =
-      let o0 : operands-at bs (behind bs at) 0 ≡ a = said is-ins 0x09 ([]) (a ∷ b ∷ c ∷ []) bs at h (l .0, (l .1, (l .2, tt))) refl refl refl 0 (omega arith) in
-      let o1 : operands-at bs (behind bs at) 1 ≡ b = said is-ins 0x09 ([]) (a ∷ b ∷ c ∷ []) bs at h (l .0, (l .1, (l .2, tt))) refl refl refl 1 (omega arith) in
-      let o2 : operands-at bs (behind bs at) 2 ≡ c = said is-ins 0x09 ([]) (a ∷ b ∷ c ∷ []) bs at h (l .0, (l .1, (l .2, tt))) refl refl refl 2 (omega arith) in
-      (stands is-ins 0x09 ([]) (a ∷ b ∷ c ∷ []) bs at h (l .0, (l .1, (l .2, tt))) refl refl refl tt, rw (kind-is is-ins 0x09 ([]) (a ∷ b ∷ c ∷ []) bs at h (l .0, (l .1, (l .2, tt))) refl refl refl, o0, o1, o2))
-  ins-written (IMul64 a b) h l =
-      let o0 : operands-at bs (behind bs at) 0 ≡ a = said is-ins 0x0a ([]) (a ∷ b ∷ []) bs at h (l .0, (l .1, tt)) refl refl refl 0 (omega arith) in
-      let o1 : operands-at bs (behind bs at) 1 ≡ b = said is-ins 0x0a ([]) (a ∷ b ∷ []) bs at h (l .0, (l .1, tt)) refl refl refl 1 (omega arith) in
-      (stands is-ins 0x0a ([]) (a ∷ b ∷ []) bs at h (l .0, (l .1, tt)) refl refl refl tt, rw (kind-is is-ins 0x0a ([]) (a ∷ b ∷ []) bs at h (l .0, (l .1, tt)) refl refl refl, o0, o1))
-  ins-written (Xor64 a b) h l =
-      let o0 : operands-at bs (behind bs at) 0 ≡ a = said is-ins 0x0b ([]) (a ∷ b ∷ []) bs at h (l .0, (l .1, tt)) refl refl refl 0 (omega arith) in
-      let o1 : operands-at bs (behind bs at) 1 ≡ b = said is-ins 0x0b ([]) (a ∷ b ∷ []) bs at h (l .0, (l .1, tt)) refl refl refl 1 (omega arith) in
-      (stands is-ins 0x0b ([]) (a ∷ b ∷ []) bs at h (l .0, (l .1, tt)) refl refl refl tt, rw (kind-is is-ins 0x0b ([]) (a ∷ b ∷ []) bs at h (l .0, (l .1, tt)) refl refl refl, o0, o1))
-  ins-written (And64 a b) h l =
-      let o0 : operands-at bs (behind bs at) 0 ≡ a = said is-ins 0x0c ([]) (a ∷ b ∷ []) bs at h (l .0, (l .1, tt)) refl refl refl 0 (omega arith) in
-      let o1 : operands-at bs (behind bs at) 1 ≡ b = said is-ins 0x0c ([]) (a ∷ b ∷ []) bs at h (l .0, (l .1, tt)) refl refl refl 1 (omega arith) in
-      (stands is-ins 0x0c ([]) (a ∷ b ∷ []) bs at h (l .0, (l .1, tt)) refl refl refl tt, rw (kind-is is-ins 0x0c ([]) (a ∷ b ∷ []) bs at h (l .0, (l .1, tt)) refl refl refl, o0, o1))
-  ins-written (Shr64 a b) h l =
-      let o0 : operands-at bs (behind bs at) 0 ≡ a = said is-ins 0x0d ([]) (a ∷ b ∷ []) bs at h (l .0, (l .1, tt)) refl refl refl 0 (omega arith) in
-      let o1 : operands-at bs (behind bs at) 1 ≡ b = said is-ins 0x0d ([]) (a ∷ b ∷ []) bs at h (l .0, (l .1, tt)) refl refl refl 1 (omega arith) in
-      (stands is-ins 0x0d ([]) (a ∷ b ∷ []) bs at h (l .0, (l .1, tt)) refl refl refl tt, rw (kind-is is-ins 0x0d ([]) (a ∷ b ∷ []) bs at h (l .0, (l .1, tt)) refl refl refl, o0, o1))
-  ins-written (Shl64 a b) h l =
-      let o0 : operands-at bs (behind bs at) 0 ≡ a = said is-ins 0x0e ([]) (a ∷ b ∷ []) bs at h (l .0, (l .1, tt)) refl refl refl 0 (omega arith) in
-      let o1 : operands-at bs (behind bs at) 1 ≡ b = said is-ins 0x0e ([]) (a ∷ b ∷ []) bs at h (l .0, (l .1, tt)) refl refl refl 1 (omega arith) in
-      (stands is-ins 0x0e ([]) (a ∷ b ∷ []) bs at h (l .0, (l .1, tt)) refl refl refl tt, rw (kind-is is-ins 0x0e ([]) (a ∷ b ∷ []) bs at h (l .0, (l .1, tt)) refl refl refl, o0, o1))
-  ins-written (Paddd x y) h l =
-      let b0 : byte-at bs (at + 1 + 0) ≡ x = bytes-say is-ins 0x0f (x ∷ y ∷ []) ([]) bs at h tt refl refl refl 0 (omega arith) in
-      let b1 : byte-at bs (at + 1 + 1) ≡ y = bytes-say is-ins 0x0f (x ∷ y ∷ []) ([]) bs at h tt refl refl refl 1 (omega arith) in
-      (stands is-ins 0x0f (x ∷ y ∷ []) ([]) bs at h tt refl refl refl (first-field x b0 (l .0), (second-field y b1 (l .1), tt)), rw (kind-is is-ins 0x0f (x ∷ y ∷ []) ([]) bs at h tt refl refl refl, b0, b1))
-  ins-written (Pxor x y) h l =
-      let b0 : byte-at bs (at + 1 + 0) ≡ x = bytes-say is-ins 0x10 (x ∷ y ∷ []) ([]) bs at h tt refl refl refl 0 (omega arith) in
-      let b1 : byte-at bs (at + 1 + 1) ≡ y = bytes-say is-ins 0x10 (x ∷ y ∷ []) ([]) bs at h tt refl refl refl 1 (omega arith) in
-      (stands is-ins 0x10 (x ∷ y ∷ []) ([]) bs at h tt refl refl refl (first-field x b0 (l .0), (second-field y b1 (l .1), tt)), rw (kind-is is-ins 0x10 (x ∷ y ∷ []) ([]) bs at h tt refl refl refl, b0, b1))
-  ins-written (Pslld x y) h l =
-      let b0 : byte-at bs (at + 1 + 0) ≡ x = bytes-say is-ins 0x11 (x ∷ y ∷ []) ([]) bs at h tt refl refl refl 0 (omega arith) in
-      let b1 : byte-at bs (at + 1 + 1) ≡ y = bytes-say is-ins 0x11 (x ∷ y ∷ []) ([]) bs at h tt refl refl refl 1 (omega arith) in
-      (stands is-ins 0x11 (x ∷ y ∷ []) ([]) bs at h tt refl refl refl (first-field x b0 (l .0), tt), rw (kind-is is-ins 0x11 (x ∷ y ∷ []) ([]) bs at h tt refl refl refl, b0, b1))
-  ins-written (Psrld x y) h l =
-      let b0 : byte-at bs (at + 1 + 0) ≡ x = bytes-say is-ins 0x12 (x ∷ y ∷ []) ([]) bs at h tt refl refl refl 0 (omega arith) in
-      let b1 : byte-at bs (at + 1 + 1) ≡ y = bytes-say is-ins 0x12 (x ∷ y ∷ []) ([]) bs at h tt refl refl refl 1 (omega arith) in
-      (stands is-ins 0x12 (x ∷ y ∷ []) ([]) bs at h tt refl refl refl (first-field x b0 (l .0), tt), rw (kind-is is-ins 0x12 (x ∷ y ∷ []) ([]) bs at h tt refl refl refl, b0, b1))
-  ins-written (Pshufd x y z) h l =
-      let b0 : byte-at bs (at + 1 + 0) ≡ x = bytes-say is-ins 0x13 (x ∷ y ∷ z ∷ []) ([]) bs at h tt refl refl refl 0 (omega arith) in
-      let b1 : byte-at bs (at + 1 + 1) ≡ y = bytes-say is-ins 0x13 (x ∷ y ∷ z ∷ []) ([]) bs at h tt refl refl refl 1 (omega arith) in
-      let b2 : byte-at bs (at + 1 + 2) ≡ z = bytes-say is-ins 0x13 (x ∷ y ∷ z ∷ []) ([]) bs at h tt refl refl refl 2 (omega arith) in
-      (stands is-ins 0x13 (x ∷ y ∷ z ∷ []) ([]) bs at h tt refl refl refl (first-field x b0 (l .0), (second-field y b1 (l .1), tt)), rw (kind-is is-ins 0x13 (x ∷ y ∷ z ∷ []) ([]) bs at h tt refl refl refl, b0, b1, b2))
-  ins-written (Pcmpeqd x y) h l =
-      let b0 : byte-at bs (at + 1 + 0) ≡ x = bytes-say is-ins 0x14 (x ∷ y ∷ []) ([]) bs at h tt refl refl refl 0 (omega arith) in
-      let b1 : byte-at bs (at + 1 + 1) ≡ y = bytes-say is-ins 0x14 (x ∷ y ∷ []) ([]) bs at h tt refl refl refl 1 (omega arith) in
-      (stands is-ins 0x14 (x ∷ y ∷ []) ([]) bs at h tt refl refl refl (first-field x b0 (l .0), (second-field y b1 (l .1), tt)), rw (kind-is is-ins 0x14 (x ∷ y ∷ []) ([]) bs at h tt refl refl refl, b0, b1))
-  ins-written (Pextrq a x y) h l =
-      let b0 : byte-at bs (at + 1 + 0) ≡ x = bytes-say is-ins 0x15 (x ∷ y ∷ []) (a ∷ []) bs at h (l .0, tt) refl refl refl 0 (omega arith) in
-      let b1 : byte-at bs (at + 1 + 1) ≡ y = bytes-say is-ins 0x15 (x ∷ y ∷ []) (a ∷ []) bs at h (l .0, tt) refl refl refl 1 (omega arith) in
-      let o0 : operands-at bs (behind bs at) 0 ≡ a = said is-ins 0x15 (x ∷ y ∷ []) (a ∷ []) bs at h (l .0, tt) refl refl refl 0 (omega arith) in
-      (stands is-ins 0x15 (x ∷ y ∷ []) (a ∷ []) bs at h (l .0, tt) refl refl refl (first-field x b0 (l .1), tt), rw (kind-is is-ins 0x15 (x ∷ y ∷ []) (a ∷ []) bs at h (l .0, tt) refl refl refl, b0, b1, o0))
-  ins-written (Pinsrd x a y) h l =
-      let b0 : byte-at bs (at + 1 + 0) ≡ x = bytes-say is-ins 0x16 (x ∷ y ∷ []) (a ∷ []) bs at h (l .1, tt) refl refl refl 0 (omega arith) in
-      let b1 : byte-at bs (at + 1 + 1) ≡ y = bytes-say is-ins 0x16 (x ∷ y ∷ []) (a ∷ []) bs at h (l .1, tt) refl refl refl 1 (omega arith) in
-      let o0 : operands-at bs (behind bs at) 0 ≡ a = said is-ins 0x16 (x ∷ y ∷ []) (a ∷ []) bs at h (l .1, tt) refl refl refl 0 (omega arith) in
-      (stands is-ins 0x16 (x ∷ y ∷ []) (a ∷ []) bs at h (l .1, tt) refl refl refl (first-field x b0 (l .0), tt), rw (kind-is is-ins 0x16 (x ∷ y ∷ []) (a ∷ []) bs at h (l .1, tt) refl refl refl, b0, b1, o0))
-  ins-written (Pinsrq x a y) h l =
-      let b0 : byte-at bs (at + 1 + 0) ≡ x = bytes-say is-ins 0x17 (x ∷ y ∷ []) (a ∷ []) bs at h (l .1, tt) refl refl refl 0 (omega arith) in
-      let b1 : byte-at bs (at + 1 + 1) ≡ y = bytes-say is-ins 0x17 (x ∷ y ∷ []) (a ∷ []) bs at h (l .1, tt) refl refl refl 1 (omega arith) in
-      let o0 : operands-at bs (behind bs at) 0 ≡ a = said is-ins 0x17 (x ∷ y ∷ []) (a ∷ []) bs at h (l .1, tt) refl refl refl 0 (omega arith) in
-      (stands is-ins 0x17 (x ∷ y ∷ []) (a ∷ []) bs at h (l .1, tt) refl refl refl (first-field x b0 (l .0), tt), rw (kind-is is-ins 0x17 (x ∷ y ∷ []) (a ∷ []) bs at h (l .1, tt) refl refl refl, b0, b1, o0))
-  ins-written (VPSLLDQ x y z) h l =
-      let b0 : byte-at bs (at + 1 + 0) ≡ x = bytes-say is-ins 0x18 (x ∷ y ∷ z ∷ []) ([]) bs at h tt refl refl refl 0 (omega arith) in
-      let b1 : byte-at bs (at + 1 + 1) ≡ y = bytes-say is-ins 0x18 (x ∷ y ∷ z ∷ []) ([]) bs at h tt refl refl refl 1 (omega arith) in
-      let b2 : byte-at bs (at + 1 + 2) ≡ z = bytes-say is-ins 0x18 (x ∷ y ∷ z ∷ []) ([]) bs at h tt refl refl refl 2 (omega arith) in
-      (stands is-ins 0x18 (x ∷ y ∷ z ∷ []) ([]) bs at h tt refl refl refl (first-field x b0 (l .0), (second-field y b1 (l .1), tt)), rw (kind-is is-ins 0x18 (x ∷ y ∷ z ∷ []) ([]) bs at h tt refl refl refl, b0, b1, b2))
+  -- an instruction's record spells it
+  ins-written : (i : Instruction) → Holds bs at (bytes-of-ins i) → WfIns i → Stands is-ins bs at (at + length (bytes-of-ins i)) × (ins-at bs at ≡ i)
+  unfolding bytes-of-ins WfIns ins-at
+  ins-written i h w =
+      let l = layout i in
+      let a = ins-agrees i in
+      let says : ins-at bs at ≡ i =
+      rw (body-said is-ins l a w bs at h, operands-said is-ins l a w bs at h, kind-is is-ins l a w bs at h) (ins-read i) in
+      (stands is-ins l a w bs at h, says)
 
   -- a comparison's record spells it
   ocmp-written : (c : Ocmp) → Holds bs at (bytes-of-ocmp c) → WfOcmp c → IsOcmp at c bs at (at + length (bytes-of-ocmp c))
-  unfolding bytes-of-ocmp WfOcmp ocmp-at body-length operand-count register-fields
-  ocmp-written (OEq a b) h l =
-      let e : behind bs at ≡ at + 1 = behind-is is-ocmp 0x30 [] (a ∷ b ∷ []) bs at h (l .0, (l .1, tt)) refl refl refl ∙ omega arith in
-      let o0 : operands-at bs (at + 1) 0 ≡ a = rw e at (said is-ocmp 0x30 [] (a ∷ b ∷ []) bs at h (l .0, (l .1, tt)) refl refl refl 0 (omega arith)) in
-      let o1 : operands-at bs (at + 1) 1 ≡ b = rw e at (said is-ocmp 0x30 [] (a ∷ b ∷ []) bs at h (l .0, (l .1, tt)) refl refl refl 1 (omega arith)) in
-      record {
-        place = refl;
-        says = sym (rw (kind-is is-ocmp 0x30 [] (a ∷ b ∷ []) bs at h (l .0, (l .1, tt)) refl refl refl, o0, o1));
-        stands = stands is-ocmp 0x30 [] (a ∷ b ∷ []) bs at h (l .0, (l .1, tt)) refl refl refl tt;
-      }
-  ocmp-written (ONe a b) h l =
-      let e : behind bs at ≡ at + 1 = behind-is is-ocmp 0x31 [] (a ∷ b ∷ []) bs at h (l .0, (l .1, tt)) refl refl refl ∙ omega arith in
-      let o0 : operands-at bs (at + 1) 0 ≡ a = rw e at (said is-ocmp 0x31 [] (a ∷ b ∷ []) bs at h (l .0, (l .1, tt)) refl refl refl 0 (omega arith)) in
-      let o1 : operands-at bs (at + 1) 1 ≡ b = rw e at (said is-ocmp 0x31 [] (a ∷ b ∷ []) bs at h (l .0, (l .1, tt)) refl refl refl 1 (omega arith)) in
-      record {
-        place = refl;
-        says = sym (rw (kind-is is-ocmp 0x31 [] (a ∷ b ∷ []) bs at h (l .0, (l .1, tt)) refl refl refl, o0, o1));
-        stands = stands is-ocmp 0x31 [] (a ∷ b ∷ []) bs at h (l .0, (l .1, tt)) refl refl refl tt;
-      }
-  ocmp-written (OLe a b) h l =
-      let e : behind bs at ≡ at + 1 = behind-is is-ocmp 0x32 [] (a ∷ b ∷ []) bs at h (l .0, (l .1, tt)) refl refl refl ∙ omega arith in
-      let o0 : operands-at bs (at + 1) 0 ≡ a = rw e at (said is-ocmp 0x32 [] (a ∷ b ∷ []) bs at h (l .0, (l .1, tt)) refl refl refl 0 (omega arith)) in
-      let o1 : operands-at bs (at + 1) 1 ≡ b = rw e at (said is-ocmp 0x32 [] (a ∷ b ∷ []) bs at h (l .0, (l .1, tt)) refl refl refl 1 (omega arith)) in
-      record {
-        place = refl;
-        says = sym (rw (kind-is is-ocmp 0x32 [] (a ∷ b ∷ []) bs at h (l .0, (l .1, tt)) refl refl refl, o0, o1));
-        stands = stands is-ocmp 0x32 [] (a ∷ b ∷ []) bs at h (l .0, (l .1, tt)) refl refl refl tt;
-      }
-  ocmp-written (OGe a b) h l =
-      let e : behind bs at ≡ at + 1 = behind-is is-ocmp 0x33 [] (a ∷ b ∷ []) bs at h (l .0, (l .1, tt)) refl refl refl ∙ omega arith in
-      let o0 : operands-at bs (at + 1) 0 ≡ a = rw e at (said is-ocmp 0x33 [] (a ∷ b ∷ []) bs at h (l .0, (l .1, tt)) refl refl refl 0 (omega arith)) in
-      let o1 : operands-at bs (at + 1) 1 ≡ b = rw e at (said is-ocmp 0x33 [] (a ∷ b ∷ []) bs at h (l .0, (l .1, tt)) refl refl refl 1 (omega arith)) in
-      record {
-        place = refl;
-        says = sym (rw (kind-is is-ocmp 0x33 [] (a ∷ b ∷ []) bs at h (l .0, (l .1, tt)) refl refl refl, o0, o1));
-        stands = stands is-ocmp 0x33 [] (a ∷ b ∷ []) bs at h (l .0, (l .1, tt)) refl refl refl tt;
-      }
-  ocmp-written (OLt a b) h l =
-      let e : behind bs at ≡ at + 1 = behind-is is-ocmp 0x34 [] (a ∷ b ∷ []) bs at h (l .0, (l .1, tt)) refl refl refl ∙ omega arith in
-      let o0 : operands-at bs (at + 1) 0 ≡ a = rw e at (said is-ocmp 0x34 [] (a ∷ b ∷ []) bs at h (l .0, (l .1, tt)) refl refl refl 0 (omega arith)) in
-      let o1 : operands-at bs (at + 1) 1 ≡ b = rw e at (said is-ocmp 0x34 [] (a ∷ b ∷ []) bs at h (l .0, (l .1, tt)) refl refl refl 1 (omega arith)) in
-      record {
-        place = refl;
-        says = sym (rw (kind-is is-ocmp 0x34 [] (a ∷ b ∷ []) bs at h (l .0, (l .1, tt)) refl refl refl, o0, o1));
-        stands = stands is-ocmp 0x34 [] (a ∷ b ∷ []) bs at h (l .0, (l .1, tt)) refl refl refl tt;
-      }
-  ocmp-written (OGt a b) h l =
-      let e : behind bs at ≡ at + 1 = behind-is is-ocmp 0x35 [] (a ∷ b ∷ []) bs at h (l .0, (l .1, tt)) refl refl refl ∙ omega arith in
-      let o0 : operands-at bs (at + 1) 0 ≡ a = rw e at (said is-ocmp 0x35 [] (a ∷ b ∷ []) bs at h (l .0, (l .1, tt)) refl refl refl 0 (omega arith)) in
-      let o1 : operands-at bs (at + 1) 1 ≡ b = rw e at (said is-ocmp 0x35 [] (a ∷ b ∷ []) bs at h (l .0, (l .1, tt)) refl refl refl 1 (omega arith)) in
-      record {
-        place = refl;
-        says = sym (rw (kind-is is-ocmp 0x35 [] (a ∷ b ∷ []) bs at h (l .0, (l .1, tt)) refl refl refl, o0, o1));
-        stands = stands is-ocmp 0x35 [] (a ∷ b ∷ []) bs at h (l .0, (l .1, tt)) refl refl refl tt;
-      }
+  unfolding bytes-of-ocmp WfOcmp ocmp-at
+  ocmp-written c h w =
+      let l = ocmp-layout c in
+      let a = ocmp-agrees c in
+      let says : ocmp-at bs at ≡ c = rw (operands-said is-ocmp l a w bs at h, kind-is is-ocmp l a w bs at h) (ocmp-read c) in
+      record { place = refl; says = sym says; stands = stands is-ocmp l a w bs at h }
 
 -- a length in four bytes
 size-held : (bs : List ℕ) (at n : ℕ) → Holds bs at (bytes-of 4 n) → n < 2 ^ 32 → (x : ℕ) → at ≡ x → number-at 4 bs x ≡ n
@@ -334,30 +171,7 @@ unfolding bytes-of-code bytes-of-ins bytes-of-record
 code-bytes (Block p cs) = omega arith
 code-bytes (IfElse p q c a b) = omega arith
 code-bytes (While p q c b) = omega arith
-code-bytes (Ins p (Mov64 a b)) = omega arith
-code-bytes (Ins p (Add64 a b)) = omega arith
-code-bytes (Ins p (AddLea64 a b c)) = omega arith
-code-bytes (Ins p (AddCarry64 a b)) = omega arith
-code-bytes (Ins p (Adcx64 a b)) = omega arith
-code-bytes (Ins p (Adox64 a b)) = omega arith
-code-bytes (Ins p (Sub64 a b)) = omega arith
-code-bytes (Ins p (Mul64 a)) = omega arith
-code-bytes (Ins p (Mulx64 a b c)) = omega arith
-code-bytes (Ins p (IMul64 a b)) = omega arith
-code-bytes (Ins p (Xor64 a b)) = omega arith
-code-bytes (Ins p (And64 a b)) = omega arith
-code-bytes (Ins p (Shr64 a b)) = omega arith
-code-bytes (Ins p (Shl64 a b)) = omega arith
-code-bytes (Ins p (Paddd a b)) = omega arith
-code-bytes (Ins p (Pxor a b)) = omega arith
-code-bytes (Ins p (Pslld a b)) = omega arith
-code-bytes (Ins p (Psrld a b)) = omega arith
-code-bytes (Ins p (Pshufd a b c)) = omega arith
-code-bytes (Ins p (Pcmpeqd a b)) = omega arith
-code-bytes (Ins p (Pextrq a b c)) = omega arith
-code-bytes (Ins p (Pinsrd a b c)) = omega arith
-code-bytes (Ins p (Pinsrq a b c)) = omega arith
-code-bytes (Ins p (VPSLLDQ a b c)) = omega arith
+code-bytes (Ins p i) = omega arith
 
 -- reading a written tree back gives the tree, for a well-formed tree within the limits whose places are right
 pub read-back :

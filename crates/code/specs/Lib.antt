@@ -1,4 +1,5 @@
 pub mod Tree
+pub mod Layout
 pub mod Records
 pub mod Kinds
 pub mod Reader

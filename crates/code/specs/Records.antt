@@ -11,9 +11,8 @@ use Rattle.machine.specs.declared.Maddr.the-variants.{MConst, MReg, MIndex}
 use Rattle.machine.specs.declared.Operand.{Operand}
 use Rattle.machine.specs.declared.Operand.the-variants.{OConst, OReg, OMem}
 use Rattle.code.specs.declared.tree.Instruction.{Instruction}
-use Rattle.code.specs.declared.tree.Instruction.the-variants.{Mov64, Add64, AddLea64, AddCarry64, Adcx64, Adox64, Sub64, Mul64, Mulx64, IMul64, Xor64, And64, Shr64, Shl64, Paddd, Pxor, Pslld, Psrld, Pshufd, Pcmpeqd, Pextrq, Pinsrd, Pinsrq, VPSLLDQ}
 use Rattle.code.specs.declared.tree.Ocmp.{Ocmp}
-use Rattle.code.specs.declared.tree.Ocmp.the-variants.{OEq, ONe, OLe, OGe, OLt, OGt}
+use Rattle.code.specs.Layout.{layout, ins-of, ocmp-of, shape, ocmp-shape, numbers-from}
 
 -- the kinds of a range
 abbrev pub between : ℕ → ℕ → ℕ → Bool
@@ -39,31 +38,22 @@ is-ocmp k = between 0x30 0x35 k
 abbrev pub is-operand : ℕ → Bool
 is-operand k = between 0x40 0x44 k
 
--- body lengths of the instructions from 0F on
-abbrev ins-body : List ℕ
-ins-body = 2 ∷ 2 ∷ 2 ∷ 2 ∷ 3 ∷ 2 ∷ 2 ∷ 2 ∷ 2 ∷ 3 ∷ []
-
 -- the length of a kind's body
 unfoldable pub body-length : ℕ → ℕ
 body-length k =
-    cond (is-ins k) (cond (ltb k 0x0f) 0 (getD ins-body (k - 0x0f) 0))
+    cond (is-ins k) (length (shape k .body))
     (cond (is-structure k) (getD (4 ∷ 8 ∷ 4 ∷ []) (k - 0x20) 0)
     (cond (is-operand k) (getD (8 ∷ 1 ∷ 8 ∷ 9 ∷ 12 ∷ []) (k - 0x40) 0) 0))
 
--- operand counts of the instructions from 01 on
-abbrev ins-operands : List ℕ
-ins-operands = 2 ∷ 2 ∷ 3 ∷ 2 ∷ 2 ∷ 2 ∷ 2 ∷ 1 ∷ 3 ∷ 2 ∷ 2 ∷ 2 ∷ 2 ∷ 2 ∷ 0 ∷ 0 ∷ 0 ∷ 0 ∷ 0 ∷ 0 ∷ 1 ∷ 1 ∷ 1 ∷ 0 ∷ []
-
 -- the number of a kind's operands
 unfoldable pub operand-count : ℕ → ℕ
-operand-count k = cond (is-ins k) (getD ins-operands (k - 0x01) 0) (cond (is-ocmp k) 2 0)
+operand-count k = cond (is-ins k) (length (shape k .operands)) (cond (is-ocmp k) (length (ocmp-shape k .operands)) 0)
 
 -- the register and xmm fields of a kind, as offsets from its kind byte, in field order
 unfoldable pub register-fields : ℕ → List ℕ
 register-fields k =
-    cond (eqb k 0x0f || eqb k 0x10 || eqb k 0x13 || eqb k 0x14 || eqb k 0x18) (1 ∷ 2 ∷ [])
-    (cond (between 0x11 0x17 k || eqb k 0x41 || eqb k 0x43) (1 ∷ [])
-    (cond (eqb k 0x44) (1 ∷ 4 ∷ []) []))
+    cond (is-ins k) (numbers-from 1 (shape k .body))
+    (cond (eqb k 0x41 || eqb k 0x43) (1 ∷ []) (cond (eqb k 0x44) (1 ∷ 4 ∷ []) []))
 
 -- the byte at a place
 abbrev pub byte-at : List ℕ → ℕ → ℕ
@@ -98,50 +88,21 @@ operand-at bs at = getD (operand-forms bs (at + 1)) (byte-at bs at - 0x40) (OCon
 unfoldable pub behind : List ℕ → ℕ → ℕ
 behind bs at = at + 1 + body-length (byte-at bs at)
 
--- operand i of those that stand from a place on
-unfoldable pub operands-at : List ℕ → ℕ → ℕ → Operand
-operands-at bs at zero = operand-at bs at
-operands-at bs at (suc i) = operands-at bs (behind bs at) i
+-- n bytes from a place on
+abbrev pub bytes-at : ℕ → List ℕ → ℕ → List ℕ
+bytes-at zero bs at = []
+bytes-at (suc n) bs at = byte-at bs at ∷ bytes-at n bs (at + 1)
 
--- the instructions in the order of `ins`, of a body's bytes and the operands, both in field order
-abbrev ins-forms : (ℕ → ℕ) → (ℕ → Operand) → List Instruction
-ins-forms b o =
-    Mov64 (o 0) (o 1)
-    ∷ Add64 (o 0) (o 1)
-    ∷ AddLea64 (o 0) (o 1) (o 2)
-    ∷ AddCarry64 (o 0) (o 1)
-    ∷ Adcx64 (o 0) (o 1)
-    ∷ Adox64 (o 0) (o 1)
-    ∷ Sub64 (o 0) (o 1)
-    ∷ Mul64 (o 0)
-    ∷ Mulx64 (o 0) (o 1) (o 2)
-    ∷ IMul64 (o 0) (o 1)
-    ∷ Xor64 (o 0) (o 1)
-    ∷ And64 (o 0) (o 1)
-    ∷ Shr64 (o 0) (o 1)
-    ∷ Shl64 (o 0) (o 1)
-    ∷ Paddd (b 0) (b 1)
-    ∷ Pxor (b 0) (b 1)
-    ∷ Pslld (b 0) (b 1)
-    ∷ Psrld (b 0) (b 1)
-    ∷ Pshufd (b 0) (b 1) (b 2)
-    ∷ Pcmpeqd (b 0) (b 1)
-    ∷ Pextrq (o 0) (b 0) (b 1)
-    ∷ Pinsrd (b 0) (o 0) (b 1)
-    ∷ Pinsrq (b 0) (o 0) (b 1)
-    ∷ VPSLLDQ (b 0) (b 1) (b 2)
-    ∷ []
+-- n operands from a place on
+unfoldable pub operands-at : ℕ → List ℕ → ℕ → List Operand
+operands-at zero bs at = []
+operands-at (suc n) bs at = operand-at bs at ∷ operands-at n bs (behind bs at)
 
 -- the instruction whose record stands at a place
 unfoldable pub ins-at : List ℕ → ℕ → Instruction
 ins-at bs at =
-    getD (ins-forms (λ i. byte-at bs (at + 1 + i)) (operands-at bs (behind bs at))) (byte-at bs at - 0x01) (Mul64 (OConst 0))
-
--- the comparisons, from 30 on, of two operands
-abbrev ocmp-forms : Operand → Operand → List Ocmp
-ocmp-forms a b = OEq a b ∷ ONe a b ∷ OLe a b ∷ OGe a b ∷ OLt a b ∷ OGt a b ∷ []
+    let k = byte-at bs at in ins-of k (bytes-at (body-length k) bs (at + 1)) (operands-at (operand-count k) bs (behind bs at))
 
 -- the comparison whose record stands at a place
 unfoldable pub ocmp-at : List ℕ → ℕ → Ocmp
-ocmp-at bs at =
-    getD (ocmp-forms (operands-at bs (at + 1) 0) (operands-at bs (at + 1) 1)) (byte-at bs at - 0x30) (OEq (OConst 0) (OConst 0))
+ocmp-at bs at = let k = byte-at bs at in ocmp-of k (operands-at (operand-count k) bs (behind bs at))

@@ -9,9 +9,8 @@ use Rattle.machine.specs.declared.Maddr.the-variants.{MConst, MReg, MIndex}
 use Rattle.machine.specs.declared.Operand.{Operand}
 use Rattle.machine.specs.declared.Operand.the-variants.{OConst, OReg, OMem}
 use Rattle.code.specs.declared.tree.Instruction.{Instruction}
-use Rattle.code.specs.declared.tree.Instruction.the-variants.{Mov64, Add64, AddLea64, AddCarry64, Adcx64, Adox64, Sub64, Mul64, Mulx64, IMul64, Xor64, And64, Shr64, Shl64, Paddd, Pxor, Pslld, Psrld, Pshufd, Pcmpeqd, Pextrq, Pinsrd, Pinsrq, VPSLLDQ}
 use Rattle.code.specs.declared.tree.Ocmp.{Ocmp}
-use Rattle.code.specs.declared.tree.Ocmp.the-variants.{OEq, ONe, OLe, OGe, OLt, OGt}
+use Rattle.code.specs.Layout.{Layout, layout, ocmp-layout, values}
 use Rattle.code.specs.Tree.{Code, Ins, Block, IfElse, While, Codes, ⟨⟩, _∷ᶜ_}
 
 -- n bytes of a number, low byte first
@@ -42,45 +41,17 @@ unfoldable pub bytes-of-operands : List Operand → List ℕ
 bytes-of-operands [] = []
 bytes-of-operands (o ∷ os) = bytes-of-operand o ++ bytes-of-operands os
 
--- a kind byte, a body and operands, both in field order
-unfoldable pub bytes-of-record : ℕ → List ℕ → List Operand → List ℕ
-bytes-of-record kind body operands = kind ∷ body ++ bytes-of-operands operands
+-- a kind byte, a body and operands
+unfoldable pub bytes-of-record : Layout → List ℕ
+bytes-of-record l = l .kind ∷ values (l .body) ++ bytes-of-operands (l .operands)
 
 -- an instruction's record
 unfoldable pub bytes-of-ins : Instruction → List ℕ
-bytes-of-ins (Mov64 dst src) = bytes-of-record 0x01 [] (dst ∷ src ∷ [])
-bytes-of-ins (Add64 dst src) = bytes-of-record 0x02 [] (dst ∷ src ∷ [])
-bytes-of-ins (AddLea64 dst src1 src2) = bytes-of-record 0x03 [] (dst ∷ src1 ∷ src2 ∷ [])
-bytes-of-ins (AddCarry64 dst src) = bytes-of-record 0x04 [] (dst ∷ src ∷ [])
-bytes-of-ins (Adcx64 dst src) = bytes-of-record 0x05 [] (dst ∷ src ∷ [])
-bytes-of-ins (Adox64 dst src) = bytes-of-record 0x06 [] (dst ∷ src ∷ [])
-bytes-of-ins (Sub64 dst src) = bytes-of-record 0x07 [] (dst ∷ src ∷ [])
-bytes-of-ins (Mul64 src) = bytes-of-record 0x08 [] (src ∷ [])
-bytes-of-ins (Mulx64 dst-hi dst-lo src) = bytes-of-record 0x09 [] (dst-hi ∷ dst-lo ∷ src ∷ [])
-bytes-of-ins (IMul64 dst src) = bytes-of-record 0x0a [] (dst ∷ src ∷ [])
-bytes-of-ins (Xor64 dst src) = bytes-of-record 0x0b [] (dst ∷ src ∷ [])
-bytes-of-ins (And64 dst src) = bytes-of-record 0x0c [] (dst ∷ src ∷ [])
-bytes-of-ins (Shr64 dst amt) = bytes-of-record 0x0d [] (dst ∷ amt ∷ [])
-bytes-of-ins (Shl64 dst amt) = bytes-of-record 0x0e [] (dst ∷ amt ∷ [])
-bytes-of-ins (Paddd dst src) = bytes-of-record 0x0f (dst ∷ src ∷ []) []
-bytes-of-ins (Pxor dst src) = bytes-of-record 0x10 (dst ∷ src ∷ []) []
-bytes-of-ins (Pslld dst amt) = bytes-of-record 0x11 (dst ∷ amt ∷ []) []
-bytes-of-ins (Psrld dst amt) = bytes-of-record 0x12 (dst ∷ amt ∷ []) []
-bytes-of-ins (Pshufd dst src permutation) = bytes-of-record 0x13 (dst ∷ src ∷ permutation ∷ []) []
-bytes-of-ins (Pcmpeqd dst src) = bytes-of-record 0x14 (dst ∷ src ∷ []) []
-bytes-of-ins (Pextrq dst src index) = bytes-of-record 0x15 (src ∷ index ∷ []) (dst ∷ [])
-bytes-of-ins (Pinsrd dst src index) = bytes-of-record 0x16 (dst ∷ index ∷ []) (src ∷ [])
-bytes-of-ins (Pinsrq dst src index) = bytes-of-record 0x17 (dst ∷ index ∷ []) (src ∷ [])
-bytes-of-ins (VPSLLDQ dst src count) = bytes-of-record 0x18 (dst ∷ src ∷ count ∷ []) []
+bytes-of-ins i = bytes-of-record (layout i)
 
 -- a comparison's record
 unfoldable pub bytes-of-ocmp : Ocmp → List ℕ
-bytes-of-ocmp (OEq a b) = bytes-of-record 0x30 [] (a ∷ b ∷ [])
-bytes-of-ocmp (ONe a b) = bytes-of-record 0x31 [] (a ∷ b ∷ [])
-bytes-of-ocmp (OLe a b) = bytes-of-record 0x32 [] (a ∷ b ∷ [])
-bytes-of-ocmp (OGe a b) = bytes-of-record 0x33 [] (a ∷ b ∷ [])
-bytes-of-ocmp (OLt a b) = bytes-of-record 0x34 [] (a ∷ b ∷ [])
-bytes-of-ocmp (OGt a b) = bytes-of-record 0x35 [] (a ∷ b ∷ [])
+bytes-of-ocmp c = bytes-of-record (ocmp-layout c)
 
 unfoldable mutual
   -- a code: a structure states the lengths of its parts in 4 bytes each
