@@ -156,7 +156,7 @@ module _ (env : Env) (memory : ByteMemory) where
         let c = passed _ 31 p s _ t e in
         let a = reg-at (s .regs) Rdx in
         rw (reads env memory src s (c .0) kept)
-        (halves p dst-hi dst-lo _ _ (mul-div-lt 64 (kept .regs-words .small 3) (operand-small env src s (fits .2) kept)) (mul-mod-lt 64 a _) (c .1))
+        (halves p dst-hi dst-lo _ _ (mul-div-lt 64 (kept .regs-words .small 3) (operand-small env src s (fits .1 .1) kept)) (mul-mod-lt 64 a _) (c .1))
     follows-ins p (IMul64 dst src) fits e = combined p dst src (mul-mod 64) (λ a b. env .fill) fits (λ a b h k. mul-mod-lt 64 a b) e
     follows-ins p (Xor64 dst src) fits e =
         combined p dst src (ixor 64) (λ a b. update-cf (update-of (env .fill) false) false) fits (λ a b h k. ixor-lt 64 a b) e

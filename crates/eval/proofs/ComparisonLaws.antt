@@ -9,7 +9,7 @@ use Rattle.machine.specs.declared.Operand.{Operand}
 use Rattle.code.specs.Records.{is-ocmp, byte-at, behind, operand-at, ocmp-at}
 use Rattle.code.specs.Spells.{OperandBytes, Stands}
 use Rattle.code.proofs.Passing.{between-true}
-use Rattle.code.proofs.Accepted.{each, _▹_}
+use Rattle.code.proofs.KindLaws.{each, _▹_}
 use Rattle.code.proofs.CodeFrames.{ocmp-operands, ocmp-frame}
 use Rattle.eval.specs.Config.{Env, Config}
 use Rattle.eval.specs.Steps.{valid-operand, eval-operand, valid-ocmp, eval-ocmp}

@@ -342,7 +342,7 @@ module _ (env : Env) where
           says-get _ _ (says-sum dst src fits (Add64 dst src) (λ a b. (a + b) % 2 ^ 64) (λ a b. add-flags (env .fill) (s .flags) a b 0))
       says-ins (AddLea64 dst src1 src2) fits =
           says-get _ _ (says-source src1 _ _ (λ e. says-source src2 _ _ (λ g.
-          says-keep dst _ _ (λ _. ap₂ (λ a b. (a + b) % 2 ^ 64) (is src1 (fits .1) e) (is src2 (fits .2) g)))))
+          says-keep dst _ _ (λ _. ap₂ (λ a b. (a + b) % 2 ^ 64) (is src1 (fits .1 .0) e) (is src2 (fits .1 .1) g)))))
       says-ins (AddCarry64 dst src) fits = says-carry dst src fits
       says-ins (Adcx64 dst src) fits =
           let c = bit (cf (s .flags)) in
@@ -352,7 +352,7 @@ module _ (env : Env) where
           says-get _ _ (says-sum dst src fits (Adox64 dst src) (λ a b. (a + b + c) % 2 ^ 64) (λ a b. update-of (s .flags) (leb (2 ^ 64) (a + b + c))))
       says-ins (Sub64 dst src) fits = says-get _ _ (says-binary dst src fits (Sub64 dst src) (sub-mod 64))
       says-ins (Mul64 src) fits = says-mul src fits
-      says-ins (Mulx64 dst-hi dst-lo src) fits = says-mulx dst-hi dst-lo src (fits .2)
+      says-ins (Mulx64 dst-hi dst-lo src) fits = says-mulx dst-hi dst-lo src (fits .1 .1)
       says-ins (IMul64 dst src) fits = says-get _ _ (says-binary dst src fits (IMul64 dst src) (λ a b. (a * b) % 2 ^ 64))
       says-ins (Xor64 dst src) fits =
           says-get _ _ (says-source src _ _ (λ e. says-flags dst (Xor64 dst src) _ _ (Source.update-cf-of false false) _
@@ -367,7 +367,7 @@ module _ (env : Env) where
       says-ins (Pshufd dst src permutation) fits = says-end _ s _ h refl
       says-ins (Pcmpeqd dst src) fits = says-end _ s _ h refl
       says-ins (Pextrq dst src index) fits = says-get _ _ (says-keep dst _ _ (λ _. refl))
-      says-ins (Pinsrd dst src index) fits = says-get _ _ (says-insert dst src (fits .1) (λ a. insert-nat32 (xmm-at (s .xmms) dst) (a % 2 ^ 32) (index % 4)))
-      says-ins (Pinsrq dst src index) fits = says-get _ _ (says-insert dst src (fits .1) (λ a. insert-nat64 (xmm-at (s .xmms) dst) a (index % 2)))
+      says-ins (Pinsrd dst src index) fits = says-get _ _ (says-insert dst src (fits .1 .1) (λ a. insert-nat32 (xmm-at (s .xmms) dst) (a % 2 ^ 32) (index % 4)))
+      says-ins (Pinsrq dst src index) fits = says-get _ _ (says-insert dst src (fits .1 .1) (λ a. insert-nat64 (xmm-at (s .xmms) dst) a (index % 2)))
       says-ins (VPSLLDQ dst src count) fits =
           says-get _ _ (says-then p s _ _ s s _ 35 _ (check-gate 35 (λ _. eqb count 4) s _ h refl) (λ _. says-xmm dst _ _ refl))
