@@ -1,54 +1,57 @@
--- What the bytes of an instruction say, family by family: the places of its operands, its end, and the instruction that it is. Assumes nothing.
+-- What the bytes of an instruction say, family by family: the places of its operands, its end, and the instruction that it is. The kinds of a
+-- family have one shape, which antt computes; what stands there follows from the shape. Assumes nothing.
 use Prim.Native.Nat.{ℕ, zero, suc, _+_, _≤_, _<_}
 use mathlib.Core.Path.{_≡_, refl, sym, subst, _∙_}
-use mathlib.Core.Bool.{Bool, true, false, _||_}
+use mathlib.Core.Bool.{Bool, true, false, _&&_, _||_}
 use mathlib.Core.List.{List, [], _∷_}
 use mathlib.Core.Logic.{_⊎_, inl, inr, ⊎-elim}
 use native.Mathlib.Nat.{eq-or-lt-of-le}
 use native.Mathlib.Omega.{arith}
+use borrow.Author.Tests.{ne-eqb, eqb-true}
+use lib.Dec.{eqb}
 use lib.ListN.{length}
 use Rattle.machine.specs.declared.Operand.{Operand}
 use Rattle.code.specs.declared.tree.Instruction.{Instruction}
 use Rattle.code.specs.declared.tree.Instruction.the-variants.{Mov64, Add64, AddLea64, AddCarry64, Adcx64, Adox64, Sub64, Mul64, Mulx64, IMul64, Xor64, And64, Shr64, Shl64, Paddd, Pxor, Pslld, Psrld, Pshufd, Pcmpeqd, Pextrq, Pinsrd, Pinsrq, VPSLLDQ}
-use Rattle.code.specs.Records.{between, is-ins, body-length, operand-count, register-fields, byte-at, operand-at, operands-at, behind, ins-at}
+use Rattle.code.specs.Layout.{ins-of}
+use Rattle.code.specs.Records.{between, is-ins, body-length, operand-count, register-fields, byte-at, operand-at, behind, bytes-at, operands-at, ins-at}
 use Rattle.code.specs.Spells.{Fields, Operands, OperandsFrom, Stands}
-use Rattle.code.specs.Families.{at-kind, is-two, two-ins, quads-ins, shifts-ins, inserts-ins}
-use Rattle.code.proofs.Passing.{between-true, never}
-use Rattle.code.proofs.KindLaws.{each, _▹_}
+use Rattle.code.specs.Families.{among, twos, is-two, two-ins, quads, is-quads, quads-ins, shifts, is-shifts, shifts-ins, inserts, is-inserts, inserts-ins}
+use Rattle.code.proofs.Passing.{and-both, or-right, between-true, never}
+use Rattle.code.proofs.KindLaws.{within, _▹_, same, same-true}
 use Rattle.code.proofs.Frames.{inside}
 
 -- ---- which kinds are whose
 pub ins-kinds : {bs : List ℕ} {at e : ℕ} → Stands is-ins bs at e → (1 ≤ byte-at bs at) × (byte-at bs at ≤ 0x18)
 ins-kinds {bs} {at} {e} st = between-true 0x01 0x18 (byte-at bs at) (st .head .kind)
 
--- what holds of each kind of a destination and a source holds of them all; the others below 0F are AddLea64, Mul64 and Mulx64
-pub by-two :
-    (P : ℕ → Type 0) → P 0x01 → P 0x02 → P 0x04 → P 0x05 → P 0x06 → P 0x07 → P 0x0a → P 0x0b → P 0x0c → P 0x0d → P 0x0e →
-    (k : ℕ) → 1 ≤ k → k < 0x0f → (k ≡ 0x03 → ⊥) → (k ≡ 0x08 → ⊥) → (k ≡ 0x09 → ⊥) → P k
-by-two P p1 p2 p4 p5 p6 p7 pa pb pc pd pe k l m x y z =
-    each (λ (k : ℕ). (k ≡ 0x03 → ⊥) → (k ≡ 0x08 → ⊥) → (k ≡ 0x09 → ⊥) → P k) 14 1
-    ((λ _ _ _. p1)
-    ▹ (λ _ _ _. p2)
-    ▹ (λ f _ _. absurd (f refl))
-    ▹ (λ _ _ _. p4)
-    ▹ (λ _ _ _. p5)
-    ▹ (λ _ _ _. p6)
-    ▹ (λ _ _ _. p7)
-    ▹ (λ _ f _. absurd (f refl))
-    ▹ (λ _ _ f. absurd (f refl))
-    ▹ (λ _ _ _. pa)
-    ▹ (λ _ _ _. pb)
-    ▹ (λ _ _ _. pc)
-    ▹ (λ _ _ _. pd)
-    ▹ (λ _ _ _. pe)
-    ▹ tt)
-    k l m x y z
-
 or-cases : (a b : Bool) → (a || b) ≡ true → (a ≡ true) ⊎ (b ≡ true)
 or-cases true b h = inl refl
 or-cases false b h = inr h
 
--- the kinds of a destination and a source are those
+-- what holds of each of some kinds
+abbrev EachOf : (ℕ → Type 0) → List ℕ → Type 0
+EachOf P [] = Unit {0}
+EachOf P (n ∷ ns) = P n × EachOf P ns
+
+by-among : (P : ℕ → Type 0) (ns : List ℕ) → EachOf P ns → (k : ℕ) → among ns k ≡ true → P k
+by-among P [] h k m = absurd (never (sym m))
+by-among P (n ∷ ns) h k m =
+    ⊎-elim (λ e. subst P (sym (eqb-true k n e)) (h .0)) (λ e. by-among P ns (h .1) k e) (or-cases (eqb k n) (among ns k) m)
+
+-- a test that passes at each of some kinds
+abbrev passes : (ℕ → Bool) → List ℕ → Bool
+passes f [] = true
+passes f (n ∷ ns) = f n && passes f ns
+
+among-passes : (f : ℕ → Bool) (ns : List ℕ) → passes f ns ≡ true → (k : ℕ) → among ns k ≡ true → f k ≡ true
+among-passes f ns h k m = by-among (λ (n : ℕ). f n ≡ true) ns (all-pass ns h) k m
+  where
+    all-pass : (ns : List ℕ) → passes f ns ≡ true → EachOf (λ (n : ℕ). f n ≡ true) ns
+    all-pass [] h = tt
+    all-pass (n ∷ ns) h = let w = and-both (f n) (passes f ns) h in (w .0, all-pass ns (w .1))
+
+-- the kinds of a destination and a source are those below 0F but AddLea64, Mul64 and Mulx64
 pub record TwoKind (k : ℕ) : Type 0 where
   pub low : 1 ≤ k
   pub high : k < 0x0f
@@ -58,18 +61,10 @@ pub record TwoKind (k : ℕ) : Type 0 where
 
 pub two-kind : (k : ℕ) → is-two k ≡ true → TwoKind k
 two-kind k h =
-    let bounds : (1 ≤ k) × (k < 0x0f) =
-    ⊎-elim
-    (λ e. ⊎-elim
-    (λ f. let w = between-true 0x01 0x02 k f in (omega arith, omega arith))
-    (λ f. let w = between-true 0x04 0x07 k f in (omega arith, omega arith))
-    (or-cases (between 0x01 0x02 k) (between 0x04 0x07 k) e))
-    (λ e. let w = between-true 0x0a 0x0e k e in (omega arith, omega arith))
-    (or-cases (between 0x01 0x02 k || between 0x04 0x07 k) (between 0x0a 0x0e k) h)
-    in
+    let w = between-true 0x01 0x0e k (among-passes (between 0x01 0x0e) twos refl k h) in
     record {
-      low = bounds .0;
-      high = bounds .1;
+      low = w .0;
+      high = omega (arith, w .1);
       no-lea = λ e. never (sym (subst (λ (n : ℕ). is-two n ≡ true) e h));
       no-mul = λ e. never (sym (subst (λ (n : ℕ). is-two n ≡ true) e h));
       no-mulx = λ e. never (sym (subst (λ (n : ℕ). is-two n ≡ true) e h));
@@ -77,37 +72,73 @@ two-kind k h =
 
 pub kind-two : (k : ℕ) → TwoKind k → is-two k ≡ true
 kind-two k w =
-    by-two (λ (n : ℕ). is-two n ≡ true) refl refl refl refl refl refl refl refl refl refl refl k
-    (w .low) (w .high) (w .no-lea) (w .no-mul) (w .no-mulx)
-
--- what holds of each instruction of a destination and a source holds of the one of a kind
-pub by-two-ins :
-    (P : ℕ → Instruction → Type 0) (a b : Operand) →
-    P 0x01 (Mov64 a b) → P 0x02 (Add64 a b) → P 0x04 (AddCarry64 a b) → P 0x05 (Adcx64 a b) → P 0x06 (Adox64 a b) → P 0x07 (Sub64 a b) →
-    P 0x0a (IMul64 a b) → P 0x0b (Xor64 a b) → P 0x0c (And64 a b) → P 0x0d (Shr64 a b) → P 0x0e (Shl64 a b) →
-    (k : ℕ) → TwoKind k → P k (two-ins k a b)
-unfolding two-ins
-by-two-ins P a b p1 p2 p4 p5 p6 p7 pa pb pc pd pe k w =
-    by-two (λ (k : ℕ). P k (two-ins k a b)) p1 p2 p4 p5 p6 p7 pa pb pc pd pe k (w .low) (w .high) (w .no-lea) (w .no-mul) (w .no-mulx)
-
--- the instructions of the other families, by their kind
-pub quads-ins-is : (k dst src : ℕ) → quads-ins k dst src ≡ at-kind k 0x0f (Paddd dst src) (at-kind k 0x10 (Pxor dst src) (Pcmpeqd dst src))
-unfolding quads-ins
-quads-ins-is k dst src = refl
-
-pub shifts-ins-is : (k dst amount : ℕ) → shifts-ins k dst amount ≡ at-kind k 0x11 (Pslld dst amount) (Psrld dst amount)
-unfolding shifts-ins
-shifts-ins-is k dst amount = refl
-
-pub inserts-ins-is :
-    (k dst : ℕ) (src : Operand) (index : ℕ) → inserts-ins k dst src index ≡ at-kind k 0x16 (Pinsrd dst src index) (Pinsrq dst src index)
-unfolding inserts-ins
-inserts-ins-is k dst src index = refl
+    let t = within (λ (n : ℕ). eqb n 0x03 || (eqb n 0x08 || (eqb n 0x09 || is-two n))) 14 0x01 refl k (w .low) (omega (arith, w .high)) in
+    or-right _ _ (or-right _ _ (or-right _ _ t (ne-eqb k 0x03 (w .no-lea))) (ne-eqb k 0x08 (w .no-mul))) (ne-eqb k 0x09 (w .no-mulx))
 
 -- which kinds are those of two quads
 pub which-quads : (k : ℕ) → 0x0f ≤ k → (k < 0x11) ⊎ (k ≡ 0x14) → (k ≡ 0x0f) ⊎ ((k ≡ 0x10) ⊎ (k ≡ 0x14))
 which-quads k m (inl h) = ⊎-elim (λ e. inl (sym e)) (λ l. inr (inl (omega arith))) (eq-or-lt-of-le m)
 which-quads k m (inr h) = inr (inr h)
+
+pub quads-kind : (k : ℕ) → (k ≡ 0x0f) ⊎ ((k ≡ 0x10) ⊎ (k ≡ 0x14)) → is-quads k ≡ true
+quads-kind k (inl e) = rw e
+quads-kind k (inr (inl e)) = rw e
+quads-kind k (inr (inr e)) = rw e
+
+pub shifts-kind : (k : ℕ) → 0x11 ≤ k → k < 0x13 → is-shifts k ≡ true
+shifts-kind k l m = within is-shifts 2 0x11 refl k l m
+
+pub inserts-kind : (k : ℕ) → 0x16 ≤ k → k < 0x18 → is-inserts k ≡ true
+inserts-kind k l m = within is-inserts 2 0x16 refl k l m
+
+-- ---- what holds of each instruction of a family holds of the one of a kind
+pub by-two-ins :
+    (P : ℕ → Instruction → Type 0) (a b : Operand) →
+    P 0x01 (Mov64 a b) → P 0x02 (Add64 a b) → P 0x04 (AddCarry64 a b) → P 0x05 (Adcx64 a b) → P 0x06 (Adox64 a b) → P 0x07 (Sub64 a b) →
+    P 0x0a (IMul64 a b) → P 0x0b (Xor64 a b) → P 0x0c (And64 a b) → P 0x0d (Shr64 a b) → P 0x0e (Shl64 a b) →
+    (k : ℕ) → is-two k ≡ true → P k (two-ins k a b)
+unfolding two-ins
+by-two-ins P a b p1 p2 p4 p5 p6 p7 pa pb pc pd pe k h =
+    by-among (λ (k : ℕ). P k (two-ins k a b)) twos (p1 ▹ p2 ▹ p4 ▹ p5 ▹ p6 ▹ p7 ▹ pa ▹ pb ▹ pc ▹ pd ▹ pe ▹ tt) k h
+
+pub by-quads-ins :
+    (P : ℕ → Instruction → Type 0) (dst src : ℕ) → P 0x0f (Paddd dst src) → P 0x10 (Pxor dst src) → P 0x14 (Pcmpeqd dst src) →
+    (k : ℕ) → is-quads k ≡ true → P k (quads-ins k dst src)
+unfolding quads-ins
+by-quads-ins P dst src p q r k h = by-among (λ (k : ℕ). P k (quads-ins k dst src)) quads (p ▹ q ▹ r ▹ tt) k h
+
+pub by-shifts-ins :
+    (P : ℕ → Instruction → Type 0) (dst amount : ℕ) → P 0x11 (Pslld dst amount) → P 0x12 (Psrld dst amount) →
+    (k : ℕ) → is-shifts k ≡ true → P k (shifts-ins k dst amount)
+unfolding shifts-ins
+by-shifts-ins P dst amount p q k h = by-among (λ (k : ℕ). P k (shifts-ins k dst amount)) shifts (p ▹ q ▹ tt) k h
+
+pub by-inserts-ins :
+    (P : ℕ → Instruction → Type 0) (dst : ℕ) (src : Operand) (index : ℕ) → P 0x16 (Pinsrd dst src index) → P 0x17 (Pinsrq dst src index) →
+    (k : ℕ) → is-inserts k ≡ true → P k (inserts-ins k dst src index)
+unfolding inserts-ins
+by-inserts-ins P dst src index p q k h = by-among (λ (k : ℕ). P k (inserts-ins k dst src index)) inserts (p ▹ q ▹ tt) k h
+
+-- ---- the shape of a kind: its body's length, its number of operands, its register fields
+record Shape (k size count : ℕ) (fields : List ℕ) : Type 0 where
+  sized : body-length k ≡ size
+  counted : operand-count k ≡ count
+  registers : register-fields k ≡ fields
+
+shaped : ℕ → ℕ → List ℕ → ℕ → Bool
+shaped size count fields k = eqb (body-length k) size && (eqb (operand-count k) count && same (register-fields k) fields)
+
+shape-of : (k size count : ℕ) (fields : List ℕ) → shaped size count fields k ≡ true → Shape k size count fields
+unfolding shaped
+shape-of k size count fields h =
+    let a = and-both _ _ h in
+    let b = and-both _ _ (a .1) in
+    record { sized = eqb-true _ _ (a .0); counted = eqb-true _ _ (b .0); registers = same-true _ _ (b .1) }
+
+shape-among :
+    (ns : List ℕ) (size count : ℕ) (fields : List ℕ) → passes (shaped size count fields) ns ≡ true →
+    (k : ℕ) → among ns k ≡ true → Shape k size count fields
+shape-among ns size count fields h k m = shape-of k size count fields (among-passes (shaped size count fields) ns h k m)
 
 -- ---- what stands at a place, as an instruction of a family, with n operands behind its body
 -- the place behind n operands
@@ -143,71 +174,51 @@ module _ (bs : List ℕ) (at e : ℕ) (st : Stands is-ins bs at e) (l : e ≤ le
   abbrev three : Operand
   three = operand-at bs (behind bs (behind bs (at + 1)))
 
-  -- an instruction of kind k, with a body of b bytes
-  module _ (k b n from : ℕ) (q : byte-at bs at ≡ k) (body : body-length k ≡ b) (count : operand-count k ≡ n) (place : at + 1 + b ≡ from) where
-    stood : (i : Instruction) → (behind bs at ≡ from → ins-at bs at ≡ i) → Stood bs at i n from
+  -- an instruction of a kind of some shape, its operands from a place on
+  module _ (k size count : ℕ) (fields : List ℕ) (shape : Shape k size count fields) (q : byte-at bs at ≡ k)
+      (from : ℕ) (place : at + 1 + size ≡ from) where
+    behind-is : behind bs at ≡ from
     unfolding behind
-    stood i says =
-        let there : (f : ℕ) → Stands is-ins bs at f → Operands n bs from f = λ f s. rw (q, body, count, place) at (s .operands) in
+    behind-is = rw (q, shape .sized, place)
+
+    there : (f : ℕ) → Stands is-ins bs at f → Operands count bs from f
+    there f s = rw (q, shape .counted, behind-is) at (s .operands)
+
+    stood : Stood bs at (ins-of k (bytes-at size bs (at + 1)) (operands-at count bs from)) count from
+    unfolding ins-at
+    stood =
         record {
-          operands = operands-from n bs from e (there e st) l;
-          says = says (rw (q, body, place));
-          ends = λ f s. sym (ends-after n bs from f (there f s));
+          operands = operands-from count bs from e (there e st) l;
+          says = rw (q, shape .sized, shape .counted, behind-is);
+          ends = λ f s. sym (ends-after count bs from f (there f s));
         }
 
-  -- ---- no body
-  plain :
-      (k n : ℕ) (i : Instruction) → byte-at bs at ≡ k → body-length k ≡ 0 → operand-count k ≡ n →
-      (behind bs at ≡ at + 1 → ins-at bs at ≡ i) → Stood bs at i n (at + 1)
-  plain k n i q b c = stood k 0 n (at + 1) q b c (omega arith) i
+    registers-fit : Fields fields bs at
+    registers-fit = rw (q, shape .registers) at (st .head .fields)
 
-  abbrev Two : ℕ → Type 0
-  Two k = byte-at bs at ≡ k → Stood bs at (two-ins k one two) 2 (at + 1)
+  -- ---- no body
+  behind-kind : at + 1 + 0 ≡ at + 1
+  behind-kind = omega arith
 
   pub two-stood : (k : ℕ) → TwoKind k → byte-at bs at ≡ k → Stood bs at (two-ins k one two) 2 (at + 1)
-  unfolding two-ins ins-at operands-at body-length operand-count
-  two-stood k w =
-      by-two Two
-      (λ q. plain 0x01 2 _ q refl refl (λ b. rw (b, q)))
-      (λ q. plain 0x02 2 _ q refl refl (λ b. rw (b, q)))
-      (λ q. plain 0x04 2 _ q refl refl (λ b. rw (b, q)))
-      (λ q. plain 0x05 2 _ q refl refl (λ b. rw (b, q)))
-      (λ q. plain 0x06 2 _ q refl refl (λ b. rw (b, q)))
-      (λ q. plain 0x07 2 _ q refl refl (λ b. rw (b, q)))
-      (λ q. plain 0x0a 2 _ q refl refl (λ b. rw (b, q)))
-      (λ q. plain 0x0b 2 _ q refl refl (λ b. rw (b, q)))
-      (λ q. plain 0x0c 2 _ q refl refl (λ b. rw (b, q)))
-      (λ q. plain 0x0d 2 _ q refl refl (λ b. rw (b, q)))
-      (λ q. plain 0x0e 2 _ q refl refl (λ b. rw (b, q)))
-      k (w .low) (w .high) (w .no-lea) (w .no-mul) (w .no-mulx)
+  unfolding two-ins operands-at shaped same body-length operand-count register-fields
+  two-stood k w q = stood k 0 2 [] (shape-among twos 0 2 [] refl k (kind-two k w)) q (at + 1) behind-kind
 
   pub lea-stood : byte-at bs at ≡ 0x03 → Stood bs at (AddLea64 one two three) 3 (at + 1)
-  unfolding ins-at operands-at body-length operand-count
-  lea-stood q = plain 0x03 3 _ q refl refl (λ b. rw (b, q))
+  unfolding operands-at shaped same body-length operand-count register-fields
+  lea-stood q = stood 0x03 0 3 [] (shape-of 0x03 0 3 [] refl) q (at + 1) behind-kind
 
   pub mul-stood : byte-at bs at ≡ 0x08 → Stood bs at (Mul64 one) 1 (at + 1)
-  unfolding ins-at operands-at body-length operand-count
-  mul-stood q = plain 0x08 1 _ q refl refl (λ b. rw (b, q))
+  unfolding operands-at shaped same body-length operand-count register-fields
+  mul-stood q = stood 0x08 0 1 [] (shape-of 0x08 0 1 [] refl) q (at + 1) behind-kind
 
   pub mulx-stood : byte-at bs at ≡ 0x09 → Stood bs at (Mulx64 one two three) 3 (at + 1)
-  unfolding ins-at operands-at body-length operand-count
-  mulx-stood q = plain 0x09 3 _ q refl refl (λ b. rw (b, q))
+  unfolding operands-at shaped same body-length operand-count register-fields
+  mulx-stood q = stood 0x09 0 3 [] (shape-of 0x09 0 3 [] refl) q (at + 1) behind-kind
 
   -- ---- a body of bytes: the first is an xmm number, and in some the second
-  second : at + 1 + 1 ≡ at + 2
-  second = omega arith
-
-  third : at + 1 + 2 ≡ at + 3
-  third = omega arith
-
-  next : at + 2 + 1 ≡ at + 3
-  next = omega arith
-
   abbrev byte : ℕ → ℕ
   byte i = byte-at bs (at + i)
-
-  registers : (k : ℕ) → byte-at bs at ≡ k → Fields (register-fields k) bs at
-  registers k q = rw q at (st .head .fields)
 
   pub record OneXmm (i : Instruction) (n from : ℕ) : Type 0 where
     pub stood : Stood bs at i n from
@@ -218,55 +229,65 @@ module _ (bs : List ℕ) (at e : ℕ) (st : Stands is-ins bs at e) (l : e ≤ le
     pub xmm : byte-at bs (at + 1) < 16
     pub other : byte-at bs (at + 2) < 16
 
-  one-xmm :
-      (k b n from : ℕ) (i : Instruction) → byte-at bs at ≡ k → body-length k ≡ b → operand-count k ≡ n → at + 1 + b ≡ from →
-      byte 1 ≤ 15 → (behind bs at ≡ from → ins-at bs at ≡ i) → OneXmm i n from
-  one-xmm k b n from i q body count place h says = record { stood = stood k b n from q body count place i says; xmm = omega arith }
+  -- the bytes of a body of two and of three
+  second : at + 1 + 1 ≡ at + 2
+  second = omega arith
 
-  two-xmms :
-      (k b n from : ℕ) (i : Instruction) → byte-at bs at ≡ k → body-length k ≡ b → operand-count k ≡ n → at + 1 + b ≡ from →
-      Fields (1 ∷ 2 ∷ []) bs at → (behind bs at ≡ from → ins-at bs at ≡ i) → TwoXmms i n from
-  two-xmms k b n from i q body count place h says =
-      record { stood = stood k b n from q body count place i says; xmm = omega (arith, h .0); other = omega (arith, h .1 .0) }
+  third : at + 2 + 1 ≡ at + 3
+  third = omega arith
+
+  module _ (k count : ℕ) (q : byte-at bs at ≡ k) where
+    one-xmm :
+        Shape k 2 count (1 ∷ []) → OneXmm (ins-of k (byte 1 ∷ byte 2 ∷ []) (operands-at count bs (at + 3))) count (at + 3)
+    one-xmm shape =
+        let place : at + 1 + 2 ≡ at + 3 = omega arith in
+        let fits = registers-fit k 2 count (1 ∷ []) shape q (at + 3) place in
+        record { stood = rw second at (stood k 2 count (1 ∷ []) shape q (at + 3) place); xmm = omega (arith, fits .0) }
+
+    two-xmms :
+        Shape k 2 count (1 ∷ 2 ∷ []) → TwoXmms (ins-of k (byte 1 ∷ byte 2 ∷ []) (operands-at count bs (at + 3))) count (at + 3)
+    two-xmms shape =
+        let place : at + 1 + 2 ≡ at + 3 = omega arith in
+        let fits = registers-fit k 2 count (1 ∷ 2 ∷ []) shape q (at + 3) place in
+        record {
+          stood = rw second at (stood k 2 count (1 ∷ 2 ∷ []) shape q (at + 3) place);
+          xmm = omega (arith, fits .0);
+          other = omega (arith, fits .1 .0);
+        }
+
+    two-and-imm8 :
+        Shape k 3 count (1 ∷ 2 ∷ []) → TwoXmms (ins-of k (byte 1 ∷ byte 2 ∷ byte 3 ∷ []) (operands-at count bs (at + 4))) count (at + 4)
+    two-and-imm8 shape =
+        let place : at + 1 + 3 ≡ at + 4 = omega arith in
+        let fits = registers-fit k 3 count (1 ∷ 2 ∷ []) shape q (at + 4) place in
+        record {
+          stood = rw (second, third) at (stood k 3 count (1 ∷ 2 ∷ []) shape q (at + 4) place);
+          xmm = omega (arith, fits .0);
+          other = omega (arith, fits .1 .0);
+        }
 
   pub quads-stood :
       (k : ℕ) → (k ≡ 0x0f) ⊎ ((k ≡ 0x10) ⊎ (k ≡ 0x14)) → byte-at bs at ≡ k → TwoXmms (quads-ins k (byte 1) (byte 2)) 0 (at + 3)
-  unfolding quads-ins ins-at body-length operand-count register-fields
-  quads-stood k (inl e) q =
-      let p = q ∙ e in
-      rw e (two-xmms 0x0f 2 0 (at + 3) _ p refl refl third (registers 0x0f p) (λ _. rw (p, second)))
-  quads-stood k (inr (inl e)) q =
-      let p = q ∙ e in
-      rw e (two-xmms 0x10 2 0 (at + 3) _ p refl refl third (registers 0x10 p) (λ _. rw (p, second)))
-  quads-stood k (inr (inr e)) q =
-      let p = q ∙ e in
-      rw e (two-xmms 0x14 2 0 (at + 3) _ p refl refl third (registers 0x14 p) (λ _. rw (p, second)))
+  unfolding quads-ins operands-at shaped same body-length operand-count register-fields
+  quads-stood k h q = two-xmms k 0 q (shape-among quads 2 0 (1 ∷ 2 ∷ []) refl k (quads-kind k h))
 
   pub shifts-stood : (k : ℕ) → 0x11 ≤ k → k < 0x13 → byte-at bs at ≡ k → OneXmm (shifts-ins k (byte 1) (byte 2)) 0 (at + 3)
-  unfolding shifts-ins ins-at body-length operand-count register-fields
-  shifts-stood =
-      each (λ (k : ℕ). byte-at bs at ≡ k → OneXmm (shifts-ins k (byte 1) (byte 2)) 0 (at + 3)) 2 0x11
-      ((λ q. one-xmm 0x11 2 0 (at + 3) _ q refl refl third (registers 0x11 q .0) (λ _. rw (q, second)))
-      ▹ (λ q. one-xmm 0x12 2 0 (at + 3) _ q refl refl third (registers 0x12 q .0) (λ _. rw (q, second)))
-      ▹ tt)
+  unfolding shifts-ins operands-at shaped same body-length operand-count register-fields
+  shifts-stood k l m q = one-xmm k 0 q (shape-among shifts 2 0 (1 ∷ []) refl k (shifts-kind k l m))
 
   pub shuffle-stood : byte-at bs at ≡ 0x13 → TwoXmms (Pshufd (byte 1) (byte 2) (byte 3)) 0 (at + 4)
-  unfolding ins-at body-length operand-count register-fields
-  shuffle-stood q = two-xmms 0x13 3 0 (at + 4) _ q refl refl (omega arith) (registers 0x13 q) (λ _. rw (q, second, next))
+  unfolding operands-at shaped same body-length operand-count register-fields
+  shuffle-stood q = two-and-imm8 0x13 0 q (shape-of 0x13 3 0 (1 ∷ 2 ∷ []) refl)
 
   pub word-shift-stood : byte-at bs at ≡ 0x18 → TwoXmms (VPSLLDQ (byte 1) (byte 2) (byte 3)) 0 (at + 4)
-  unfolding ins-at body-length operand-count register-fields
-  word-shift-stood q = two-xmms 0x18 3 0 (at + 4) _ q refl refl (omega arith) (registers 0x18 q) (λ _. rw (q, second, next))
+  unfolding operands-at shaped same body-length operand-count register-fields
+  word-shift-stood q = two-and-imm8 0x18 0 q (shape-of 0x18 3 0 (1 ∷ 2 ∷ []) refl)
 
   pub extract-stood : byte-at bs at ≡ 0x15 → OneXmm (Pextrq (operand-at bs (at + 3)) (byte 1) (byte 2)) 1 (at + 3)
-  unfolding ins-at operands-at body-length operand-count register-fields
-  extract-stood q = one-xmm 0x15 2 1 (at + 3) _ q refl refl third (registers 0x15 q .0) (λ b. rw (q, b, second))
+  unfolding operands-at shaped same body-length operand-count register-fields
+  extract-stood q = one-xmm 0x15 1 q (shape-of 0x15 2 1 (1 ∷ []) refl)
 
   pub inserts-stood :
       (k : ℕ) → 0x16 ≤ k → k < 0x18 → byte-at bs at ≡ k → OneXmm (inserts-ins k (byte 1) (operand-at bs (at + 3)) (byte 2)) 1 (at + 3)
-  unfolding inserts-ins ins-at operands-at body-length operand-count register-fields
-  inserts-stood =
-      each (λ (k : ℕ). byte-at bs at ≡ k → OneXmm (inserts-ins k (byte 1) (operand-at bs (at + 3)) (byte 2)) 1 (at + 3)) 2 0x16
-      ((λ q. one-xmm 0x16 2 1 (at + 3) _ q refl refl third (registers 0x16 q .0) (λ b. rw (q, b, second)))
-      ▹ (λ q. one-xmm 0x17 2 1 (at + 3) _ q refl refl third (registers 0x17 q .0) (λ b. rw (q, b, second)))
-      ▹ tt)
+  unfolding inserts-ins operands-at shaped same body-length operand-count register-fields
+  inserts-stood k l m q = one-xmm k 1 q (shape-among inserts 2 1 (1 ∷ []) refl k (inserts-kind k l m))

@@ -1,41 +1,62 @@
--- The families of instructions, each by its kind: those of a destination and a source, of two quads, of a quad and an amount, and of a
--- quad and an operand.
+-- The families of instructions, each by its kinds: those of a destination and a source, of two quads, of a quad and an amount, and of a quad
+-- and an operand.
 use Prim.Native.Nat.{ℕ}
-use mathlib.Core.Bool.{Bool, cond, _||_}
+use mathlib.Core.Bool.{Bool, false, cond, _||_}
+use mathlib.Core.List.{List, [], _∷_}
 use lib.Dec.{eqb}
 use Rattle.machine.specs.declared.Operand.{Operand}
-use Rattle.code.specs.Records.{between}
 use Rattle.code.specs.declared.tree.Instruction.{Instruction}
-use Rattle.code.specs.declared.tree.Instruction.the-variants.{Mov64, Add64, AddCarry64, Adcx64, Adox64, Sub64, IMul64, Xor64, And64, Shr64, Shl64, Paddd, Pxor, Pcmpeqd, Pslld, Psrld, Pinsrd, Pinsrq}
+use Rattle.code.specs.Layout.{ins-of}
 
 -- the choice of a kind among two
 abbrev pub at-kind : {A : Type 0} → ℕ → ℕ → A → A → A
 at-kind k n a b = cond (eqb k n) a b
 
--- the kinds of the instructions of a destination and a source
+-- a kind is one of some
+abbrev pub among : List ℕ → ℕ → Bool
+among [] k = false
+among (n ∷ ns) k = eqb k n || among ns k
+
+-- of a destination and a source: Mov64, Add64, AddCarry64, Adcx64, Adox64, Sub64, IMul64, Xor64, And64, Shr64 and Shl64
+abbrev pub twos : List ℕ
+twos = 0x01 ∷ 0x02 ∷ 0x04 ∷ 0x05 ∷ 0x06 ∷ 0x07 ∷ 0x0a ∷ 0x0b ∷ 0x0c ∷ 0x0d ∷ 0x0e ∷ []
+
 abbrev pub is-two : ℕ → Bool
-is-two k = between 0x01 0x02 k || between 0x04 0x07 k || between 0x0a 0x0e k
+is-two k = among twos k
 
--- the instructions of a destination and a source
+-- the instruction of such a kind
 unfoldable pub two-ins : ℕ → Operand → Operand → Instruction
-two-ins k dst src =
-    at-kind k 0x01 (Mov64 dst src)
-    (at-kind k 0x02 (Add64 dst src)
-    (at-kind k 0x04 (AddCarry64 dst src)
-    (at-kind k 0x05 (Adcx64 dst src)
-    (at-kind k 0x06 (Adox64 dst src)
-    (at-kind k 0x07 (Sub64 dst src)
-    (at-kind k 0x0a (IMul64 dst src)
-    (at-kind k 0x0b (Xor64 dst src) (at-kind k 0x0c (And64 dst src) (at-kind k 0x0d (Shr64 dst src) (Shl64 dst src))))))))))
+two-ins k dst src = ins-of k [] (dst ∷ src ∷ [])
 
--- Paddd, Pxor and Pcmpeqd
+-- of two quads: Paddd, Pxor and Pcmpeqd
+abbrev pub quads : List ℕ
+quads = 0x0f ∷ 0x10 ∷ 0x14 ∷ []
+
+abbrev pub is-quads : ℕ → Bool
+is-quads k = among quads k
+
+-- the instruction of such a kind
 unfoldable pub quads-ins : ℕ → ℕ → ℕ → Instruction
-quads-ins k dst src = at-kind k 0x0f (Paddd dst src) (at-kind k 0x10 (Pxor dst src) (Pcmpeqd dst src))
+quads-ins k dst src = ins-of k (dst ∷ src ∷ []) []
 
--- Pslld and Psrld
+-- of a quad and an amount: Pslld and Psrld
+abbrev pub shifts : List ℕ
+shifts = 0x11 ∷ 0x12 ∷ []
+
+abbrev pub is-shifts : ℕ → Bool
+is-shifts k = among shifts k
+
+-- the instruction of such a kind
 unfoldable pub shifts-ins : ℕ → ℕ → ℕ → Instruction
-shifts-ins k dst amount = at-kind k 0x11 (Pslld dst amount) (Psrld dst amount)
+shifts-ins k dst amount = ins-of k (dst ∷ amount ∷ []) []
 
--- Pinsrd and Pinsrq
+-- of a quad and an operand: Pinsrd and Pinsrq
+abbrev pub inserts : List ℕ
+inserts = 0x16 ∷ 0x17 ∷ []
+
+abbrev pub is-inserts : ℕ → Bool
+is-inserts k = among inserts k
+
+-- the instruction of such a kind
 unfoldable pub inserts-ins : ℕ → ℕ → Operand → ℕ → Instruction
-inserts-ins k dst src index = at-kind k 0x16 (Pinsrd dst src index) (Pinsrq dst src index)
+inserts-ins k dst src index = ins-of k (dst ∷ index ∷ []) (src ∷ [])
