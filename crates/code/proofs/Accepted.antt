@@ -71,21 +71,20 @@ module _ (bs : List ℕ) (bytes : Bytes bs) where
   byte-of (suc n) p (suc i) l = byte-of n (p + 1) i (omega arith) ∙ ap (byte-at bs) (omega arith)
 
   -- a body of some sorts of bytes, the first at f from the kind byte
+  later :
+      (at f n : ℕ) (b : ℕ → ℕ) → ((i : ℕ) → i < suc n → b i ≡ byte-at bs (at + f + i)) →
+      (i : ℕ) → i < n → b (suc i) ≡ byte-at bs (at + suc f + i)
+  later at f n b is i l = is (suc i) (omega arith) ∙ ap (byte-at bs) (omega arith)
+
   body-wf :
       (at : ℕ) (sorts : List Byte) (f : ℕ) (b : ℕ → ℕ) → ((i : ℕ) → i < length sorts → b i ≡ byte-at bs (at + f + i)) →
       Fields (numbers-from f sorts) bs at → WfBytes (like sorts b)
   body-wf at [] f b is h = tt
-  body-wf at (number n ∷ sorts) f b is h = (omega (arith, is 0 (omega arith), here, h .0), body-wf at sorts (suc f) _ later (h .1))
-    where
-      here : byte-at bs (at + f + 0) ≡ byte-at bs (at + f)
-      here = ap (byte-at bs) (omega arith)
-
-      later : (i : ℕ) → i < length sorts → b (suc i) ≡ byte-at bs (at + suc f + i)
-      later i l = is (suc i) (omega arith) ∙ ap (byte-at bs) (omega arith)
-  body-wf at (amount n ∷ sorts) f b is h = (rw (is 0 (omega arith)) (bytes (at + f + 0)), body-wf at sorts (suc f) _ later h)
-    where
-      later : (i : ℕ) → i < length sorts → b (suc i) ≡ byte-at bs (at + suc f + i)
-      later i l = is (suc i) (omega arith) ∙ ap (byte-at bs) (omega arith)
+  body-wf at (number n ∷ sorts) f b is h =
+      let first : b 0 ≡ byte-at bs (at + f) = is 0 (omega arith) ∙ ap (byte-at bs) (omega arith) in
+      (omega (arith, h .0), body-wf at sorts (suc f) _ (later at f (length sorts) b is) (h .1))
+  body-wf at (amount n ∷ sorts) f b is h =
+      (rw (is 0 (omega arith)) (bytes (at + f + 0)), body-wf at sorts (suc f) _ (later at f (length sorts) b is) h)
 
   -- as many operands as the kind has
   firsts-are : (n at : ℕ) → firsts n (operands-at n bs at) ≡ operands-at n bs at

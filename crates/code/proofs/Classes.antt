@@ -1,8 +1,8 @@
 -- What a class says of the kind byte: the classes are ranges that lie apart. Assumes nothing.
-use Prim.Native.Nat.{ℕ, _≤_}
+use Prim.Native.Nat.{ℕ}
 use mathlib.Core.Path.{_≡_, refl, sym, _∙_}
 use mathlib.Core.Bool.{Bool, true, false, _||_, cond}
-use mathlib.Core.Logic.{_⊎_, inl, inr, ⊎-elim}
+use mathlib.Core.Logic.{_⊎_, inl, inr}
 use native.Mathlib.Omega.{arith}
 use denote.Enum.Declared.{tagOf, declared}
 use Rattle.code.specs.Records.{is-ins, is-structure, is-code, is-ocmp, is-operand}
@@ -10,7 +10,7 @@ use Rattle.code.specs.Kinds.{class, is-used}
 use Rattle.code.specs.declared.kinds.Class.{Class}
 use Rattle.code.specs.declared.kinds.Class.the-variants.{Instruction, Structure, Comparison, Operand, Unused}
 use Rattle.code.proofs.kinds.Class as declared-class
-use Rattle.code.proofs.Passing.{between-true, never}
+use Rattle.code.proofs.Passing.{clash}
 use Rattle.code.proofs.KindLaws.{class-ins, class-structure, class-ocmp, class-operand}
 
 -- the number of a class, in the order of its declaration
@@ -24,34 +24,34 @@ picked a b c d = cond a Instruction (cond b Structure (cond c Comparison (cond d
 pick-ins : (a b c d : Bool) → picked a b c d ≡ Instruction → a ≡ true
 unfolding picked
 pick-ins true b c d h = refl
-pick-ins false true c d h = let z : _≡_ {A = ℕ} 0 1 = cc in absurd (omega arith)
-pick-ins false false true d h = let z : _≡_ {A = ℕ} 0 1 = cc in absurd (omega arith)
-pick-ins false false false true h = let z : _≡_ {A = ℕ} 0 1 = cc in absurd (omega arith)
-pick-ins false false false false h = let z : _≡_ {A = ℕ} 0 1 = cc in absurd (omega arith)
+pick-ins false true c d h = clash (cc)
+pick-ins false false true d h = clash (cc)
+pick-ins false false false true h = clash (cc)
+pick-ins false false false false h = clash (cc)
 
 pick-structure : (a b c d : Bool) → picked a b c d ≡ Structure → b ≡ true
 unfolding picked
-pick-structure true b c d h = let z : _≡_ {A = ℕ} 0 1 = cc in absurd (omega arith)
+pick-structure true b c d h = clash (cc)
 pick-structure false true c d h = refl
-pick-structure false false true d h = let z : _≡_ {A = ℕ} 0 1 = cc in absurd (omega arith)
-pick-structure false false false true h = let z : _≡_ {A = ℕ} 0 1 = cc in absurd (omega arith)
-pick-structure false false false false h = let z : _≡_ {A = ℕ} 0 1 = cc in absurd (omega arith)
+pick-structure false false true d h = clash (cc)
+pick-structure false false false true h = clash (cc)
+pick-structure false false false false h = clash (cc)
 
 pick-ocmp : (a b c d : Bool) → picked a b c d ≡ Comparison → c ≡ true
 unfolding picked
-pick-ocmp true b c d h = let z : _≡_ {A = ℕ} 0 1 = cc in absurd (omega arith)
-pick-ocmp false true c d h = let z : _≡_ {A = ℕ} 0 1 = cc in absurd (omega arith)
+pick-ocmp true b c d h = clash (cc)
+pick-ocmp false true c d h = clash (cc)
 pick-ocmp false false true d h = refl
-pick-ocmp false false false true h = let z : _≡_ {A = ℕ} 0 1 = cc in absurd (omega arith)
-pick-ocmp false false false false h = let z : _≡_ {A = ℕ} 0 1 = cc in absurd (omega arith)
+pick-ocmp false false false true h = clash (cc)
+pick-ocmp false false false false h = clash (cc)
 
 pick-operand : (a b c d : Bool) → picked a b c d ≡ Operand → d ≡ true
 unfolding picked
-pick-operand true b c d h = let z : _≡_ {A = ℕ} 0 1 = cc in absurd (omega arith)
-pick-operand false true c d h = let z : _≡_ {A = ℕ} 0 1 = cc in absurd (omega arith)
-pick-operand false false true d h = let z : _≡_ {A = ℕ} 0 1 = cc in absurd (omega arith)
+pick-operand true b c d h = clash (cc)
+pick-operand false true c d h = clash (cc)
+pick-operand false false true d h = clash (cc)
 pick-operand false false false true h = refl
-pick-operand false false false false h = let z : _≡_ {A = ℕ} 0 1 = cc in absurd (omega arith)
+pick-operand false false false false h = clash (cc)
 
 module _ (k : ℕ) (r : Class) (of : r ≡ class k) where
   pub ins-kind : r ≡ Instruction → is-ins k ≡ true
@@ -76,19 +76,15 @@ module _ (k : ℕ) (r : Class) (of : r ≡ class k) where
   denied false c n e h g = refl
 
   pub not-operand : (tag r ≡ 3 → ⊥) → is-operand k ≡ false
-  not-operand g =
-      denied (is-operand k) Operand 3 refl (λ h. let w = between-true 0x40 0x44 k h in class-operand k (w .0) (w .1)) g
+  not-operand g = denied (is-operand k) Operand 3 refl (class-operand k) g
 
   pub not-ocmp : (tag r ≡ 2 → ⊥) → is-ocmp k ≡ false
-  not-ocmp g =
-      denied (is-ocmp k) Comparison 2 refl (λ h. let w = between-true 0x30 0x35 k h in class-ocmp k (w .0) (w .1)) g
+  not-ocmp g = denied (is-ocmp k) Comparison 2 refl (class-ocmp k) g
 
   pub not-code : (tag r ≡ 0 → ⊥) → (tag r ≡ 1 → ⊥) → is-code k ≡ false
   not-code f g =
-      let i : is-ins k ≡ false =
-      denied (is-ins k) Instruction 0 refl (λ h. let w = between-true 0x01 0x18 k h in class-ins k (w .0) (w .1)) f in
-      let s : is-structure k ≡ false =
-      denied (is-structure k) Structure 1 refl (λ h. let w = between-true 0x20 0x22 k h in class-structure k (w .0) (w .1)) g in
+      let i : is-ins k ≡ false = denied (is-ins k) Instruction 0 refl (class-ins k) f in
+      let s : is-structure k ≡ false = denied (is-structure k) Structure 1 refl (class-structure k) g in
       rw (i, s)
 
 -- the used kinds

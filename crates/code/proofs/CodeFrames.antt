@@ -1,5 +1,5 @@
 -- What the bytes of a comparison and of a code say, whichever code it is. Assumes nothing.
-use Prim.Native.Nat.{ℕ, _+_, _-_, _≤_, _<_}
+use Prim.Native.Nat.{ℕ, _+_, _≤_, _<_}
 use mathlib.Core.Path.{_≡_, refl}
 use mathlib.Core.Bool.{true}
 use mathlib.Core.List.{List, [], _∷_}
@@ -14,6 +14,7 @@ use Rattle.code.specs.Spells.{Operands, Stands, Spells, SpellsAll}
 use Rattle.code.proofs.Passing.{between-true}
 use Rattle.code.proofs.Sound.{stands-past}
 use Rattle.code.proofs.Complete.{code-past, codes-le}
+use Rattle.code.proofs.KindLaws.{ins-below}
 use Rattle.code.proofs.Layouts.{ocmp-counts}
 use Rattle.code.proofs.Frames.{TwoOperands, two-operands}
 
@@ -96,8 +97,8 @@ pub record InsThere (c : Code) (bs : List ℕ) (at e : ℕ) : Type 0 where
   pub kind : is-ins (byte-at bs at) ≡ true
   pub stands : Stands is-ins bs at e
 
-ins-low : (bs : List ℕ) (at e : ℕ) → Stands is-ins bs at e → byte-at bs at ≤ 0x18
-ins-low bs at e s = between-true 0x01 0x18 (byte-at bs at) (s .head .kind) .1
+ins-low : (bs : List ℕ) (at e : ℕ) → Stands is-ins bs at e → byte-at bs at < 0x20
+ins-low bs at e s = ins-below (byte-at bs at) (s .head .kind)
 
 pub ins-there : (c : Code) (bs : List ℕ) (at e : ℕ) → Spells c bs at e → byte-at bs at < 0x20 → InsThere c bs at e
 unfolding Spells

@@ -1,20 +1,18 @@
 -- What is spelled, and nests no deeper than is allowed, is read: by recursion on the tree. Assumes nothing.
 use Prim.Native.Nat.{ℕ, zero, suc, _+_, _-_, _≤_, _<_}
 use mathlib.Core.Path.{_≡_, refl, sym, ap, subst, _∙_}
-use mathlib.Core.Bool.{Bool, true, false, not, _||_, cond}
-use mathlib.Core.List.{List, [], _∷_}
+use mathlib.Core.Bool.{Bool, true, false}
+use mathlib.Core.List.{List}
 use native.Mathlib.Omega.{arith}
 use borrow.Author.Tests.{eq-eqb, ne-eqb, le-ltb, lt-leb}
-use lib.Dec.{eqb, ltb, leb}
 use lib.ListN.{length}
-use Rattle.code.specs.declared.tree.Instruction.{Instruction}
 use Rattle.code.specs.declared.tree.Ocmp.{Ocmp}
 use Rattle.code.specs.Tree.{Code, Ins, Block, IfElse, While, Codes, ⟨⟩, _∷ᶜ_}
-use Rattle.code.specs.Records.{is-ins, is-structure, is-code, is-ocmp, is-operand, body-length, operand-count, register-fields, byte-at, number-at, behind, ins-at, ocmp-at}
-use Rattle.code.specs.Reader.{Read, got, trouble, followed, unless, with-kind, with-fields, read-record, read-operands, read-with, read-ocmp, One, read-part, read-codes, read-block, read-if, read-while, read-structure, read-body, read-code, parse}
-use Rattle.code.specs.Spells.{Fields, IsRecord, Operands, Stands, IsIns, IsBlock, IsOcmp, IsIfElse, IsWhile, Spells, SpellsAll, Nests, NestsAll, Parsed}
+use Rattle.code.specs.Records.{is-ins, is-code, is-ocmp, is-operand, body-length, operand-count, register-fields, byte-at, number-at, behind, ins-at, ocmp-at}
+use Rattle.code.specs.Reader.{Read, got, followed, with-kind, read-record, read-operands, read-with, read-ocmp, One, read-part, read-codes, read-block, read-if, read-while, read-structure, read-body, read-code, parse}
+use Rattle.code.specs.Spells.{IsRecord, Operands, Stands, IsBlock, IsOcmp, IsIfElse, IsWhile, Spells, SpellsAll, Nests, NestsAll, Parsed}
 use Rattle.code.proofs.Passing.{fields-pass}
-use Rattle.code.proofs.Sound.{behind-past, operands-le, stands-past}
+use Rattle.code.proofs.Sound.{behind-past, stands-past}
 
 -- where a code ends
 pub code-past : (c : Code) (bs : List ℕ) (at e : ℕ) → Spells c bs at e → at < e

@@ -1,7 +1,7 @@
 -- What the bytes of an instruction say, family by family: the places of its operands, its end, and the instruction that it is. The kinds of a
 -- family have one shape, which antt computes; what stands there follows from the shape. Assumes nothing.
 use Prim.Native.Nat.{ℕ, zero, suc, _+_, _≤_, _<_}
-use mathlib.Core.Path.{_≡_, refl, sym, subst, _∙_}
+use mathlib.Core.Path.{_≡_, refl, sym, subst}
 use mathlib.Core.Bool.{Bool, true, false, _&&_, _||_}
 use mathlib.Core.List.{List, [], _∷_}
 use mathlib.Core.Logic.{_⊎_, inl, inr, ⊎-elim}
@@ -18,7 +18,8 @@ use Rattle.code.specs.Records.{between, is-ins, body-length, operand-cou
 use Rattle.code.specs.Spells.{Fields, Operands, OperandsFrom, Stands}
 use Rattle.code.specs.Families.{among, twos, is-two, two-ins, quads, is-quads, quads-ins, shifts, is-shifts, shifts-ins, inserts, is-inserts, inserts-ins}
 use Rattle.code.proofs.Passing.{and-both, or-right, between-true, never}
-use Rattle.code.proofs.KindLaws.{within, _▹_, same, same-true}
+use Rattle.code.proofs.KindLaws.{within, _▹_, same}
+use Rattle.code.proofs.Layouts.{Shape, shaped, shape-of}
 use Rattle.code.proofs.Frames.{inside}
 
 -- ---- which kinds are whose
@@ -119,22 +120,7 @@ pub by-inserts-ins :
 unfolding inserts-ins
 by-inserts-ins P dst src index p q k h = by-among (λ (k : ℕ). P k (inserts-ins k dst src index)) inserts (p ▹ q ▹ tt) k h
 
--- ---- the shape of a kind: its body's length, its number of operands, its register fields
-record Shape (k size count : ℕ) (fields : List ℕ) : Type 0 where
-  sized : body-length k ≡ size
-  counted : operand-count k ≡ count
-  registers : register-fields k ≡ fields
-
-shaped : ℕ → ℕ → List ℕ → ℕ → Bool
-shaped size count fields k = eqb (body-length k) size && (eqb (operand-count k) count && same (register-fields k) fields)
-
-shape-of : (k size count : ℕ) (fields : List ℕ) → shaped size count fields k ≡ true → Shape k size count fields
-unfolding shaped
-shape-of k size count fields h =
-    let a = and-both _ _ h in
-    let b = and-both _ _ (a .1) in
-    record { sized = eqb-true _ _ (a .0); counted = eqb-true _ _ (b .0); registers = same-true _ _ (b .1) }
-
+-- ---- the shape of the kinds of a family
 shape-among :
     (ns : List ℕ) (size count : ℕ) (fields : List ℕ) → passes (shaped size count fields) ns ≡ true →
     (k : ℕ) → among ns k ≡ true → Shape k size count fields

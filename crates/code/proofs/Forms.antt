@@ -16,25 +16,23 @@ use Rattle.code.specs.Records.{byte-at, signed-at, operand-at, behind}
 use Rattle.code.specs.Spells.{OperandBytes}
 use Rattle.code.specs.Forms.{form-of}
 use Rattle.code.specs.declared.records.Form.the-variants.{Const, Register, Memory}
+use Rattle.code.proofs.Passing.{clash}
 use Rattle.code.proofs.Frames.{by-kind, operand-frame}
 
 -- ---- from the form to the operand
-other : {A : Type 0} → _≡_ {A = ℕ} 0 1 → A
-other z = absurd (omega arith)
-
 pub constant-is : (o : Operand) (n : ℕ) → form-of o ≡ Const n → o ≡ OConst n
 constant-is (OConst m) n e = cc
-constant-is (OReg r) n e = other (cc)
-constant-is (OMem m) n e = other (cc)
+constant-is (OReg r) n e = clash (cc)
+constant-is (OMem m) n e = clash (cc)
 
 pub register-is : (o : Operand) (r : Reg) → form-of o ≡ Register r → o ≡ OReg r
-register-is (OConst m) r e = other (cc)
+register-is (OConst m) r e = clash (cc)
 register-is (OReg q) r e = cc
-register-is (OMem m) r e = other (cc)
+register-is (OMem m) r e = clash (cc)
 
 pub memory-is : (o : Operand) → form-of o ≡ Memory → (m : Maddr) × (o ≡ OMem m)
-memory-is (OConst m) e = other (cc)
-memory-is (OReg r) e = other (cc)
+memory-is (OConst m) e = clash (cc)
+memory-is (OReg r) e = clash (cc)
 memory-is (OMem m) e = (m, refl)
 
 -- an operand is one memory operand
@@ -77,10 +75,10 @@ module _ (bs : List ℕ) (at : ℕ) (stands : OperandBytes bs at) where
 
   module _ (memory : form-of (operand-at bs at) ≡ Memory) where
     no-constant : byte-at bs at ≡ 0x40 → ⊥
-    no-constant h = other (let e = ap form-of (operand-frame bs at stands .const h .2) in cc)
+    no-constant h = clash (let e = ap form-of (operand-frame bs at stands .const h .2) in cc)
 
     no-register : byte-at bs at ≡ 0x41 → ⊥
-    no-register h = other (let e = ap form-of (operand-frame bs at stands .o-reg h .3) in cc)
+    no-register h = clash (let e = ap form-of (operand-frame bs at stands .o-reg h .3) in cc)
 
     -- memory that is no constant address has a register behind its kind
     pub based : (byte-at bs at ≡ 0x42 → ⊥) → at + 10 ≤ length bs

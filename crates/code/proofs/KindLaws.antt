@@ -1,19 +1,18 @@
 -- The kinds: each law holds at every byte, by the ranges of the definition or by one test that antt computes.
 -- Assumes nothing.
 use Prim.Native.Nat.{ℕ, zero, suc, _+_, _*_, _/_, _%_, _≤_, _<_}
-use mathlib.Core.Path.{_≡_, refl, sym, subst}
-use mathlib.Core.Bool.{Bool, true, false, _&&_, _||_, cond}
+use mathlib.Core.Path.{_≡_, refl, subst}
+use mathlib.Core.Bool.{Bool, true, false, not, _&&_, _||_}
 use mathlib.Core.List.{List, [], _∷_}
 use mathlib.Core.Logic.{_⊎_, inl, inr, ⊎-elim}
 use native.Mathlib.Nat.{eq-or-lt-of-le}
 use native.Mathlib.Omega.{arith}
-use borrow.Author.Tests.{le-leb, lt-leb, ne-eqb, leb-true, eqb-true}
-use lib.Dec.{T, eqb, leb}
+use borrow.Author.Tests.{lt-leb, ne-eqb, leb-true, eqb-true, not-true}
+use lib.Dec.{eqb, leb}
 use Rattle.code.specs.Records.{between, is-ins, is-structure, is-code, is-ocmp, is-operand, body-length, operand-count, register-fields}
 use Rattle.code.specs.Kinds.{class, is-used, entry-of, fields-to, LastField}
-use Rattle.code.specs.declared.kinds.Class.{Class}
 use Rattle.code.specs.declared.kinds.Class.the-variants.{Instruction, Structure, Comparison, Operand, Unused}
-use Rattle.code.proofs.Passing.{and-both, or-right, between-true, true-between}
+use Rattle.code.proofs.Passing.{clash, and-both, or-right, or-none, between-true}
 
 -- a test that passes at each of n numbers from low on
 abbrev pub all-from : (ℕ → Bool) → ℕ → ℕ → Bool
@@ -51,31 +50,41 @@ pub outside : (low high k : ℕ) → (k < low) ⊎ (high < k) → between low hi
 outside low high k (inl h) = rw (lt-leb low k h)
 outside low high k (inr h) = and-none (leb low k) (leb k high) (lt-leb k high h)
 
+-- the instructions stand below the structures
+pub ins-below : (k : ℕ) → is-ins k ≡ true → k < 0x20
+ins-below k h = omega (arith, between-true 0x01 0x18 k h .1)
+
+pub no-ins : (k : ℕ) → 0x20 ≤ k → is-ins k ≡ false
+no-ins k l = outside 0x01 0x18 k (inr (omega arith))
+
 -- the class of each range, and of the gaps between them
-pub class-ins : (k : ℕ) → 0x01 ≤ k → k ≤ 0x18 → class k ≡ Instruction
+pub class-ins : (k : ℕ) → is-ins k ≡ true → class k ≡ Instruction
 unfolding class
-class-ins k l h = rw (true-between 0x01 0x18 k l h)
+class-ins k h = rw h
 
-pub class-structure : (k : ℕ) → 0x20 ≤ k → k ≤ 0x22 → class k ≡ Structure
+pub class-structure : (k : ℕ) → is-structure k ≡ true → class k ≡ Structure
 unfolding class
-class-structure k l h = rw (outside 0x01 0x18 k (inr (omega arith)), true-between 0x20 0x22 k l h)
+class-structure k h = rw (no-ins k (between-true 0x20 0x22 k h .0), h)
 
-pub class-ocmp : (k : ℕ) → 0x30 ≤ k → k ≤ 0x35 → class k ≡ Comparison
+pub class-ocmp : (k : ℕ) → is-ocmp k ≡ true → class k ≡ Comparison
 unfolding class
-class-ocmp k l h =
-    rw (outside 0x01 0x18 k (inr (omega arith)), outside 0x20 0x22 k (inr (omega arith)), true-between 0x30 0x35 k l h)
+class-ocmp k h =
+    let w = between-true 0x30 0x35 k h in
+    rw (no-ins k (omega arith), outside 0x20 0x22 k (inr (omega arith)), h)
 
-pub class-operand : (k : ℕ) → 0x40 ≤ k → k ≤ 0x44 → class k ≡ Operand
+pub class-operand : (k : ℕ) → is-operand k ≡ true → class k ≡ Operand
 unfolding class
-class-operand k l h =
-    rw (outside 0x01 0x18 k (inr (omega arith)), outside 0x20 0x22 k (inr (omega arith)), outside 0x30 0x35 k (inr (omega arith)), true-between 0x40 0x44 k l h)
+class-operand k h =
+    let w = between-true 0x40 0x44 k h in
+    rw (no-ins k (omega arith), outside 0x20 0x22 k (inr (omega arith)), outside 0x30 0x35 k (inr (omega arith)), h)
 
-pub class-gap :
-    (k : ℕ) → (k < 0x01) ⊎ (0x18 < k) → (k < 0x20) ⊎ (0x22 < k) → (k < 0x30) ⊎ (0x35 < k) → (k < 0x40) ⊎ (0x44 < k) →
-    class k ≡ Unused
+pub class-gap : (low n k : ℕ) → all-from (λ x. not (is-used x)) low n ≡ true → low ≤ k → k < low + n → class k ≡ Unused
 unfolding class
-class-gap k a b c d =
-    rw (outside 0x01 0x18 k a, outside 0x20 0x22 k b, outside 0x30 0x35 k c, outside 0x40 0x44 k d)
+class-gap low n k h l m =
+    let used = or-none (is-code k) (is-ocmp k || is-operand k) (not-true (is-used k) (within (λ x. not (is-used x)) n low h k l m)) in
+    let code = or-none (is-ins k) (is-structure k) (used .0) in
+    let rest = or-none (is-ocmp k) (is-operand k) (used .1) in
+    rw (code .0, code .1, rest .0, rest .1)
 
 -- both counts fit their places in an entry
 small : ℕ → Bool
@@ -112,8 +121,8 @@ same (x ∷ xs) (y ∷ ys) = eqb x y && same xs ys
 pub same-true : (xs ys : List ℕ) → same xs ys ≡ true → xs ≡ ys
 unfolding same
 same-true [] [] h = refl
-same-true [] (y ∷ ys) h = let z : _≡_ {A = ℕ} 0 1 = cc in absurd (omega arith)
-same-true (x ∷ xs) [] h = let z : _≡_ {A = ℕ} 0 1 = cc in absurd (omega arith)
+same-true [] (y ∷ ys) h = clash (cc)
+same-true (x ∷ xs) [] h = clash (cc)
 same-true (x ∷ xs) (y ∷ ys) h =
     let w = and-both (eqb x y) (same xs ys) h in
     let e : x ≡ y = eqb-true x y (w .0) in

@@ -1,7 +1,7 @@
 -- Laying out and reading are inverse to each other: what is read of a layout is what was laid out, and the layout of what is read is of the kind,
 -- the bytes and the operands that were read. Each instruction and each kind computes. Assumes nothing.
-use Prim.Native.Nat.{ℕ, zero, suc, _≤_, _<_}
-use mathlib.Core.Path.{_≡_, refl, ap}
+use Prim.Native.Nat.{ℕ, zero, suc}
+use mathlib.Core.Path.{_≡_, refl}
 use mathlib.Core.Bool.{Bool, true, _&&_}
 use mathlib.Core.List.{List, [], _∷_, _++_, map}
 use native.Mathlib.Omega.{arith}
@@ -20,33 +20,40 @@ use Rattle.code.specs.WellFormed.{WfByte, WfOperand, All, WfLayout}
 use Rattle.code.proofs.Passing.{and-both, between-true}
 use Rattle.code.proofs.KindLaws.{each, _▹_, same, same-true}
 
--- ---- a layout is of an allowed kind, and is what its kind says
-agrees : (ℕ → Bool) → Layout → Bool
-agrees allowed l =
-    allowed (l .kind)
-    && (eqb (body-length (l .kind)) (length (l .body))
-    && (eqb (operand-count (l .kind)) (length (l .operands)) && same (register-fields (l .kind)) (numbers-from 1 (l .body))))
+-- ---- the shape of a kind: its body's length, its number of operands, its register fields
+pub record Shape (k size count : ℕ) (fields : List ℕ) : Type 0 where
+  pub sized : body-length k ≡ size
+  pub counted : operand-count k ≡ count
+  pub registers : register-fields k ≡ fields
 
+unfoldable pub shaped : ℕ → ℕ → List ℕ → ℕ → Bool
+shaped size count fields k = eqb (body-length k) size && (eqb (operand-count k) count && same (register-fields k) fields)
+
+pub shape-of : (k size count : ℕ) (fields : List ℕ) → shaped size count fields k ≡ true → Shape k size count fields
+unfolding shaped
+shape-of k size count fields h =
+    let a = and-both _ _ h in
+    let b = and-both _ _ (a .1) in
+    record { sized = eqb-true _ _ (a .0); counted = eqb-true _ _ (b .0); registers = same-true _ _ (b .1) }
+
+-- a layout is of an allowed kind, and of the shape of its kind
 pub record Agrees (allowed : ℕ → Bool) (l : Layout) : Type 0 where
   pub right : allowed (l .kind) ≡ true
-  pub sized : body-length (l .kind) ≡ length (l .body)
-  pub counted : operand-count (l .kind) ≡ length (l .operands)
-  pub fields : register-fields (l .kind) ≡ numbers-from 1 (l .body)
+  pub shape : Shape (l .kind) (length (l .body)) (length (l .operands)) (numbers-from 1 (l .body))
+
+agrees : (ℕ → Bool) → Layout → Bool
+agrees allowed l = allowed (l .kind) && shaped (length (l .body)) (length (l .operands)) (numbers-from 1 (l .body)) (l .kind)
 
 agreed : (allowed : ℕ → Bool) (l : Layout) → agrees allowed l ≡ true → Agrees allowed l
 unfolding agrees
-agreed allowed l h =
-    let a = and-both _ _ h in
-    let b = and-both _ _ (a .1) in
-    let c = and-both _ _ (b .1) in
-    record { right = a .0; sized = eqb-true _ _ (b .0); counted = eqb-true _ _ (c .0); fields = same-true _ _ (c .1) }
+agreed allowed l h = let w = and-both _ _ h in record { right = w .0; shape = shape-of _ _ _ _ (w .1) }
 
 -- ---- what is read of a layout
 abbrev Told : Instruction → Type 0
 Told i = (agrees is-ins (layout i) ≡ true) × (ins-of (layout i .kind) (values (layout i .body)) (layout i .operands) ≡ i)
 
 told : (i : Instruction) → Told i
-unfolding agrees body-length operand-count register-fields same
+unfolding agrees shaped body-length operand-count register-fields same
 told (Mov64 a b) = (refl, refl)
 told (Add64 a b) = (refl, refl)
 told (AddLea64 a b c) = (refl, refl)
@@ -76,7 +83,7 @@ abbrev OcmpTold : Ocmp → Type 0
 OcmpTold c = (agrees is-ocmp (ocmp-layout c) ≡ true) × (ocmp-of (ocmp-layout c .kind) (ocmp-layout c .operands) ≡ c)
 
 ocmp-told : (c : Ocmp) → OcmpTold c
-unfolding agrees body-length operand-count register-fields same
+unfolding agrees shaped body-length operand-count register-fields same
 ocmp-told (OEq a b) = (refl, refl)
 ocmp-told (ONe a b) = (refl, refl)
 ocmp-told (OLe a b) = (refl, refl)

@@ -8,7 +8,7 @@ pub mod KindLaws
 pub mod Layouts
 pub mod NumberLaws
 pub mod Classes
-pub mod Steps
+pub mod Reaches
 pub mod Parts
 pub mod Frames
 pub mod Forms

@@ -1,27 +1,25 @@
 -- What the functions of the reader's cycle answer is what the definition reaches, case by case. Assumes nothing.
 use Prim.Native.Nat.{ℕ, zero, suc, _+_, _-_, _≤_, _<_}
-use mathlib.Core.Path.{_≡_, refl, sym, ap, subst, _∙_}
-use mathlib.Core.Bool.{Bool, true, false, not, _||_, cond}
-use mathlib.Core.List.{List, [], _∷_}
+use mathlib.Core.Path.{_≡_, refl, sym, ap, _∙_}
+use mathlib.Core.Bool.{true, false}
+use mathlib.Core.List.{List}
 use native.Mathlib.Omega.{arith}
 use native.Mathlib.Numerals.{sub-one}
-use borrow.Author.Tests.{eq-eqb, ne-eqb, lt-ltb, le-ltb, lt-leb, le-leb}
-use lib.Dec.{eqb, ltb, leb}
+use borrow.Author.Tests.{eq-eqb, ne-eqb, lt-ltb, le-ltb}
 use lib.ListN.{length}
-use Rattle.machine.specs.Cells.{Verdict, accepted, refused}
+use Rattle.machine.specs.Cells.{accepted, refused}
 use Rattle.code.specs.declared.tree.Ocmp.{Ocmp}
-use Rattle.code.specs.Tree.{Code, Ins, Block, IfElse, While, Codes, ⟨⟩, _∷ᶜ_}
-use Rattle.code.specs.Records.{between, is-ins, is-structure, is-code, body-length, byte-at, number-at, behind, ins-at}
-use Rattle.code.specs.Reader.{Read, got, trouble, followed, unless, with-kind, with-body, read-with, read-ocmp, One, read-part, read-codes, read-block, read-if, read-while, read-structure, read-body, read-code, parse, verdict-of, check-code}
+use Rattle.code.specs.Tree.{Code, Ins, Block, IfElse, While, ⟨⟩, _∷ᶜ_}
+use Rattle.code.specs.Records.{is-ins, is-structure, is-code, body-length, byte-at, number-at, behind, ins-at}
+use Rattle.code.specs.Reader.{Read, got, trouble, followed, with-body, read-ocmp, One, read-part, read-codes, read-block, read-if, read-while, read-structure, read-body, read-code, parse, verdict-of, check-code}
 use Rattle.code.specs.Reached.{reached, reach, rest-of-all, structure-of}
 use Rattle.code.specs.declared.reader.Reach.{Reach}
 use Rattle.code.specs.declared.reader.Reach.the-variants.{Next, Trouble}
 use Rattle.code.proofs.Passing.{between-true}
 use Rattle.code.proofs.Sound.{code-sound, part-sound, ocmp-sound}
-use Rattle.code.proofs.KindLaws.{outside}
+use Rattle.code.proofs.KindLaws.{no-ins}
 use Rattle.code.proofs.Classes.{ins-is-code, structure-is-code}
-use Rattle.code.proofs.Steps.{reached-got, reached-trouble, stops, goes-on, kind-short, kind-wrong, kind-right, with-right}
-use mathlib.Core.Logic.{inl, inr}
+use Rattle.code.proofs.Reaches.{reached-got, reached-trouble, stops, goes-on, kind-short, kind-wrong, kind-right, with-right}
 
 -- a node is left away, and its parts' end stays
 pub erase-map : {A B : Type 0} (r : Read A) (f : A → B) → reached (followed r (λ a last. got (f a) last)) ≡ reached r
@@ -79,7 +77,7 @@ module _ (bs : List ℕ) (e at : ℕ) (in-part : at < e) where
   code-structure (suc d) r h z g =
       let c = structure-is-code (byte-at bs at) h in
       let w = between-true 0x20 0x22 (byte-at bs at) h in
-      let i : is-ins (byte-at bs at) ≡ false = outside 0x01 0x18 (byte-at bs at) (inr (omega arith)) in
+      let i : is-ins (byte-at bs at) ≡ false = no-ins (byte-at bs at) (w .0) in
       let f : reach r ≡ reached (with-body bs e at (read-structure (read-code d bs) bs e at)) = rw sub-one at g in
       f ∙ sym (ap reached (kind-right is-code bs e at (read-body (read-code d bs) bs e at) in-part c ∙ rw i refl))
 
@@ -257,7 +255,9 @@ pub record Going (d : ℕ) (bs : List ℕ) (e from at : ℕ) : Type 0 where
 pub codes-begin : (d : ℕ) (bs : List ℕ) (e from : ℕ) → from ≤ e → Going d bs e from from
 codes-begin d bs e from l = record { past = omega arith; within = l; left = e - from; enough = omega arith; same = refl }
 
-tail-of : (one : One) (n e at : ℕ) (c : Code) (next : ℕ) → (at ≡ e → ⊥) → one e at ≡ got c next → reached (read-codes one (suc n) e at) ≡ reached (read-codes one n e next)
+tail-of :
+    (one : One) (n e at : ℕ) (c : Code) (next : ℕ) → (at ≡ e → ⊥) → one e at ≡ got c next →
+    reached (read-codes one (suc n) e at) ≡ reached (read-codes one n e next)
 unfolding read-codes
 tail-of one n e at c next x h =
     rw (ne-eqb at e x)

@@ -1,7 +1,7 @@
 -- What a reading went through that got something: every test on the way passed. Assumes nothing.
-use Prim.Native.Nat.{ℕ, zero, suc, _+_, _≤_, _<_}
+use Prim.Native.Nat.{ℕ, _+_, _≤_}
 use mathlib.Core.Path.{_≡_, refl}
-use mathlib.Core.Bool.{Bool, true, false, not, _&&_, _||_, cond}
+use mathlib.Core.Bool.{Bool, true, false, _&&_, _||_, cond}
 use mathlib.Core.List.{List, [], _∷_}
 use mathlib.Core.Logic.{_⊎_, inl, inr}
 use native.Mathlib.Omega.{arith}
@@ -11,12 +11,16 @@ use Rattle.code.specs.Records.{between, byte-at}
 use Rattle.code.specs.Reader.{Read, got, trouble, followed, unless, with-fields}
 use Rattle.code.specs.Spells.{Fields}
 
+-- an equation of two different constructors, of which `cc` makes 0 ≡ 1, says anything
+pub clash : {A : Type 0} → _≡_ {A = ℕ} 0 1 → A
+clash z = absurd (omega arith)
+
 module _ {A : Type 0} where
   pub got-same : (a b : A) (m n : ℕ) → got a m ≡ got b n → (a ≡ b) × (m ≡ n)
   got-same a b m n h = (cc, cc)
 
   pub passed : (t : Bool) (n p : ℕ) (k : Read A) (a : A) (m : ℕ) → unless t n p k ≡ got a m → (t ≡ false) × (k ≡ got a m)
-  passed true n p k a m h = let z : _≡_ {A = ℕ} 0 1 = cc in absurd (omega arith)
+  passed true n p k a m h = clash (cc)
   passed false n p k a m h = (refl, h)
 
   pub either : (t : Bool) (x y r : Read A) → cond t x y ≡ r → ((t ≡ true) × (x ≡ r)) ⊎ ((t ≡ false) × (y ≡ r))
@@ -44,23 +48,23 @@ pub went-on :
     followed r k ≡ got b n → (a : A) × (m : ℕ) × (r ≡ got a m) × (k a m ≡ got b n)
 unfolding followed
 went-on (got a m) k b n h = (a, m, refl, h)
-went-on (trouble x p) k b n h = let z : _≡_ {A = ℕ} 0 1 = cc in absurd (omega arith)
+went-on (trouble x p) k b n h = clash (cc)
 
 -- Booleans
 pub and-both : (a b : Bool) → (a && b) ≡ true → (a ≡ true) × (b ≡ true)
 and-both true b h = (refl, h)
-and-both false b h = let z : _≡_ {A = ℕ} 0 1 = cc in absurd (omega arith)
+and-both false b h = clash (cc)
 
 pub or-right : (a b : Bool) → (a || b) ≡ true → a ≡ false → b ≡ true
-or-right true b h k = let z : _≡_ {A = ℕ} 0 1 = cc in absurd (omega arith)
+or-right true b h k = clash (cc)
 or-right false b h k = h
 
 pub or-none : (a b : Bool) → (a || b) ≡ false → (a ≡ false) × (b ≡ false)
-or-none true b h = let z : _≡_ {A = ℕ} 0 1 = cc in absurd (omega arith)
+or-none true b h = clash (cc)
 or-none false b h = (refl, h)
 
 pub never : true ≡ false → ⊥
-never h = let z : _≡_ {A = ℕ} 0 1 = cc in omega arith
+never h = clash (cc)
 
 -- the kinds of a range
 pub between-true : (low high k : ℕ) → between low high k ≡ true → (low ≤ k) × (k ≤ high)

@@ -1,14 +1,14 @@
 -- Every tree can be placed, and its bytes, its bounds and its depth do not depend on its places: so reading back what was
 -- written gives the placed tree. Assumes nothing.
-use Prim.Native.Nat.{ℕ, zero, suc, _+_, _≤_}
-use mathlib.Core.Path.{_≡_, refl, sym, ap, subst, _∙_}
-use mathlib.Core.List.{List, _∷_, _++_}
+use Prim.Native.Nat.{ℕ, _+_, _≤_}
+use mathlib.Core.Path.{_≡_, refl, sym, subst}
+use mathlib.Core.List.{List}
 use lib.ListN.{length}
 use Rattle.code.specs.Tree.{Code, Ins, Block, IfElse, While, Codes, ⟨⟩, _∷ᶜ_}
 use Rattle.code.specs.Reader.{got, parse}
 use Rattle.code.specs.Spells.{Nests, NestsAll}
 use Rattle.code.specs.WellFormed.{WfCode, WfCodes}
-use Rattle.code.specs.Writer.{bytes-of, bytes-of-ocmp, bytes-of-code, bytes-of-codes, PlacedAt, PlacedAll, place-code, place-codes}
+use Rattle.code.specs.Writer.{bytes-of-ocmp, bytes-of-code, bytes-of-codes, PlacedAt, PlacedAll, place-code, place-codes}
 use Rattle.code.proofs.ReadBack.{read-back}
 
 mutual

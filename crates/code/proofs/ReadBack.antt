@@ -1,9 +1,9 @@
 -- Reading back what was written gives the tree: the bytes of a code spell it, by recursion on the tree, and what is spelled
 -- is read. Assumes nothing.
-use Prim.Native.Nat.{ℕ, zero, suc, _+_, _*_, _^_, _≤_, _<_}
+use Prim.Native.Nat.{ℕ, suc, _+_, _^_, _≤_, _<_}
 use mathlib.Core.Path.{_≡_, refl, sym, ap, subst, _∙_}
-use mathlib.Core.Bool.{Bool, true}
-use mathlib.Core.List.{List, _∷_, _++_}
+use mathlib.Core.Bool.{Bool}
+use mathlib.Core.List.{List, _++_}
 use native.Mathlib.Omega.{arith}
 use lib.ListN.{length, length-append, length-map}
 use Rattle.code.specs.declared.tree.Instruction.{Instruction}
@@ -12,7 +12,7 @@ use Rattle.code.specs.Tree.{Code, Ins, Block, IfElse, While, Codes, ⟨�
 use Rattle.code.specs.Layout.{Layout, layout, ocmp-layout, value, values}
 use Rattle.code.specs.Records.{is-ins, is-ocmp, body-length, operand-count, byte-at, number-at, behind, bytes-at, operands-at, ins-at, ocmp-at}
 use Rattle.code.specs.Reader.{got, parse}
-use Rattle.code.specs.Spells.{Operands, Stands, IsBlock, IsOcmp, IsIfElse, IsWhile, Spells, SpellsAll, Nests, Parsed}
+use Rattle.code.specs.Spells.{Operands, Stands, IsOcmp, Spells, SpellsAll, Nests}
 use Rattle.code.specs.WellFormed.{WfLayout, WfIns, WfOcmp, WfCode, WfCodes}
 use Rattle.code.specs.Writer.{bytes-of, bytes-of-operands, bytes-of-record, bytes-of-ins, bytes-of-ocmp, bytes-of-code, bytes-of-codes, PlacedAt, PlacedAll}
 use Rattle.code.proofs.Layouts.{Agrees, ins-agrees, ins-read, ocmp-agrees, ocmp-read, bounds}
@@ -28,10 +28,10 @@ module _ (allowed : ℕ → Bool) (l : Layout) (agrees : Agrees allowed l) (wf :
   kind-is = held .0
 
   body-is : body-length (byte-at bs at) ≡ length (values (l .body))
-  body-is = ap body-length kind-is ∙ agrees .sized ∙ sym (length-map (l .body) value)
+  body-is = ap body-length kind-is ∙ agrees .shape .sized ∙ sym (length-map (l .body) value)
 
   count-is : operand-count (byte-at bs at) ≡ length (l .operands)
-  count-is = ap operand-count kind-is ∙ agrees .counted
+  count-is = ap operand-count kind-is ∙ agrees .shape .counted
 
   parts : Holds bs (suc at) (values (l .body)) × Holds bs (behind bs at) (bytes-of-operands (l .operands))
   unfolding bytes-of-record behind
@@ -58,7 +58,7 @@ module _ (allowed : ℕ → Bool) (l : Layout) (agrees : Agrees allowed l) (wf :
             record {
               kind = rw kind-is (agrees .right);
               inside = operands-le (operand-count (byte-at bs at)) bs (behind bs at) e o;
-              fields = rw (kind-is, agrees .fields) f;
+              fields = rw (kind-is, agrees .shape .registers) f;
             };
         operands = o;
       }

@@ -2,11 +2,11 @@
 use Prim.Native.Nat.{ℕ}
 use mathlib.Core.Path.{_≡_, refl, _∙_, ap}
 use mathlib.Core.List.{List}
-use native.Mathlib.Omega.{arith}
 use Rattle.machine.specs.Cells.{accepted, refused}
 use Rattle.code.specs.Tree.{Code}
 use Rattle.code.specs.Reader.{Read, got, trouble, parse, verdict-of, check-code}
 use Rattle.code.specs.Reading.{Reading, Writing}
+use Rattle.code.proofs.Passing.{clash}
 use Rattle.code.proofs.Sound.{parse-sound}
 use Rattle.code.proofs.Complete.{parse-complete}
 use Rattle.code.proofs.Unique.{one-code}
@@ -17,11 +17,11 @@ use Rattle.code.proofs.Placing.{read-back-placed}
 accepts-of : (r : Read Code) → verdict-of r ≡ accepted → (c : Code) × (e : ℕ) × (r ≡ got c e)
 unfolding verdict-of
 accepts-of (got c e) h = (c, e, refl)
-accepts-of (trouble n p) h = let z : _≡_ {A = ℕ} 0 1 = cc in absurd (omega arith)
+accepts-of (trouble n p) h = clash (cc)
 
 refuses-of : (r : Read Code) (n p : ℕ) → verdict-of r ≡ refused n p → r ≡ trouble n p
 unfolding verdict-of
-refuses-of (got c e) n p h = let z : _≡_ {A = ℕ} 0 1 = cc in absurd (omega arith)
+refuses-of (got c e) n p h = clash (cc)
 refuses-of (trouble m q) n p h =
     let x : m ≡ n = cc in
     let y : q ≡ p = cc in

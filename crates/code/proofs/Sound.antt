@@ -1,9 +1,9 @@
 -- What is read is spelled, and nests no deeper than was allowed: by recursion on the depth. Assumes nothing.
 use Prim.Native.Nat.{ℕ, zero, suc, _+_, _-_, _≤_, _<_}
-use mathlib.Core.Path.{_≡_, refl, sym, ap, subst, _∙_}
-use mathlib.Core.Bool.{Bool, true, false, not, _||_, cond}
-use mathlib.Core.List.{List, [], _∷_}
-use mathlib.Core.Logic.{_⊎_, inl, inr, ⊎-elim}
+use mathlib.Core.Path.{_≡_, refl, sym, subst}
+use mathlib.Core.Bool.{Bool, true, not, _||_}
+use mathlib.Core.List.{List}
+use mathlib.Core.Logic.{⊎-elim}
 use native.Mathlib.Omega.{arith}
 use borrow.Author.Tests.{eqb-true, eqb-false, ltb-false, leb-false, not-false}
 use lib.Dec.{eqb, ltb, leb}
@@ -11,9 +11,9 @@ use lib.ListN.{length}
 use Rattle.code.specs.declared.tree.Ocmp.{Ocmp}
 use Rattle.code.specs.Tree.{Code, Ins, Block, IfElse, While, Codes, ⟨⟩, _∷ᶜ_}
 use Rattle.code.specs.Records.{is-ins, is-structure, is-code, is-ocmp, is-operand, body-length, operand-count, register-fields, byte-at, number-at, behind, ins-at, ocmp-at}
-use Rattle.code.specs.Reader.{Read, got, trouble, followed, unless, with-kind, with-fields, read-record, read-operands, read-with, read-ocmp, One, read-part, read-codes, read-block, read-if, read-while, read-structure, read-body, read-code, parse}
-use Rattle.code.specs.Spells.{Fields, IsRecord, Operands, Stands, IsIns, IsBlock, IsOcmp, IsIfElse, IsWhile, Spells, SpellsAll, Nests, NestsAll, Parsed}
-use Rattle.code.proofs.Passing.{got-same, passed, either, fields-passed, went-on, or-right, or-none, between-true}
+use Rattle.code.specs.Reader.{Read, got, trouble, unless, with-kind, read-record, read-operands, read-with, read-ocmp, One, read-part, read-codes, read-block, read-if, read-while, read-structure, read-body, read-code, parse}
+use Rattle.code.specs.Spells.{IsRecord, Operands, Stands, IsOcmp, Spells, SpellsAll, Nests, NestsAll, Parsed}
+use Rattle.code.proofs.Passing.{clash, got-same, passed, either, fields-passed, went-on, or-right, or-none, between-true}
 
 -- where things end
 pub behind-past : (bs : List ℕ) (at : ℕ) → at < behind bs at
@@ -279,8 +279,7 @@ unfolding read-code
 code-sound zero bs e at c m h =
     let w = kind-passed is-code bs e at (trouble 5 at) c m h in
     let x = w .2 in
-    let z : _≡_ {A = ℕ} 0 1 = cc in
-    absurd (omega arith)
+    clash (cc)
 code-sound (suc d) bs e at c m h =
     let w = kind-passed is-code bs e at _ c m h in
     body-sound (read-code d bs) d bs (λ e at c m h. code-sound d bs e at c m h) e at c m (w .1) (w .2)

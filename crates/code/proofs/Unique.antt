@@ -1,10 +1,9 @@
 -- Bytes spell one code at most: at a depth that holds both, reading gives each of them. Assumes nothing.
-use Prim.Native.Nat.{ℕ, zero, suc, _+_, _≤_, _<_}
+use Prim.Native.Nat.{ℕ, zero, suc, _+_, _≤_}
 use mathlib.Core.Path.{_≡_, refl, sym, _∙_}
 use mathlib.Core.List.{List}
 use native.Mathlib.Omega.{arith}
 use Rattle.code.specs.Tree.{Code, Ins, Block, IfElse, While, Codes, ⟨⟩, _∷ᶜ_}
-use Rattle.code.specs.Reader.{got, read-code, read-codes}
 use Rattle.code.specs.Spells.{Spells, SpellsAll, Nests, NestsAll}
 use Rattle.code.proofs.Passing.{got-same}
 use Rattle.code.proofs.Complete.{code-complete, codes-complete}

@@ -17,10 +17,11 @@ abbrev pub among : List ℕ → ℕ → Bool
 among [] k = false
 among (n ∷ ns) k = eqb k n || among ns k
 
--- of a destination and a source: Mov64, Add64, AddCarry64, Adcx64, Adox64, Sub64, IMul64, Xor64, And64, Shr64 and Shl64
+-- the kinds of a destination and a source: Mov64, Add64, AddCarry64, Adcx64, Adox64, Sub64, IMul64, Xor64, And64, Shr64 and Shl64
 abbrev pub twos : List ℕ
 twos = 0x01 ∷ 0x02 ∷ 0x04 ∷ 0x05 ∷ 0x06 ∷ 0x07 ∷ 0x0a ∷ 0x0b ∷ 0x0c ∷ 0x0d ∷ 0x0e ∷ []
 
+-- a kind of a destination and a source
 abbrev pub is-two : ℕ → Bool
 is-two k = among twos k
 
@@ -28,10 +29,11 @@ is-two k = among twos k
 unfoldable pub two-ins : ℕ → Operand → Operand → Instruction
 two-ins k dst src = ins-of k [] (dst ∷ src ∷ [])
 
--- of two quads: Paddd, Pxor and Pcmpeqd
+-- the kinds of two quads: Paddd, Pxor and Pcmpeqd
 abbrev pub quads : List ℕ
 quads = 0x0f ∷ 0x10 ∷ 0x14 ∷ []
 
+-- a kind of two quads
 abbrev pub is-quads : ℕ → Bool
 is-quads k = among quads k
 
@@ -39,10 +41,11 @@ is-quads k = among quads k
 unfoldable pub quads-ins : ℕ → ℕ → ℕ → Instruction
 quads-ins k dst src = ins-of k (dst ∷ src ∷ []) []
 
--- of a quad and an amount: Pslld and Psrld
+-- the kinds of a quad and an amount: Pslld and Psrld
 abbrev pub shifts : List ℕ
 shifts = 0x11 ∷ 0x12 ∷ []
 
+-- a kind of a quad and an amount
 abbrev pub is-shifts : ℕ → Bool
 is-shifts k = among shifts k
 
@@ -50,10 +53,11 @@ is-shifts k = among shifts k
 unfoldable pub shifts-ins : ℕ → ℕ → ℕ → Instruction
 shifts-ins k dst amount = ins-of k (dst ∷ amount ∷ []) []
 
--- of a quad and an operand: Pinsrd and Pinsrq
+-- the kinds of a quad and an operand: Pinsrd and Pinsrq
 abbrev pub inserts : List ℕ
 inserts = 0x16 ∷ 0x17 ∷ []
 
+-- a kind of a quad and an operand
 abbrev pub is-inserts : ℕ → Bool
 is-inserts k = among inserts k
 

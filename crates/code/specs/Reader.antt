@@ -7,7 +7,7 @@ use lib.ListN.{length}
 use Rattle.machine.specs.Cells.{Verdict, accepted, refused}
 use Rattle.code.specs.declared.tree.Ocmp.{Ocmp}
 use Rattle.code.specs.Tree.{Code, Ins, Block, IfElse, While, Codes, ⟨⟩, _∷ᶜ_}
-use Rattle.code.specs.Records.{is-ins, is-code, is-ocmp, is-operand, body-length, operand-count, register-fields, byte-at, number-at, behind, ins-at, ocmp-at}
+use Rattle.code.specs.Records.{is-ins, is-code, is-ocmp, is-operand, operand-count, register-fields, byte-at, number-at, behind, ins-at, ocmp-at}
 
 -- what was read and the place behind it, or the first trouble with its number and place
 pub data Read (A : Type 0) : Type 0 where

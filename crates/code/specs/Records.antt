@@ -12,7 +12,7 @@ use Rattle.machine.specs.declared.Operand.{Operand}
 use Rattle.machine.specs.declared.Operand.the-variants.{OConst, OReg, OMem}
 use Rattle.code.specs.declared.tree.Instruction.{Instruction}
 use Rattle.code.specs.declared.tree.Ocmp.{Ocmp}
-use Rattle.code.specs.Layout.{layout, ins-of, ocmp-of, shape, ocmp-shape, numbers-from}
+use Rattle.code.specs.Layout.{ins-of, ocmp-of, shape, ocmp-shape, numbers-from}
 
 -- the kinds of a range
 abbrev pub between : ℕ → ℕ → ℕ → Bool

@@ -70,6 +70,7 @@ pub record IsWhile (p : ℕ) (bs : List ℕ) (at m e : ℕ) : Type 0 where
   pub ends : e ≡ m + number-at 4 bs (at + 1)
 
 unfoldable mutual
+  -- a code is spelled from `at` to e
   pub Spells : Code → List ℕ → ℕ → ℕ → Type 0
   Spells (Ins p i) bs at e = IsIns p i bs at e
   Spells (Block p cs) bs at e = IsBlock p bs at e × SpellsAll cs bs (at + 5) e
@@ -81,18 +82,20 @@ unfoldable mutual
       × Spells b bs (m + number-at 4 bs (at + 1)) e
   Spells (While p q c b) bs at e = (m : ℕ) × IsOcmp q c bs (at + 5) m × IsWhile p bs at m e × Spells b bs m e
 
+  -- codes in a row are
   pub SpellsAll : Codes → List ℕ → ℕ → ℕ → Type 0
   SpellsAll ⟨⟩ bs at e = at ≡ e
   SpellsAll (c ∷ᶜ cs) bs at e = (m : ℕ) × Spells c bs at m × SpellsAll cs bs m e
 
--- a code nests at most d deep
 unfoldable mutual
+  -- a code nests at most d deep
   pub Nests : Code → ℕ → Type 0
   Nests (Ins p i) d = 1 ≤ d
   Nests (Block p cs) d = (d′ : ℕ) × (d ≡ suc d′) × NestsAll cs d′
   Nests (IfElse p q c a b) d = (d′ : ℕ) × (d ≡ suc d′) × Nests a d′ × Nests b d′
   Nests (While p q c b) d = (d′ : ℕ) × (d ≡ suc d′) × Nests b d′
 
+  -- each of the codes in a row does
   pub NestsAll : Codes → ℕ → Type 0
   NestsAll ⟨⟩ d = Unit {0}
   NestsAll (c ∷ᶜ cs) d = Nests c d × NestsAll cs d

@@ -70,12 +70,14 @@ unfoldable pub WfOcmp : Ocmp → Type 0
 WfOcmp c = WfLayout (ocmp-layout c)
 
 unfoldable mutual
+  -- a code
   pub WfCode : Code → Type 0
   WfCode (Ins p i) = WfIns i
   WfCode (Block p cs) = WfCodes cs
   WfCode (IfElse p q c a b) = WfOcmp c × WfCode a × WfCode b
   WfCode (While p q c b) = WfOcmp c × WfCode b
 
+  -- codes in a row
   pub WfCodes : Codes → Type 0
   WfCodes ⟨⟩ = Unit {0}
   WfCodes (c ∷ᶜ cs) = WfCode c × WfCodes cs

@@ -82,6 +82,7 @@ unfoldable mutual
       × PlacedAt (at + 9 + length (bytes-of-ocmp c) + length (bytes-of-code a)) b
   PlacedAt at (While p q c b) = (p ≡ at) × (q ≡ at + 5) × PlacedAt (at + 5 + length (bytes-of-ocmp c)) b
 
+  -- codes in a row
   pub PlacedAll : ℕ → Codes → Type 0
   PlacedAll at ⟨⟩ = Unit {0}
   PlacedAll at (c ∷ᶜ cs) = PlacedAt at c × PlacedAll (at + length (bytes-of-code c)) cs
@@ -96,6 +97,7 @@ unfoldable mutual
       (place-code (at + 9 + length (bytes-of-ocmp c) + length (bytes-of-code a)) b)
   place-code at (While p q c b) = While at (at + 5) c (place-code (at + 5 + length (bytes-of-ocmp c)) b)
 
+  -- codes in a row
   pub place-codes : ℕ → Codes → Codes
   place-codes at ⟨⟩ = ⟨⟩
   place-codes at (c ∷ᶜ cs) = place-code at c ∷ᶜ place-codes (at + length (bytes-of-code c)) cs

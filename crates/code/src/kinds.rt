@@ -1,9 +1,10 @@
 // The kinds of records: what a kind byte is, and the table of body lengths and operand counts.
 ghost use mathlib.Core.Path.{_≡_};
 ghost use mathlib.Core.Bool.{true};
-ghost use Prim.Native.Nat.{_≤_, _<_};
-ghost use Rattle.code.specs.Records.{body-length, operand-count, register-fields};
+ghost use Prim.Native.Nat.{_<_};
+ghost use Rattle.code.specs.Records.{body-length, operand-count};
 ghost use Rattle.code.specs.Kinds.{class, is-used, entry-of, LastField};
+use crate::numbers::wide;
 
 // What a kind byte begins.
 pub enum Class {
@@ -287,16 +288,10 @@ const TABLE: [u8; 256] = [
     255,
 ];
 
-fn index(kind: u8) -> usize
-    ensures { λ r. ⌜ (r ≡ kind) × (r < 256) ⌝ }
-{
-    kind as usize
-}
-
 fn entry(kind: u8) -> usize
     ensures { λ r. ⌜ (r ≡ entry-of kind) × (r < 256) ⌝ }
 {
-    index(TABLE[index(kind)])
+    wide(TABLE[wide(kind)])
 }
 
 // The length of a kind's body.

@@ -37,21 +37,21 @@ table =
 right : ℕ → Bool
 right k = eqb (getD table k 0) (entry-of k)
 
-index-requires : tie.Need-index-requires
-index-requires c κs = search needs
+wide-requires : tie.Need-wide-requires
+wide-requires c κs = search needs
 
-array-read-index : tie.Need-array-read-index
-array-read-index c = search needs
+array-read-wide : tie.Need-array-read-wide
+array-read-wide c = search needs
 
-index-requires-2 : tie.Need-index-requires-2
-index-requires-2 c κs = search needs
+wide-requires-2 : tie.Need-wide-requires-2
+wide-requires-2 c κs = search needs
 
 returns : tie.Need-returns
 unfolding table right entry-of body-length operand-count
 returns c =
     let k = c .before .before .args .kind in
     let e = eqb-true (getD table k 0) (entry-of k) (within right 256 0 refl k (omega arith) (omega arith)) in
-    (c .index2 .ensures .0 ∙ ap (λ (i : ℕ). getD table i 0) (c .before .index .ensures .0) ∙ e, c .index2 .ensures .1)
+    (c .wide2 .ensures .0 ∙ ap (λ (i : ℕ). getD table i 0) (c .before .wide .ensures .0) ∙ e, c .wide2 .ensures .1)
 
 pub entry-spec : {M : Type 1} → statement M
-entry-spec = tie.close (tie.spec index-requires array-read-index index-requires-2 returns)
+entry-spec = tie.close (tie.spec wide-requires array-read-wide wide-requires-2 returns)

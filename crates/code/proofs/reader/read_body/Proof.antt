@@ -1,6 +1,6 @@
 -- `code::reader::read_body` meets its contract: the body fits, and the fields up to the last are at most 15.
 -- Assumes nothing.
-use Rattle.code.proofs.Steps.{body-short, body-none, body-first, body-one, body-second, body-two}
+use Rattle.code.proofs.Reaches.{body-short, body-none, body-first, body-one, body-second, body-two}
 use borrow.Author.Needs.{needs}
 use Rattle.code.proofs.reader.read_body.Statement.{statement}
 use Rattle.code.proofs.reader.read_body.Tie as tie

@@ -1,7 +1,7 @@
 -- `code::reader::read_ocmp` meets its contract: a byte is left, its class is Comparison, and the rest is `read_rest`'s.
 -- Assumes nothing.
 use Rattle.code.proofs.Classes.{ocmp-kind, not-ocmp, ocmp-used, others-2}
-use Rattle.code.proofs.Steps.{ocmp-short, ocmp-wrong, ocmp-right}
+use Rattle.code.proofs.Reaches.{ocmp-short, ocmp-wrong, ocmp-right}
 use borrow.Author.Needs.{needs}
 use Rattle.code.proofs.reader.read_ocmp.Statement.{statement}
 use Rattle.code.proofs.reader.read_ocmp.Tie as tie

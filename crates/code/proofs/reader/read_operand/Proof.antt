@@ -1,7 +1,7 @@
 -- `code::reader::read_operand` meets its contract: a byte is left, its class is Operand, and the rest is `read_body`'s.
 -- Assumes nothing.
 use Rattle.code.proofs.Classes.{operand-kind, not-operand, operand-used, others-3}
-use Rattle.code.proofs.Steps.{operand-short, operand-wrong, operand-right}
+use Rattle.code.proofs.Reaches.{operand-short, operand-wrong, operand-right}
 use borrow.Author.Needs.{needs}
 use Rattle.code.proofs.reader.read_operand.Statement.{statement}
 use Rattle.code.proofs.reader.read_operand.Tie as tie

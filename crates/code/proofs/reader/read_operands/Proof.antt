@@ -3,7 +3,7 @@
 use mathlib.Core.Path.{_≡_, refl, sym, _∙_}
 use borrow.Author.Needs.{needs}
 use Rattle.code.specs.Reader.{read-operands}
-use Rattle.code.proofs.Steps.{operands-go, operands-stop, operands-end}
+use Rattle.code.proofs.Reaches.{operands-go, operands-stop, operands-end}
 use Rattle.code.proofs.reader.read_operands.Statement.{statement}
 use Rattle.code.proofs.reader.read_operands.Tie as tie
 

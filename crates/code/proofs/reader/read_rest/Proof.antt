@@ -1,6 +1,6 @@
 -- `code::reader::read_rest` meets its contract: `read_body`, and then the operands that the table counts.
 -- Assumes nothing.
-use Rattle.code.proofs.Steps.{rest-go, rest-stop}
+use Rattle.code.proofs.Reaches.{rest-go, rest-stop}
 use borrow.Author.Needs.{needs}
 use Rattle.code.proofs.reader.read_rest.Statement.{statement}
 use Rattle.code.proofs.reader.read_rest.Tie as tie

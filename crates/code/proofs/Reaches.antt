@@ -1,28 +1,28 @@
 -- What each function of the reader answers is what the definition reaches, case by case. Assumes nothing.
 use Prim.Native.Nat.{ℕ, zero, suc, _+_, _-_, _≤_, _<_}
-use mathlib.Core.Path.{_≡_, refl, sym, ap, subst, _∙_}
-use mathlib.Core.Bool.{Bool, true, false, not, _||_, cond}
-use mathlib.Core.List.{List, [], _∷_}
+use mathlib.Core.Path.{_≡_, refl, sym, ap, _∙_}
+use mathlib.Core.Bool.{Bool, true, false}
+use mathlib.Core.List.{List}
 use native.Mathlib.Omega.{arith}
 use native.Mathlib.Numerals.{sub-one}
-use borrow.Author.Tests.{eq-eqb, ne-eqb, lt-ltb, le-ltb, le-leb, lt-leb}
-use lib.Dec.{eqb, ltb, leb}
-use Rattle.code.specs.Records.{is-ocmp, is-operand, body-length, operand-count, register-fields, byte-at, behind, ocmp-at}
+use borrow.Author.Tests.{lt-ltb, le-ltb, le-leb, lt-leb}
+use Rattle.code.specs.Records.{is-ocmp, is-operand, body-length, operand-count, byte-at, behind, ocmp-at}
 use Rattle.code.specs.Kinds.{fields-to, LastField}
 use Rattle.code.specs.Reader.{Read, got, trouble, followed, with-kind, with-fields, read-record, read-operands, read-with, read-ocmp}
 use Rattle.code.specs.Reached.{reached, reach, rest-of-record, rest-of-all}
 use Rattle.code.specs.declared.reader.Reach.{Reach}
 use Rattle.code.specs.declared.reader.Reach.the-variants.{Next, Trouble}
+use Rattle.code.proofs.Passing.{clash}
 
 -- readings without their trees
 pub reached-got : {A : Type 0} (r : Read A) (m : ℕ) → got tt m ≡ reached r → (a : A) × (r ≡ got a m)
 unfolding reached
 reached-got (got a n) m h = (a, ap (got a) (let e : n ≡ m = cc in e))
-reached-got (trouble n p) m h = let z : _≡_ {A = ℕ} 0 1 = cc in absurd (omega arith)
+reached-got (trouble n p) m h = clash (cc)
 
 pub reached-trouble : {A : Type 0} (r : Read A) (n p : ℕ) → trouble n p ≡ reached r → r ≡ trouble n p
 unfolding reached
-reached-trouble (got a m) n p h = let z : _≡_ {A = ℕ} 0 1 = cc in absurd (omega arith)
+reached-trouble (got a m) n p h = clash (cc)
 reached-trouble (trouble x y) n p h =
     let e : x ≡ n = cc in
     let f : y ≡ p = cc in
