@@ -24,8 +24,8 @@ use Rattle.code.specs.declared.tree.Instruction.{Instruction}
 use Rattle.code.specs.declared.tree.Instruction.the-variants.{Mov64, Add64, AddLea64, AddCarry64, Adcx64, Adox64, Sub64, Mul64, Mulx64, IMul64, Xor64, And64, Shr64, Shl64, Paddd, Pxor, Pslld, Psrld, Pshufd, Pcmpeqd, Pextrq, Pinsrd, Pinsrq, VPSLLDQ}
 use Rattle.code.specs.WellFormed.{WfTwo, WfIns}
 use Rattle.eval.specs.Config.{Env, Config, with-flags, with-regs, End, ends, done, fault, check}
-use Rattle.eval.specs.Flags.{add-flags}
-use Rattle.eval.specs.Steps.{eval-operand, update-operand, source, amount, write, write-xmm, run-mulx, run-ins}
+use Rattle.eval.specs.Instructions.{add-flags, two-word, two-flags, quads-word, quads-flags, shifts-word, inserts-word, eval-operand, update-operand, act, run-ins}
+use Rattle.eval.proofs.Shapes.{read-check, amount-check, write, write-xmm, write-halves, halves-kept}
 use Rattle.bytemachine.specs.ByteMachine.{BState, read, step}
 use Rattle.bytemachine.specs.ByteMachine.{write as put-to, with-flags as flagged, write-xmm as put-xmm, with-regs as regs-put}
 use Rattle.bytemachine.proofs.Operands.{Kept, xmm-quad, set-xmm-kept, with-flags-kept, operand-small, dst-valid, lay, reads, Follows, follows-flags, puts, put-flags}
@@ -63,7 +63,7 @@ module _ (env : Env) (memory : ByteMemory) where
 
     -- a destination is read and written with a source, and the flags are made of the two words
     combined : (p : ℕ) (dst src : Operand) (f g : ℕ → ℕ → ℕ) → WfTwo dst src → ((a b : ℕ) → a < 2 ^ 64 → b < 2 ^ 64 → f a b < 2 ^ 64)
-        → (let a = eval-operand env dst s in let b = eval-operand env src s in source env p src s (write env p dst (f a b) (g a b) s)) ≡ ends done t
+        → (let a = eval-operand env dst s in let b = eval-operand env src s in read-check env p src s (write env p dst (f a b) (g a b) s)) ≡ ends done t
         → Goes (flagged (g (read dst (at s)) (read src (at s))) (put-to dst (f (read dst (at s)) (read src (at s))) (at s))) s t
     combined p dst src f g fits h e =
         let c = passed _ 31 p s _ t e in
@@ -75,14 +75,14 @@ module _ (env : Env) (memory : ByteMemory) where
     unflagged : (o : Operand) (v : ℕ) → Goes (flagged (s .flags) (put-to o v (at s))) s t → Goes (put-to o v (at s)) s t
     unflagged o v h = subst (λ b. Goes b s t) (put-flags o v (at s)) h
 
-    wrote-xmm : (x : ℕ) (q : Four ℕ) (flags : ℕ) → Quad q → write-xmm env x q flags s ≡ ends done t → Goes (flagged flags (put-xmm x q (at s))) s t
-    wrote-xmm x q flags h e =
+    wrote-xmm : (p x : ℕ) (q : Four ℕ) (flags : ℕ) → Quad q → write-xmm env p x q flags s ≡ ends done t → Goes (flagged flags (put-xmm x q (at s))) s t
+    wrote-xmm p x q flags h e =
         subst (λ u. Goes (flagged flags (put-xmm x q (at s))) s u) (is-done e)
         (record { same = refl; kept = with-flags-kept flags (set-xmm-kept x q h kept); rsp = refl })
 
     -- two sources
     summed : (p : ℕ) (dst a b : Operand)
-        → source env p a s (source env p b s (write env p dst (sum-mod 64 (eval-operand env a s + eval-operand env b s)) (s .flags) s)) ≡ ends done t
+        → read-check env p a s (read-check env p b s (write env p dst (sum-mod 64 (eval-operand env a s + eval-operand env b s)) (s .flags) s)) ≡ ends done t
         → Goes (put-to dst (sum-mod 64 (read a (at s) + read b (at s))) (at s)) s t
     summed p dst a b e =
         let c = passed _ 31 p s _ t e in
@@ -92,7 +92,7 @@ module _ (env : Env) (memory : ByteMemory) where
 
     -- a shift, whose amount is checked besides
     shifted : (p : ℕ) (dst amt : Operand) (f : ℕ → ℕ → ℕ) → WfTwo dst amt → ((a b : ℕ) → a < 2 ^ 64 → b < 2 ^ 64 → f a b < 2 ^ 64)
-        → amount env p amt s (write env p dst (f (eval-operand env dst s) (eval-operand env amt s)) (env .fill) s) ≡ ends done t
+        → amount-check env p amt s (write env p dst (f (eval-operand env dst s) (eval-operand env amt s)) (env .fill) s) ≡ ends done t
         → Goes (flagged (env .fill) (put-to dst (f (read dst (at s)) (read amt (at s))) (at s))) s t
     shifted p dst amt f fits h e =
         let c = passed _ 31 p s _ t e in
@@ -118,21 +118,20 @@ module _ (env : Env) (memory : ByteMemory) where
         })
 
     -- Mulx64: the low half, and then the high half from there
-    halves : (p : ℕ) (dst-hi dst-lo : Operand) (hi lo : ℕ) → hi < 2 ^ 64 → lo < 2 ^ 64 → run-mulx env p dst-hi dst-lo hi lo s ≡ ends done t
+    halves : (p : ℕ) (dst-hi dst-lo : Operand) (hi lo : ℕ) → hi < 2 ^ 64 → lo < 2 ^ 64 → write-halves env p dst-hi dst-lo hi lo s ≡ ends done t
         → Goes (put-to dst-hi hi (put-to dst-lo lo (at s))) s t
-    unfolding run-mulx
     halves p dst-hi dst-lo hi lo h l e =
         let u = update-operand env dst-lo lo s in
         let c = passed _ 32 p s _ t e in
         let d = passed _ 32 p s _ t (c .1) in
         let low = puts env memory dst-lo lo s (c .0) l kept in
         let high = puts env memory dst-hi hi u (d .0) h (low .kept) in
-        subst (λ x. Goes (put-to dst-hi hi (put-to dst-lo lo (at s))) s x) (is-done (d .1))
+        subst (λ x. Goes (put-to dst-hi hi (put-to dst-lo lo (at s))) s x) (halves-kept env dst-lo dst-hi lo hi s ∙ is-done (d .1))
         (record { same = ap (put-to dst-hi hi) (low .same) ∙ high .same; kept = high .kept; rsp = high .rsp ∙ low .rsp })
 
     -- ---- an instruction
     pub follows-ins : (p : ℕ) (i : Instruction) → WfIns i → run-ins env p i s ≡ ends done t → Goes (step (env .fill) i (at s)) s t
-    unfolding WfIns run-ins step
+    unfolding WfIns run-ins act step two-word two-flags quads-word quads-flags shifts-word inserts-word
     follows-ins p (Mov64 dst src) fits e = unflagged dst _ (combined p dst src (λ a b. b) (λ a b. s .flags) fits (λ a b h k. k) e)
     follows-ins p (Add64 dst src) fits e =
         combined p dst src (λ a b. sum-mod 64 (a + b)) (λ a b. add-flags (env .fill) (s .flags) a b 0) fits (λ a b h k. sum-mod-lt 64 _) e
@@ -163,21 +162,21 @@ module _ (env : Env) (memory : ByteMemory) where
     follows-ins p (And64 dst src) fits e = combined p dst src (iand 64) (λ a b. env .fill) fits (λ a b h k. iand-lt 64 a b) e
     follows-ins p (Shr64 dst amt) fits e = shifted p dst amt ishr fits (λ a b h k. ishr-lt 64 b h) e
     follows-ins p (Shl64 dst amt) fits e = shifted p dst amt (ishl 64) fits (λ a b h k. ishl-lt 64 a b) e
-    follows-ins p (Paddd dst src) fits e = wrote-xmm dst _ (env .fill) (add-lanes-quad _ _) e
-    follows-ins p (Pxor dst src) fits e = wrote-xmm dst _ (s .flags) (quad32-xor-quad _ _) e
-    follows-ins p (Pslld dst amt) fits e = wrote-xmm dst _ (s .flags) (shl-lanes-quad _ amt) (passed _ 34 p s _ t e .1)
-    follows-ins p (Psrld dst amt) fits e = wrote-xmm dst _ (s .flags) (shr-lanes-quad _ amt (xmm-quad dst kept)) (passed _ 34 p s _ t e .1)
-    follows-ins p (Pshufd dst src imm8) fits e = wrote-xmm dst _ (s .flags) (shuffle-lanes-quad _ imm8 (xmm-quad src kept)) e
-    follows-ins p (Pcmpeqd dst src) fits e = wrote-xmm dst _ (s .flags) (equal-lanes-quad _ _) e
+    follows-ins p (Paddd dst src) fits e = wrote-xmm p dst _ (env .fill) (add-lanes-quad _ _) e
+    follows-ins p (Pxor dst src) fits e = wrote-xmm p dst _ (s .flags) (quad32-xor-quad _ _) e
+    follows-ins p (Pslld dst amt) fits e = wrote-xmm p dst _ (s .flags) (shl-lanes-quad _ amt) (passed _ 34 p s _ t e .1)
+    follows-ins p (Psrld dst amt) fits e = wrote-xmm p dst _ (s .flags) (shr-lanes-quad _ amt (xmm-quad dst kept)) (passed _ 34 p s _ t e .1)
+    follows-ins p (Pshufd dst src imm8) fits e = wrote-xmm p dst _ (s .flags) (shuffle-lanes-quad _ imm8 (xmm-quad src kept)) e
+    follows-ins p (Pcmpeqd dst src) fits e = wrote-xmm p dst _ (s .flags) (equal-lanes-quad _ _) e
     follows-ins p (Pextrq dst src index) fits e =
         unflagged dst _ (wrote p dst _ (s .flags) (extracted-lt (xmm-at (s .xmms) src) (index % 2) (xmm-quad src kept)) e)
     follows-ins p (Pinsrd dst src index) fits e =
         let c = passed _ 31 p s _ t e in
         rw (reads env memory src s (c .0) kept)
-        (wrote-xmm dst _ (s .flags) (insert-nat32-quad _ _ (index % 4) (xmm-quad dst kept) (omega arith)) (c .1))
+        (wrote-xmm p dst _ (s .flags) (insert-nat32-quad _ _ (index % 4) (xmm-quad dst kept) (omega arith)) (c .1))
     follows-ins p (Pinsrq dst src index) fits e =
         let c = passed _ 31 p s _ t e in
         rw (reads env memory src s (c .0) kept)
-        (wrote-xmm dst _ (s .flags) (insert-nat64-quad _ _ (index % 2) (xmm-quad dst kept)) (c .1))
+        (wrote-xmm p dst _ (s .flags) (insert-nat64-quad _ _ (index % 2) (xmm-quad dst kept)) (c .1))
     follows-ins p (VPSLLDQ dst src count) fits e =
-        wrote-xmm dst _ (s .flags) (shift-quad-quad _ (xmm-quad src kept)) (passed _ 35 p s _ t e .1)
+        wrote-xmm p dst _ (s .flags) (shift-quad-quad _ (xmm-quad src kept)) (passed _ 35 p s _ t e .1)

@@ -23,7 +23,7 @@ use Rattle.machine.proofs.Accepting.{Accepted, store-accepted}
 use Rattle.machine.proofs.ByteLaws.{over, over-read, over-write}
 use Rattle.code.specs.WellFormed.{WfOperand}
 use Rattle.eval.specs.Config.{Env, Config, with-flags, with-xmms}
-use Rattle.eval.specs.Steps.{cell-of, valid-operand, eval-operand, valid-dst-operand, update-operand}
+use Rattle.eval.specs.Instructions.{cell-of, valid-operand, eval-operand, valid-dst-operand, update-operand}
 use Rattle.bytemachine.specs.ByteMachine.{BState, read}
 use Rattle.bytemachine.specs.ByteMachine.{write as put-to, with-flags as flagged}
 

@@ -13,7 +13,7 @@ use Rattle.code.specs.declared.tree.Ocmp.the-variants.{OEq, ONe, OLe, OGe, OLt,
 use Rattle.code.specs.Tree.{Code, Ins, Block, IfElse, While, Codes, ⟨⟩, _∷ᶜ_}
 use Rattle.code.specs.WellFormed.{WfCode, WfCodes}
 use Rattle.eval.specs.Config.{Env, Config, with-flags, End, ends, Outcome, done, fault, spent, refused, continue, choose}
-use Rattle.eval.specs.Steps.{valid-operand, eval-operand, valid-ocmp, eval-ocmp}
+use Rattle.eval.specs.Instructions.{valid-operand, eval-operand, valid-ocmp, eval-ocmp}
 use Rattle.eval.specs.Running.{run-ocmp, rounds, run-code, run-codes}
 use Rattle.bytemachine.specs.ByteMachine.{BState, read, test, branch, go-on, loop, exec, execs}
 use Rattle.bytemachine.proofs.Operands.{Kept, with-flags-kept, lay, reads}

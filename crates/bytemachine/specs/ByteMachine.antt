@@ -19,7 +19,7 @@ use Rattle.code.specs.declared.tree.Instruction.the-variants.{Mov64, Add64, Add
 use Rattle.code.specs.declared.tree.Ocmp.{Ocmp}
 use Rattle.code.specs.declared.tree.Ocmp.the-variants.{OEq, ONe, OLe, OGe, OLt, OGt}
 use Rattle.code.specs.Tree.{Code, Ins, Block, IfElse, While, Codes, ⟨⟩, _∷ᶜ_}
-use Rattle.eval.specs.Flags.{add-flags}
+use Rattle.eval.specs.Instructions.{add-flags}
 
 -- registers, xmm words, flags, bytes
 pub record BState : Type 0 where

@@ -3,7 +3,7 @@ ghost use mathlib.Core.Path.{_≡_};
 ghost use Rattle.machine.specs.Cells.{verdict, check-cells};
 ghost use Rattle.code.specs.Reader.{check-code};
 ghost use Rattle.eval.specs.Config.{outcome};
-ghost use Rattle.eval.specs.Lent.{environment, held};
+ghost use Rattle.eval.specs.Promises.{environment, held};
 ghost use Rattle.eval.specs.Running.{run-of};
 ghost use Rattle.eval.specs.Inputs.{IsInput};
 ghost use Rattle.job.specs.Job.{output, code-of, state-of, setting-of};

@@ -20,8 +20,7 @@ use Rattle.code.specs.Tree.{Ins}
 use Rattle.code.specs.Records.{body-length, operand-count, register-fields, number-at, signed-at, operand-at, behind, operands-at, ins-at, ocmp-at}
 use Rattle.code.specs.Reader.{got, followed, with-fields, read-record, read-operands, read-with, read-ocmp, read-part, read-codes, read-block, read-if, read-while, read-structure, read-body, read-code, parse, verdict-of, check-code}
 use Rattle.eval.specs.Config.{Env, Config, with-flags, with-values, End, ends, Outcome, done, fault, spent, continue, check, choose}
-use Rattle.eval.specs.Flags.{add-flags}
-use Rattle.eval.specs.Steps.{cell-of, valid-operand, eval-operand, valid-dst-operand, update-operand, run-mulx, run-ins, valid-ocmp, eval-ocmp}
+use Rattle.eval.specs.Instructions.{add-flags, two-word, two-flags, quads-word, quads-flags, shifts-word, inserts-word, cell-of, valid-operand, eval-operand, valid-dst-operand, update-operand, act, run-ins, valid-ocmp, eval-ocmp}
 use Rattle.job.specs.Text.{digits, name-of, first-line, reg-lines, xmm-lines, cell-lines, render}
 use Rattle.job.specs.Job.{numbers, check-job, end-checked, output}
 use Rattle.eval.specs.Running.{run-ocmp, rounds, run-code, run-checked, run-read, run-of}
@@ -127,7 +126,8 @@ kernels =
 -- Running, with all that it computes with opened
 unfoldable pub ran : Kernel → End
 unfolding run-of run-read run-checked run-code rounds run-ocmp continue check choose
-    cell-of valid-operand eval-operand valid-dst-operand update-operand run-mulx run-ins valid-ocmp eval-ocmp add-flags
+    cell-of valid-operand eval-operand valid-dst-operand update-operand act run-ins valid-ocmp eval-ocmp add-flags two-word two-flags
+    quads-word quads-flags shifts-word inserts-word
     find-cell eqℤ eval-maddr valid-dst xmm-at set-xmm
     cf overflow update-cf update-of
     sum-mod sum-carry sub-mod mul-div mul-mod shl-lanes shuffle-lanes shift-quad

@@ -15,7 +15,7 @@ use Rattle.code.specs.Tree.{Code}
 use Rattle.code.specs.Reader.{got, parse, check-code}
 use Rattle.code.specs.WellFormed.{Bytes}
 use Rattle.eval.specs.Config.{Env, Config, config, End, ends, done, fault, refused}
-use Rattle.eval.specs.Steps.{run-ins}
+use Rattle.eval.specs.Instructions.{run-ins}
 use Rattle.eval.specs.Running.{run-of}
 use Rattle.stores.specs.OnlyStores.{OnlyStores}
 use Rattle.source.specs.Upstream.{Upstream}

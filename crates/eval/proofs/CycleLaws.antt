@@ -1,4 +1,4 @@
--- How the parts of a code run: what an answered step says of the run that it is a part of. Assumes nothing.
+-- How the parts of a code run: what an exit says of the run that it is a part of. Assumes nothing.
 use Prim.Native.Nat.{ℕ, zero, suc, _+_, _-_, _≤_, _<_}
 use mathlib.Core.Path.{_≡_, refl, sym, ap, subst, _∙_}
 use mathlib.Core.Bool.{Bool, true, false, cond}
@@ -16,14 +16,12 @@ use Rattle.code.specs.Spells.{Stands, Spells, SpellsAll}
 use Rattle.code.proofs.Sound.{stands-past}
 use Rattle.code.proofs.CodeFrames.{Frame, frame, ins-there, block-there, if-there, while-there, first-there, none-there, list-of-one, structure-long}
 use Rattle.eval.specs.Config.{Env, Config, with-flags, Outcome, done, fault, spent, refused, End, ends, continue, and-then, check, choose}
-use Rattle.eval.specs.Steps.{run-ins, valid-ocmp, eval-ocmp}
+use Rattle.eval.specs.Instructions.{run-ins, valid-ocmp, eval-ocmp}
 use Rattle.eval.specs.Running.{run-ocmp, rounds, run-code, run-codes}
-use Rattle.eval.specs.Stepped.{how, Ran}
-use Rattle.eval.specs.Comparing.{Compares}
-use Rattle.eval.specs.Lent.{Cells}
-use Rattle.eval.specs.Coded.{CodeAt, CodesAt, codes-from, Runs, RunsAll}
-use Rattle.eval.specs.declared.step.Step.{Step}
+use Rattle.eval.specs.Promises.{how, Ran, RunsIns, Compares, ComparesAt, Cells, CodeAt, CodesAt, codes-from, Runs, RunsAll}
+use Rattle.eval.specs.declared.exit.Exit.{Exit}
 use Rattle.eval.specs.declared.comparison.Compared.{Compared}
+use Rattle.eval.proofs.InstructionLaws.{exit}
 
 pub code-frame : (bs : List ℕ) (at : ℕ) (c : CodeAt bs at) → Frame bs at (c .end)
 code-frame bs at c = frame (c .code) bs at (c .end) (c .spelled)
@@ -65,7 +63,7 @@ loop-inside bs at c k =
 pub still-cells : (xs ts vs ws : List ℕ) → Cells xs ts vs → length ws ≡ length vs → Cells xs ts ws
 still-cells xs ts vs ws c h = record { searchable = c .searchable; long = h ∙ c .long }
 
--- ---- what follows a step
+-- ---- what follows an exit
 stopped :
     (b : Bool) (n p : ℕ) (s : Config) (k : Config → End) →
     continue (cond b (spent p) (fault n p)) s k ≡ ends (cond b (spent p) (fault n p)) s
@@ -73,14 +71,14 @@ unfolding continue
 stopped true n p s k = refl
 stopped false n p s k = refl
 
-pub how-done : (r : Step) → r .number ≡ 0 → how r ≡ done
+pub how-done : (r : Exit) → r .number ≡ 0 → how r ≡ done
 how-done r h = rw (eq-eqb (r .number) 0 h)
 
 how-stops :
-    (r : Step) (s : Config) (k : Config → End) → (r .number ≡ 0 → ⊥) → continue (how r) s k ≡ ends (how r) s
+    (r : Exit) (s : Config) (k : Config → End) → (r .number ≡ 0 → ⊥) → continue (how r) s k ≡ ends (how r) s
 how-stops r s k h = rw (ne-eqb (r .number) 0 h) (stopped (eqb (r .number) 1) (r .number) (r .place) s k)
 
-module _ (f : End) (m : ℕ) (r : Step) (t : Config) (ran : Ran f m r t) (k : Config → End) where
+module _ (f : End) (m : ℕ) (r : Exit) (t : Config) (ran : Ran f m r t) (k : Config → End) where
   goes-on : r .number ≡ 0 → and-then f k ≡ k t
   unfolding continue
   goes-on h =
@@ -103,9 +101,9 @@ run-one env c fuel s = let e = run-code env c fuel s in done-last (e .how) (e .c
 
 -- ---- an instruction
 pub ins-ran :
-    (env : Env) (bs : List ℕ) (at fuel : ℕ) (s : Config) (r : Step) (t : Config) →
+    (env : Env) (bs : List ℕ) (at fuel : ℕ) (s : Config) (r : Exit) (t : Config) →
     byte-at bs at < 0x20 →
-    ((e : ℕ) → Stands is-ins bs at e → Ran (run-ins env at (ins-at bs at) s) e r t) →
+    RunsIns env bs at s r t →
     Runs env bs at fuel s r t
 unfolding run-code
 ins-ran env bs at fuel s r t k g c e h =
@@ -124,7 +122,7 @@ module _ (bs : List ℕ) (at : ℕ) where
       go false k = record { codes = c ∷ᶜ ⟨⟩; spelled = list-of-one c bs at e h; inside = l }
 
   pub part-ran :
-      (env : Env) (e fuel : ℕ) (s : Config) (r : Step) (t : Config) →
+      (env : Env) (e fuel : ℕ) (s : Config) (r : Exit) (t : Config) →
       RunsAll env bs (codes-from bs at) e fuel s r t → (c : Code) → Spells c bs at e → Ran (run-code env c fuel s) e r t
   unfolding run-code
   part-ran env e fuel s r t g c h = go (eqb (byte-at bs at) 0x20) refl g
@@ -164,7 +162,7 @@ module _ (env : Env) (bs : List ℕ) (from e fuel : ℕ) (s₀ : Config) (at : �
       let w = first-there (g .there .0) bs at e (g .there .1) l in
       record { code = w .first; end = w .mid; spelled = w .spelled; inside = omega (arith, w .within) }
 
-  pub codes-done : e ≤ at → RunsAll env bs from e fuel s₀ (record { number = 0; place = e }) s
+  pub codes-done : e ≤ at → RunsAll env bs from e fuel s₀ (exit 0 e) s
   unfolding run-codes
   codes-done l cs h =
       let w = g .same cs h in
@@ -173,7 +171,7 @@ module _ (env : Env) (bs : List ℕ) (from e fuel : ℕ) (s₀ : Config) (at : �
         next = λ _. refl;
       }
 
-  module _ (r : Step) (t : Config) (ran : Runs env bs at fuel s r t) (l : at < e) where
+  module _ (r : Exit) (t : Config) (ran : Runs env bs at fuel s r t) (l : at < e) where
     pub next-past : r .number ≡ 0 → (at < r .place) × (r .place ≤ e)
     next-past z =
         let w = first-there (g .there .0) bs at e (g .there .1) l in
@@ -192,12 +190,12 @@ module _ (env : Env) (bs : List ℕ) (from e fuel : ℕ) (s₀ : Config) (at : �
           same = λ cs h.
               let u = g .same cs h in
               let f = first-there (u .0) bs at e (u .1) l in
-              let step = ran (f .first) (f .mid) (f .spelled) in (
+              let went = ran (f .first) (f .mid) (f .spelled) in (
                 f .rest,
-                rests (f .rest) (f .mid) (step .next z) (f .spelled-rest),
+                rests (f .rest) (f .mid) (went .next z) (f .spelled-rest),
                 u .2
                     ∙ ap (λ (x : Codes). run-codes env x fuel s) (f .is)
-                    ∙ goes-on (run-code env (f .first) fuel s) (f .mid) r t step (run-codes env (f .rest) fuel) z,
+                    ∙ goes-on (run-code env (f .first) fuel s) (f .mid) r t went (run-codes env (f .rest) fuel) z,
               );
           long = v ∙ g .long;
           past = omega (arith, next-past z .0, g .past);
@@ -229,7 +227,7 @@ block-codes bs at e k d c =
     }
 
 module _ (env : Env) (bs : List ℕ) (at e fuel : ℕ) (s : Config) (k : byte-at bs at ≡ 0x20) (d : e ≡ at + 5 + number-at 4 bs (at + 1)) where
-  pub block-ran : (r : Step) (t : Config) → RunsAll env bs (at + 5) e fuel s r t → Runs env bs at fuel s r t
+  pub block-ran : (r : Exit) (t : Config) → RunsAll env bs (at + 5) e fuel s r t → Runs env bs at fuel s r t
   unfolding run-code
   block-ran r t g c x h =
       let w = block-there c bs at x h k in
@@ -240,46 +238,40 @@ module _ (env : Env) (bs : List ℕ) (at e fuel : ℕ) (s : Config) (k : byte-at
         next = λ z. f .next z ∙ sym y;
       }
 
--- ---- what the number of a comparison says
-unread-of : (v h : Bool) (n : ℕ) → n ≡ cond v (cond h 1 0) 2 → n ≡ 2 → v ≡ false
+-- ---- what the number of a comparison says: v is whether it passes its check, and h whether it holds
+unread-of : (v h : Bool) (n : ℕ) → n ≡ cond v (cond h 1 0) 31 → 1 < n → (v ≡ false) × (n ≡ 31)
 unread-of true true n e k = absurd (omega arith)
 unread-of true false n e k = absurd (omega arith)
-unread-of false h n e k = refl
+unread-of false h n e k = (refl, e)
 
-read-of : (v h : Bool) (n : ℕ) → n ≡ cond v (cond h 1 0) 2 → (n ≡ 2 → ⊥) → v ≡ true
-read-of true h n e k = refl
-read-of false h n e k = absurd (k e)
-
-holds-of : (v h : Bool) (n : ℕ) → n ≡ cond v (cond h 1 0) 2 → (n ≡ 2 → ⊥) → (n ≡ 0 → ⊥) → h ≡ true
-holds-of true true n e k l = refl
+holds-of : (v h : Bool) (n : ℕ) → n ≡ cond v (cond h 1 0) 31 → n ≤ 1 → (n ≡ 0 → ⊥) → (v ≡ true) × (h ≡ true)
+holds-of true true n e k l = (refl, refl)
 holds-of true false n e k l = absurd (l e)
-holds-of false h n e k l = absurd (k e)
+holds-of false h n e k l = absurd (omega arith)
 
-fails-of : (v h : Bool) (n : ℕ) → n ≡ cond v (cond h 1 0) 2 → (n ≡ 2 → ⊥) → (n ≡ 1 → ⊥) → h ≡ false
+fails-of : (v h : Bool) (n : ℕ) → n ≡ cond v (cond h 1 0) 31 → n ≤ 1 → (n ≡ 1 → ⊥) → (v ≡ true) × (h ≡ false)
 fails-of true true n e k l = absurd (l e)
-fails-of true false n e k l = refl
-fails-of false h n e k l = absurd (k e)
+fails-of true false n e k l = (refl, refl)
+fails-of false h n e k l = absurd (omega arith)
 
-module _ (env : Env) (q : ℕ) (c : Ocmp) (s : Config) (m : ℕ) (x : Compared) (w : Compares env s c m x) (f g : Config → End) where
-  ocmp-unread : x .how ≡ 2 → run-ocmp env q c f g s ≡ ends (fault 31 q) s
+module _ (env : Env) (q : ℕ) (c : Ocmp) (s : Config) (m : ℕ) (x : Compared) (flags′ : ℕ) (w : Compares env s c m x flags′) (f g : Config → End) where
+  ocmp-unread : 1 < x .how → run-ocmp env q c f g s ≡ ends (how (exit (x .how) q)) (with-flags flags′ s)
   unfolding run-ocmp check
-  ocmp-unread h = rw (unread-of (valid-ocmp env c s) (eval-ocmp env c s) (x .how) (w .how) h)
+  ocmp-unread h =
+      let z = unread-of (valid-ocmp env c s) (eval-ocmp env c s) (x .how) (w .how) h in
+      rw (w .flags-are, z .1, z .0)
 
-  ocmp-holds : (x .how ≡ 2 → ⊥) → (x .how ≡ 0 → ⊥) → run-ocmp env q c f g s ≡ f (with-flags (env .fill) s)
+  ocmp-holds : x .how ≤ 1 → (x .how ≡ 0 → ⊥) → run-ocmp env q c f g s ≡ f (with-flags flags′ s)
   unfolding run-ocmp check choose
   ocmp-holds h k =
-      rw (
-        read-of (valid-ocmp env c s) (eval-ocmp env c s) (x .how) (w .how) h,
-        holds-of (valid-ocmp env c s) (eval-ocmp env c s) (x .how) (w .how) h k,
-      )
+      let z = holds-of (valid-ocmp env c s) (eval-ocmp env c s) (x .how) (w .how) h k in
+      rw (w .flags-are, z .0, z .1)
 
-  ocmp-fails : (x .how ≡ 2 → ⊥) → (x .how ≡ 1 → ⊥) → run-ocmp env q c f g s ≡ g (with-flags (env .fill) s)
+  ocmp-fails : x .how ≤ 1 → (x .how ≡ 1 → ⊥) → run-ocmp env q c f g s ≡ g (with-flags flags′ s)
   unfolding run-ocmp check choose
   ocmp-fails h k =
-      rw (
-        read-of (valid-ocmp env c s) (eval-ocmp env c s) (x .how) (w .how) h,
-        fails-of (valid-ocmp env c s) (eval-ocmp env c s) (x .how) (w .how) h k,
-      )
+      let z = fails-of (valid-ocmp env c s) (eval-ocmp env c s) (x .how) (w .how) h k in
+      rw (w .flags-are, z .0, z .1)
 
 -- two choices by one test
 pub both-ways : {A P Q R S : Type 0} → (A × P) ⊎ ((A → ⊥) × Q) → (A × R) ⊎ ((A → ⊥) × S) → (A × P × R) ⊎ ((A → ⊥) × Q × S)
@@ -294,8 +286,8 @@ respelled c bs a e x y p q h = rw (← p, ← q) h
 
 -- ---- an IfElse, whose comparison has answered x
 module _ (env : Env) (bs : List ℕ) (at fuel : ℕ) (s : Config) (k : byte-at bs at ≡ 0x21) (x : Compared)
-    (compared : (m : ℕ) → Stands is-ocmp bs (at + 9) m → Compares env s (ocmp-at bs (at + 9)) m x) where
-  pub if-unread : x .how ≡ 2 → Runs env bs at fuel s (record { number = 31; place = at + 9 }) s
+    (flags′ : ℕ) (compared : ComparesAt env bs (at + 9) s x flags′) where
+  pub if-unread : 1 < x .how → Runs env bs at fuel s (exit (x .how) (at + 9)) (with-flags flags′ s)
   unfolding run-code
   if-unread h c e sp =
       let w = if-there c bs at e sp k in
@@ -304,7 +296,7 @@ module _ (env : Env) (bs : List ℕ) (at fuel : ℕ) (s : Config) (k : byte-at b
             sym
             (ap (λ (b : Code). run-code env b fuel s) (w .is)
             ∙ ap (λ (o : Ocmp). run-ocmp env (at + 9) o (run-code env (w .yes-part) fuel) (run-code env (w .no-part) fuel) s) (w .says)
-            ∙ ocmp-unread env (at + 9) (ocmp-at bs (at + 9)) s (w .mid) x (compared (w .mid) (w .stands))
+            ∙ ocmp-unread env (at + 9) (ocmp-at bs (at + 9)) s (w .mid) x flags′ (compared (w .mid) (w .stands))
             (run-code env (w .yes-part) fuel) (run-code env (w .no-part) fuel) h);
         next = λ z. absurd (omega arith);
       }
@@ -324,7 +316,7 @@ module _ (env : Env) (bs : List ℕ) (at fuel : ℕ) (s : Config) (k : byte-at b
         let l : e ≡ end = omega (arith, w .ends, n, b) in
         (m, l, respelled (w .yes-part) bs _ _ _ _ m n (w .yes-spelled), respelled (w .no-part) bs _ _ _ _ n l (w .no-spelled))
 
-    pub part-there : CodeAt bs at → CodeAt bs part × CodesAt bs (codes-from bs part) behind × (at + 9 < part)
+    part-there : CodeAt bs at → CodeAt bs part × CodesAt bs (codes-from bs part) behind × (at + 9 < part)
     part-there c =
         let w = if-there (c .code) bs at (c .end) (c .spelled) k in
         let p = parts (c .code) (c .end) (c .spelled) in
@@ -345,11 +337,11 @@ module _ (env : Env) (bs : List ℕ) (at fuel : ℕ) (s : Config) (k : byte-at b
         (q .0, q .1, omega (arith, past, h .1, a)))
         way
 
-    pub if-ran :
-        (x .how ≡ 2 → ⊥) →
-        (r : Step) (t : Config) →
-        RunsAll env bs (codes-from bs part) behind fuel (with-flags (env .fill) s) r t →
-        (r′ : Step) →
+    if-ran :
+        x .how ≤ 1 →
+        (r : Exit) (t : Config) →
+        RunsAll env bs (codes-from bs part) behind fuel (with-flags flags′ s) r t →
+        (r′ : Exit) →
         how r′ ≡ how r →
         (r′ .number ≡ 0 → r′ .place ≡ end) →
         Runs env bs at fuel s r′ t
@@ -360,7 +352,7 @@ module _ (env : Env) (bs : List ℕ) (at fuel : ℕ) (s : Config) (k : byte-at b
         let here = compared (w .mid) (w .stands) in
         let one = run-code env (w .yes-part) fuel in
         let other = run-code env (w .no-part) fuel in
-        let after = with-flags (env .fill) s in
+        let after = with-flags flags′ s in
         let start : run-code env c fuel s ≡ run-ocmp env (at + 9) (ocmp-at bs (at + 9)) one other s =
         ap (λ (b : Code). run-code env b fuel s) (w .is)
         ∙ ap (λ (b : Ocmp). run-ocmp env (at + 9) b one other s) (w .says)
@@ -372,10 +364,10 @@ module _ (env : Env) (bs : List ℕ) (at fuel : ℕ) (s : Config) (k : byte-at b
         start
         ∙ ⊎-elim
         (λ h.
-        ocmp-holds env (at + 9) (ocmp-at bs (at + 9)) s (w .mid) x here one other v (λ z. omega (arith, h .0, z))
+        ocmp-holds env (at + 9) (ocmp-at bs (at + 9)) s (w .mid) x flags′ here one other v (λ z. omega (arith, h .0, z))
         ∙ ran-part (w .yes-part) (rw (h .1, h .2) (p .2)))
         (λ h.
-        ocmp-fails env (at + 9) (ocmp-at bs (at + 9)) s (w .mid) x here one other v (h .0)
+        ocmp-fails env (at + 9) (ocmp-at bs (at + 9)) s (w .mid) x flags′ here one other v (h .0)
         ∙ ran-part (w .no-part) (rw (h .1, h .2) (p .3)))
         way
         in
@@ -383,6 +375,28 @@ module _ (env : Env) (bs : List ℕ) (at fuel : ℕ) (s : Config) (k : byte-at b
           ends = ap (λ (h : Outcome). ends h t) o ∙ sym whole;
           next = λ z. n z ∙ sym (p .1);
         }
+
+-- the part that an IfElse goes on with, as the evaluator finds it
+pub record Chosen (env : Env) (bs : List ℕ) (at : ℕ) (s : Config) (x : Compared) (flags′ part behind end : ℕ) : Type 0 where
+  pub kind : byte-at bs at ≡ 0x21
+  pub compared : ComparesAt env bs (at + 9) s x flags′
+  pub mid : ℕ
+  pub mid-is : mid ≡ x .next + number-at 4 bs (at + 1)
+  pub end-is : end ≡ mid + number-at 4 bs (at + 5)
+  pub way : ((x .how ≡ 1) × (part ≡ x .next) × (behind ≡ mid)) ⊎ ((x .how ≡ 1 → ⊥) × (part ≡ mid) × (behind ≡ end))
+
+module _ (env : Env) (bs : List ℕ) (at fuel : ℕ) (s : Config) (x : Compared) (flags′ part behind end : ℕ)
+    (w : Chosen env bs at s x flags′ part behind end) where
+  pub chosen-there : CodeAt bs at → CodeAt bs part × CodesAt bs (codes-from bs part) behind × (at + 9 < part)
+  chosen-there =
+      part-there env bs at fuel s (w .kind) x flags′ (w .compared) (w .mid) end part behind (w .mid-is) (w .end-is) (w .way)
+
+  -- the exit of the part, with another place where it is done
+  pub chosen-ran :
+      x .how ≤ 1 → (r : Exit) (t : Config) → RunsAll env bs (codes-from bs part) behind fuel (with-flags flags′ s) r t →
+      (r′ : Exit) → how r′ ≡ how r → (r′ .number ≡ 0 → r′ .place ≡ end) → Runs env bs at fuel s r′ t
+  chosen-ran =
+      if-ran env bs at fuel s (w .kind) x flags′ (w .compared) (w .mid) end part behind (w .mid-is) (w .end-is) (w .way)
 
 -- ---- a While: what holds at the head of the loop over its rounds
 pub record Looping (env : Env) (bs : List ℕ) (at fuel : ℕ) (s₀ : Config) (left : ℕ) (s : Config) : Type 0 where
@@ -394,7 +408,7 @@ pub record Looping (env : Env) (bs : List ℕ) (at fuel : ℕ) (s₀ : Config) (
 pub loop-ran :
     (env : Env) (bs : List ℕ) (at fuel : ℕ) (s₀ : Config) (left : ℕ) (s : Config) →
     Looping env bs at fuel s₀ left s →
-    (r : Step) (t : Config) →
+    (r : Exit) (t : Config) →
     ((c : Code) (e : ℕ) → Spells c bs at e → run-code env c left s ≡ ends (how r) t) →
     ((c : Code) (e : ℕ) → Spells c bs at e → r .number ≡ 0 → r .place ≡ e) →
     Runs env bs at fuel s₀ r t
@@ -424,8 +438,7 @@ module _ (env : Env) (bs : List ℕ) (at left : ℕ) (s : Config) (k : byte-at b
       ap (λ (b : Code). run-code env b left s) (w .is)
       ∙ rounds-spent env (run-code env (w .body)) at (at + 5) (w .test) s left z
 
-  module _ (inn : left ≡ 0 → ⊥) (x : Compared)
-      (compared : (m : ℕ) → Stands is-ocmp bs (at + 5) m → Compares env s (ocmp-at bs (at + 5)) m x) where
+  module _ (inn : left ≡ 0 → ⊥) (x : Compared) (flags′ : ℕ) (compared : ComparesAt env bs (at + 5) s x flags′) where
     -- the next round, and those that follow, behind a comparison that was read
     tested :
         (c : Code) (e : ℕ) (h : Spells c bs at e) →
@@ -442,21 +455,22 @@ module _ (env : Env) (bs : List ℕ) (at left : ℕ) (s : Config) (k : byte-at b
         ∙ ap (λ (o : Ocmp). run-ocmp env (at + 5) o next (ends done) s) (w .says)
 
     pub loop-unread :
-        x .how ≡ 2 → (c : Code) (e : ℕ) → Spells c bs at e → run-code env c left s ≡ ends (fault 31 (at + 5)) s
+        1 < x .how → (c : Code) (e : ℕ) → Spells c bs at e →
+        run-code env c left s ≡ ends (how (exit (x .how) (at + 5))) (with-flags flags′ s)
     loop-unread z c e h =
         let w = while-there c bs at e h k in
         tested c e h
-        ∙ ocmp-unread env (at + 5) (ocmp-at bs (at + 5)) s (w .mid) x (compared (w .mid) (w .stands))
+        ∙ ocmp-unread env (at + 5) (ocmp-at bs (at + 5)) s (w .mid) x flags′ (compared (w .mid) (w .stands))
         (round env (run-code env (w .body)) at (at + 5) (w .test) s (left - 1)) (ends done) z
 
     pub loop-done :
-        x .how ≡ 0 → (c : Code) (e : ℕ) → Spells c bs at e → run-code env c left s ≡ ends done (with-flags (env .fill) s)
+        x .how ≡ 0 → (c : Code) (e : ℕ) → Spells c bs at e → run-code env c left s ≡ ends done (with-flags flags′ s)
     loop-done z c e h =
         let w = while-there c bs at e h k in
         tested c e h
-        ∙ ocmp-fails env (at + 5) (ocmp-at bs (at + 5)) s (w .mid) x (compared (w .mid) (w .stands))
+        ∙ ocmp-fails env (at + 5) (ocmp-at bs (at + 5)) s (w .mid) x flags′ (compared (w .mid) (w .stands))
         (round env (run-code env (w .body)) at (at + 5) (w .test) s (left - 1)) (ends done)
-        (λ y. omega (arith, y, z)) (λ y. omega (arith, y, z))
+        (omega (arith, z)) (λ y. omega (arith, y, z))
 
     -- the body, and where the While ends
     module _ (end : ℕ) (a : end ≡ x .next + number-at 4 bs (at + 1)) where
@@ -469,10 +483,10 @@ module _ (env : Env) (bs : List ℕ) (at left : ℕ) (s : Config) (k : byte-at b
           let l : e ≡ end = omega (arith, w .ends, m, a) in
           (l, m, respelled (w .body) bs _ _ _ _ m l (w .spelled))
 
-      pub loop-ends : (c : Code) (e : ℕ) → Spells c bs at e → end ≡ e
+      loop-ends : (c : Code) (e : ℕ) → Spells c bs at e → end ≡ e
       loop-ends c e h = sym (body-spelled c e h .0)
 
-      pub body-there : CodeAt bs at → CodeAt bs (x .next) × CodesAt bs (codes-from bs (x .next)) end × (at + 5 < x .next)
+      body-there : CodeAt bs at → CodeAt bs (x .next) × CodesAt bs (codes-from bs (x .next)) end × (at + 5 < x .next)
       body-there c =
           let w = while-there (c .code) bs at (c .end) (c .spelled) k in
           let p = body-spelled (c .code) (c .end) (c .spelled) in
@@ -480,43 +494,65 @@ module _ (env : Env) (bs : List ℕ) (at left : ℕ) (s : Config) (k : byte-at b
           let there : CodeAt bs (x .next) = record { code = w .body; end = end; spelled = p .2; inside = l } in
           (there, part-codes bs (x .next) (w .body) end (p .2) l, omega (arith, p .1, stands-past is-ocmp bs (at + 5) (w .mid) (w .stands)))
 
-      module _ (v : x .how ≡ 2 → ⊥) (y : x .how ≡ 0 → ⊥) (r : Step) (t : Config)
-          (ran : RunsAll env bs (codes-from bs (x .next)) end (left - 1) (with-flags (env .fill) s) r t) where
+      module _ (v : x .how ≤ 1) (y : x .how ≡ 0 → ⊥) (r : Exit) (t : Config)
+          (ran : RunsAll env bs (codes-from bs (x .next)) end (left - 1) (with-flags flags′ s) r t) where
         body-ran :
             (c : Code) (e : ℕ) (h : Spells c bs at e) →
             let w = while-there c bs at e h k in
             run-code env c left s
-            ≡ and-then (run-code env (w .body) (left - 1) (with-flags (env .fill) s))
+            ≡ and-then (run-code env (w .body) (left - 1) (with-flags flags′ s))
             (rounds env (run-code env (w .body)) at (at + 5) (w .test) (left - 1))
         unfolding round
         body-ran c e h =
             let w = while-there c bs at e h k in
             tested c e h
-            ∙ ocmp-holds env (at + 5) (ocmp-at bs (at + 5)) s (w .mid) x (compared (w .mid) (w .stands))
+            ∙ ocmp-holds env (at + 5) (ocmp-at bs (at + 5)) s (w .mid) x flags′ (compared (w .mid) (w .stands))
             (round env (run-code env (w .body)) at (at + 5) (w .test) s (left - 1)) (ends done) v y
 
-        body-step :
+        body-exit :
             (c : Code) (e : ℕ) (h : Spells c bs at e) →
             let w = while-there c bs at e h k in
-            Ran (run-code env (w .body) (left - 1) (with-flags (env .fill) s)) end r t
-        body-step c e h =
+            Ran (run-code env (w .body) (left - 1) (with-flags flags′ s)) end r t
+        body-exit c e h =
             let w = while-there c bs at e h k in
-            part-ran bs (x .next) env end (left - 1) (with-flags (env .fill) s) r t ran (w .body) (body-spelled c e h .2)
+            part-ran bs (x .next) env end (left - 1) (with-flags flags′ s) r t ran (w .body) (body-spelled c e h .2)
 
-        pub loop-goes :
+        loop-goes :
             r .number ≡ 0 → (c : Code) (e : ℕ) → Spells c bs at e → run-code env c left s ≡ run-code env c (left - 1) t
         unfolding run-code
         loop-goes z c e h =
             let w = while-there c bs at e h k in
             body-ran c e h
-            ∙ goes-on (run-code env (w .body) (left - 1) (with-flags (env .fill) s)) end r t (body-step c e h)
+            ∙ goes-on (run-code env (w .body) (left - 1) (with-flags flags′ s)) end r t (body-exit c e h)
             (rounds env (run-code env (w .body)) at (at + 5) (w .test) (left - 1)) z
             ∙ ap (λ (b : Code). run-code env b (left - 1) t) (sym (w .is))
 
-        pub loop-stops :
+        loop-stops :
             (r .number ≡ 0 → ⊥) → (c : Code) (e : ℕ) → Spells c bs at e → run-code env c left s ≡ ends (how r) t
         loop-stops z c e h =
             let w = while-there c bs at e h k in
             body-ran c e h
-            ∙ stops (run-code env (w .body) (left - 1) (with-flags (env .fill) s)) end r t (body-step c e h)
+            ∙ stops (run-code env (w .body) (left - 1) (with-flags flags′ s)) end r t (body-exit c e h)
             (rounds env (run-code env (w .body)) at (at + 5) (w .test) (left - 1)) z
+
+-- a round of a While whose comparison has answered x, and where the While ends
+pub record Round (env : Env) (bs : List ℕ) (at left : ℕ) (s : Config) (x : Compared) (flags′ end : ℕ) : Type 0 where
+  pub kind : byte-at bs at ≡ 0x22
+  pub some-fuel : left ≡ 0 → ⊥
+  pub compared : ComparesAt env bs (at + 5) s x flags′
+  pub end-is : end ≡ x .next + number-at 4 bs (at + 1)
+
+module _ (env : Env) (bs : List ℕ) (at left : ℕ) (s : Config) (x : Compared) (flags′ end : ℕ) (w : Round env bs at left s x flags′ end) where
+  pub round-ends : (c : Code) (e : ℕ) → Spells c bs at e → end ≡ e
+  round-ends = loop-ends env bs at left s (w .kind) (w .some-fuel) x flags′ (w .compared) end (w .end-is)
+
+  pub round-there : CodeAt bs at → CodeAt bs (x .next) × CodesAt bs (codes-from bs (x .next)) end × (at + 5 < x .next)
+  round-there = body-there env bs at left s (w .kind) (w .some-fuel) x flags′ (w .compared) end (w .end-is)
+
+  module _ (v : x .how ≤ 1) (y : x .how ≡ 0 → ⊥) (r : Exit) (t : Config)
+      (ran : RunsAll env bs (codes-from bs (x .next)) end (left - 1) (with-flags flags′ s) r t) where
+    pub round-goes : r .number ≡ 0 → (c : Code) (e : ℕ) → Spells c bs at e → run-code env c left s ≡ run-code env c (left - 1) t
+    round-goes = loop-goes env bs at left s (w .kind) (w .some-fuel) x flags′ (w .compared) end (w .end-is) v y r t ran
+
+    pub round-stops : (r .number ≡ 0 → ⊥) → (c : Code) (e : ℕ) → Spells c bs at e → run-code env c left s ≡ ends (how r) t
+    round-stops = loop-stops env bs at left s (w .kind) (w .some-fuel) x flags′ (w .compared) end (w .end-is) v y r t ran

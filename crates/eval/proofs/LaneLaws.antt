@@ -1,98 +1,107 @@
 -- How an instruction on an xmm ends, from the quads that were read. Assumes nothing.
-use Prim.Native.Nat.{ℕ, _%_, _^_, _≤_, _<_}
-use mathlib.Core.Path.{_≡_, refl, sym, _∙_}
-use mathlib.Core.Bool.{Bool, true, false, cond}
+use Prim.Native.Nat.{ℕ, _+_, _%_, _≤_, _<_}
+use mathlib.Core.Path.{_≡_, refl, _∙_}
+use mathlib.Core.Bool.{true}
 use mathlib.Core.List.{List}
 use native.Mathlib.Omega.{arith}
 use borrow.Author.Tests.{lt-ltb, le-ltb, ne-eqb}
-use lib.Dec.{eqb, ltb}
+use lib.Dec.{ltb}
 use Rattle.words.proofs.LaneLaws.{extract-nat64-is}
-use Rattle.words.specs.Types.{quad32, quad32-xor, extract-nat64, insert-nat32, insert-nat64, add-lanes, equal-lanes, shl-lanes, shr-lanes, shuffle-lanes, shift-quad}
+use Rattle.words.specs.Types.{quad32, extract-nat64, shuffle-lanes, shift-quad}
 use Rattle.words.specs.declared.Quad32.{Quad32}
 use Rattle.machine.specs.Registers.{xmm-at, set-xmm}
 use Rattle.machine.specs.declared.Operand.{Operand}
-use Rattle.code.specs.declared.tree.Instruction.the-variants.{Paddd, Pxor, Pcmpeqd, Pslld, Psrld, Pshufd, Pextrq, Pinsrd, Pinsrq, VPSLLDQ}
-use Rattle.code.specs.Families.{at-kind, quads-ins, shifts-ins, inserts-ins}
-use Rattle.code.proofs.Families.{quads-ins-is, shifts-ins-is, inserts-ins-is}
-use Rattle.eval.specs.Config.{Env, Config, ends, done, fault, check}
-use Rattle.eval.specs.Steps.{eval-operand, source, write-xmm, run-ins}
-use Rattle.eval.specs.Lent.{environment, held, Reads, Targets, put-regs, put-values}
-use Rattle.eval.specs.Families.{quads-word, shifts-word, inserts-word}
-use Rattle.eval.specs.declared.operand.Reading.{Reading}
+use Rattle.code.specs.declared.tree.Instruction.{Instruction}
+use Rattle.code.specs.declared.tree.Instruction.the-variants.{Pshufd, Pextrq, VPSLLDQ}
+use Rattle.code.specs.Families.{is-quads, is-shifts, is-inserts, quads-ins, shifts-ins, inserts-ins}
+use Rattle.code.proofs.Families.{by-quads-ins, by-shifts-ins, by-inserts-ins}
+use Rattle.eval.specs.Config.{Env, Config, End, ends, done, check}
+use Rattle.eval.specs.Instructions.{quads-word, quads-flags, shifts-word, inserts-word, eval-operand, act, run-ins}
+use Rattle.eval.specs.Promises.{environment, held, Loads, Resolves, put-regs, put-values, how, Ran}
+use Rattle.eval.specs.declared.exit.Exit.{Exit}
+use Rattle.eval.specs.declared.operand.Loaded.{Loaded}
 use Rattle.eval.specs.declared.operand.Slot.{Slot}
-use Rattle.eval.proofs.StepLaws.{readable, unreadable, unwritable, wrote}
+use Rattle.eval.proofs.Shapes.{read-check, write-xmm}
+use Rattle.eval.proofs.InstructionLaws.{exit, failed, finished, readable, unreadable, unwritable, wrote}
 
 module _ (env : Env) (p : ℕ) (regs xmms values : List ℕ) (flags : ℕ) where
   abbrev s : Config
   s = held regs xmms flags values
 
+  -- an instruction that is done, with q in an xmm
+  module _ (i : Instruction) (b dst : ℕ) (q : Quad32) (xmms′ : List ℕ) (f : ℕ) (is : xmms′ ≡ set-xmm xmms dst (quad32 q)) where
+    in-xmm : run-ins env p i s ≡ write-xmm env p dst (quad32 q) f s → Ran (run-ins env p i s) b (exit 0 b) (held regs xmms′ f values)
+    in-xmm h = finished _ b b p _ (h ∙ rw is) refl
+
   module _ (dst src : ℕ) where
-    quads-way :
-        (b c : Bool) →
-        ends done (held regs (set-xmm xmms dst (cond b (add-lanes (xmm-at xmms dst) (xmm-at xmms src)) (cond c (quad32-xor (xmm-at xmms dst) (xmm-at xmms src)) (equal-lanes (xmm-at xmms src) (xmm-at xmms dst))))) (cond b (env .fill) flags) values)
-        ≡ run-ins env p (cond b (Paddd dst src) (cond c (Pxor dst src) (Pcmpeqd dst src))) s
-    unfolding run-ins
-    quads-way true c = refl
-    quads-way false true = refl
-    quads-way false false = refl
+    abbrev QuadsShape : ℕ → Instruction → Type 0
+    QuadsShape k i =
+        run-ins env p i s
+        ≡ write-xmm env p dst (quads-word k (xmm-at xmms dst) (xmm-at xmms src)) (quads-flags k (env .fill) flags) s
+
+    quads-shape : (k : ℕ) → is-quads k ≡ true → QuadsShape k (quads-ins k dst src)
+    unfolding run-ins act quads-word quads-flags
+    quads-shape k h = by-quads-ins QuadsShape dst src refl refl refl k h
 
     pub quads-done :
-        (k : ℕ) (x y q : Quad32) (xmms′ : List ℕ) (f : ℕ) →
+        (k : ℕ) → is-quads k ≡ true →
+        (b : ℕ) (x y q : Quad32) (xmms′ : List ℕ) (f : ℕ) →
         quad32 x ≡ xmm-at xmms dst →
         quad32 y ≡ xmm-at xmms src →
         quad32 q ≡ quads-word k (quad32 x) (quad32 y) →
         xmms′ ≡ set-xmm xmms dst (quad32 q) →
-        f ≡ at-kind k 0x0f (env .fill) flags →
-        ends done (held regs xmms′ f values) ≡ run-ins env p (quads-ins k dst src) s
-    unfolding quads-word
-    quads-done k x y q xmms′ f a b c d e = rw (quads-ins-is, d, e, c, a, b) (quads-way (eqb k 0x0f) (eqb k 0x10))
+        f ≡ quads-flags k (env .fill) flags →
+        Ran (run-ins env p (quads-ins k dst src) s) b (exit 0 b) (held regs xmms′ f values)
+    quads-done k h b x y q xmms′ f ax ay c d e =
+        in-xmm (quads-ins k dst src) b dst q xmms′ f d (rw (e, c, ax, ay) (quads-shape k h))
 
     pub shuffle-done :
-        (imm8 : ℕ) (x q : Quad32) (xmms′ : List ℕ) →
+        (imm8 b : ℕ) (x q : Quad32) (xmms′ : List ℕ) →
         quad32 x ≡ xmm-at xmms src →
         quad32 q ≡ shuffle-lanes (quad32 x) imm8 →
         xmms′ ≡ set-xmm xmms dst (quad32 q) →
-        ends done (held regs xmms′ flags values) ≡ run-ins env p (Pshufd dst src imm8) s
-    unfolding run-ins
-    shuffle-done imm8 x q xmms′ a b c = rw (c, b, a)
+        Ran (run-ins env p (Pshufd dst src imm8) s) b (exit 0 b) (held regs xmms′ flags values)
+    unfolding run-ins act
+    shuffle-done imm8 b x q xmms′ a c d = in-xmm (Pshufd dst src imm8) b dst q xmms′ flags d (rw (c, a))
 
-    pub word-shift-done :
-        (count : ℕ) (x q : Quad32) (xmms′ : List ℕ) →
-        count ≡ 4 →
-        quad32 x ≡ xmm-at xmms src →
-        quad32 q ≡ shift-quad (quad32 x) →
-        xmms′ ≡ set-xmm xmms dst (quad32 q) →
-        ends done (held regs xmms′ flags values) ≡ run-ins env p (VPSLLDQ dst src count) s
-    unfolding run-ins check
-    word-shift-done count x q xmms′ e a b c = rw (e, c, b, a)
+    module _ (count b : ℕ) where
+      pub word-shift-done :
+          (x q : Quad32) (xmms′ : List ℕ) →
+          count ≡ 4 →
+          quad32 x ≡ xmm-at xmms src →
+          quad32 q ≡ shift-quad (quad32 x) →
+          xmms′ ≡ set-xmm xmms dst (quad32 q) →
+          Ran (run-ins env p (VPSLLDQ dst src count) s) b (exit 0 b) (held regs xmms′ flags values)
+      unfolding run-ins act check
+      word-shift-done x q xmms′ e a c d = in-xmm (VPSLLDQ dst src count) b dst q xmms′ flags d (rw (e, c, a))
 
-    pub word-shift-fails : (count : ℕ) → (count ≡ 4 → ⊥) → ends (fault 35 p) s ≡ run-ins env p (VPSLLDQ dst src count) s
-    unfolding run-ins check
-    word-shift-fails count e = rw (ne-eqb count 4 e)
+      pub word-shift-fails : (count ≡ 4 → ⊥) → Ran (run-ins env p (VPSLLDQ dst src count) s) b (exit 35 p) s
+      unfolding run-ins act check
+      word-shift-fails e = failed _ b 35 p s (rw (ne-eqb count 4 e)) (λ h. omega arith)
 
-  module _ (dst amount : ℕ) where
-    shifts-way :
-        (b : Bool) →
-        check (ltb amount 32) 34 p s (write-xmm env dst (cond b (shl-lanes (xmm-at xmms dst) amount) (shr-lanes (xmm-at xmms dst) amount)) flags s)
-        ≡ run-ins env p (cond b (Pslld dst amount) (Psrld dst amount)) s
-    unfolding run-ins
-    shifts-way true = refl
-    shifts-way false = refl
+  module _ (k : ℕ) (is : is-shifts k ≡ true) (dst amount b : ℕ) where
+    abbrev ShiftsShape : ℕ → Instruction → Type 0
+    ShiftsShape k i =
+        run-ins env p i s ≡ check (ltb amount 32) 34 p s (write-xmm env p dst (shifts-word k (xmm-at xmms dst) amount) flags s)
+
+    shifts-shape : ShiftsShape k (shifts-ins k dst amount)
+    unfolding run-ins act shifts-word
+    shifts-shape = by-shifts-ins ShiftsShape dst amount refl refl k is
 
     pub shifts-done :
-        (k : ℕ) (x q : Quad32) (xmms′ : List ℕ) →
+        (x q : Quad32) (xmms′ : List ℕ) →
         amount ≤ 31 →
         quad32 x ≡ xmm-at xmms dst →
         quad32 q ≡ shifts-word k (quad32 x) amount →
         xmms′ ≡ set-xmm xmms dst (quad32 q) →
-        ends done (held regs xmms′ flags values) ≡ run-ins env p (shifts-ins k dst amount) s
-    unfolding shifts-word check
-    shifts-done k x q xmms′ l a b c =
-        rw (shifts-ins-is, c, b, a) (rw (lt-ltb amount 32 (omega arith)) at (shifts-way (eqb k 0x11)))
-
-    pub shifts-fail : (k : ℕ) → 31 < amount → ends (fault 34 p) s ≡ run-ins env p (shifts-ins k dst amount) s
+        Ran (run-ins env p (shifts-ins k dst amount) s) b (exit 0 b) (held regs xmms′ flags values)
     unfolding check
-    shifts-fail k l = rw shifts-ins-is (rw (le-ltb amount 32 (omega arith)) at (shifts-way (eqb k 0x11)))
+    shifts-done x q xmms′ l a c d =
+        in-xmm (shifts-ins k dst amount) b dst q xmms′ flags d (shifts-shape ∙ rw (lt-ltb amount 32 (omega arith), c, a))
+
+    pub shifts-fail : 31 < amount → Ran (run-ins env p (shifts-ins k dst amount) s) b (exit 34 p) s
+    unfolding check
+    shifts-fail l = failed _ b 34 p s (shifts-shape ∙ rw (le-ltb amount 32 (omega arith))) (λ h. omega arith)
 
 module _ (addresses tags regs xmms values : List ℕ) (fill flags p : ℕ) where
   abbrev env : Env
@@ -101,42 +110,44 @@ module _ (addresses tags regs xmms values : List ℕ) (fill flags p : ℕ) where
   abbrev now-s : Config
   now-s = held regs xmms flags values
 
-  module _ (dst : Operand) (src index n : ℕ) (t : Slot) (targets : Targets env now-s dst n t) where
-    pub extract-unwritten : t .valid ≡ false → ends (fault 32 p) now-s ≡ run-ins env p (Pextrq dst src index) now-s
-    unfolding run-ins
-    extract-unwritten h = sym (unwritable env now-s p dst n t targets h _)
+  module _ (dst : Operand) (src index n : ℕ) (t : Slot) (resolves : Resolves env now-s dst n t) where
+    pub extract-unwritten : (t .number ≡ 0 → ⊥) → Ran (run-ins env p (Pextrq dst src index) now-s) n (exit (t .number) p) now-s
+    unfolding run-ins act
+    extract-unwritten h = failed _ n (t .number) p now-s (unwritable env now-s p dst n t resolves h _) h
 
     pub extract-done :
-        t .valid ≡ true →
+        t .number ≡ 0 →
         (x : Quad32) (v : ℕ) (regs′ values′ : List ℕ) →
         quad32 x ≡ xmm-at xmms src →
         v ≡ extract-nat64 (quad32 x) (index % 2) →
         regs′ ≡ put-regs t v regs →
         values′ ≡ put-values t v values →
-        ends done (held regs′ xmms flags values′) ≡ run-ins env p (Pextrq dst src index) now-s
-    unfolding run-ins
+        Ran (run-ins env p (Pextrq dst src index) now-s) n (exit 0 (t .next)) (held regs′ xmms flags values′)
+    unfolding run-ins act
     extract-done h x v regs′ values′ a b e f =
-        rw (e, f, b, extract-nat64-is, a) (sym (wrote env now-s p dst n t targets h _ _))
+        finished _ n (t .next) p _ (rw (e, f, b, extract-nat64-is, a) (wrote env now-s p dst n t resolves h _ _)) (resolves .next)
 
-  module _ (src : Operand) (dst index n : ℕ) (r : Reading) (reads : Reads env now-s src n r) where
-    inserts-way :
-        (b : Bool) →
-        source env p src now-s (write-xmm env dst (cond b (insert-nat32 (xmm-at xmms dst) (eval-operand env src now-s % 2 ^ 32) (index % 4)) (insert-nat64 (xmm-at xmms dst) (eval-operand env src now-s) (index % 2))) flags now-s)
-        ≡ run-ins env p (cond b (Pinsrd dst src index) (Pinsrq dst src index)) now-s
-    unfolding run-ins
-    inserts-way true = refl
-    inserts-way false = refl
+  module _ (k : ℕ) (is : is-inserts k ≡ true) (src : Operand) (dst index n : ℕ) (r : Loaded) (loads : Loads env now-s src n r) where
+    abbrev InsertsShape : ℕ → Instruction → Type 0
+    InsertsShape k i =
+        run-ins env p i now-s
+        ≡ read-check env p src now-s
+        (write-xmm env p dst (inserts-word k (xmm-at xmms dst) (eval-operand env src now-s) index) flags now-s)
 
-    pub inserts-unread : r .found ≡ false → (k : ℕ) → ends (fault 31 p) now-s ≡ run-ins env p (inserts-ins k dst src index) now-s
-    inserts-unread h k = rw inserts-ins-is (sym (unreadable env now-s p src n r reads _ h) ∙ inserts-way (eqb k 0x16))
+    inserts-shape : InsertsShape k (inserts-ins k dst src index)
+    unfolding run-ins act inserts-word
+    inserts-shape = by-inserts-ins InsertsShape dst src index refl refl k is
+
+    pub inserts-unread : (r .number ≡ 0 → ⊥) → Ran (run-ins env p (inserts-ins k dst src index) now-s) n (exit (r .number) p) now-s
+    inserts-unread h = failed _ n (r .number) p now-s (inserts-shape ∙ unreadable env now-s p src n r loads _ h) h
 
     pub inserts-done :
-        r .found ≡ true →
-        (k : ℕ) (x q : Quad32) (xmms′ : List ℕ) →
+        r .number ≡ 0 →
+        (x q : Quad32) (xmms′ : List ℕ) →
         quad32 x ≡ xmm-at xmms dst →
         quad32 q ≡ inserts-word k (quad32 x) (r .word) index →
         xmms′ ≡ set-xmm xmms dst (quad32 q) →
-        ends done (held regs xmms′ flags values) ≡ run-ins env p (inserts-ins k dst src index) now-s
-    unfolding inserts-word
-    inserts-done h k x q xmms′ a b c =
-        rw (inserts-ins-is, c, b, a, reads .word h) (sym (readable env now-s p src n r reads _ h) ∙ inserts-way (eqb k 0x16))
+        Ran (run-ins env p (inserts-ins k dst src index) now-s) n (exit 0 (r .next)) (held regs xmms′ flags values)
+    inserts-done h x q xmms′ a b c =
+        finished _ n (r .next) p _
+        (rw (c, b, a, loads .word h) (inserts-shape ∙ readable env now-s p src n r loads _ h)) (loads .next)

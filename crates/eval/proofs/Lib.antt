@@ -1,7 +1,8 @@
+pub mod Shapes
+pub mod OtherKinds
 pub mod OperandLaws
-pub mod StepLaws
+pub mod InstructionLaws
 pub mod LaneLaws
-pub mod InsLaws
 pub mod ComparisonLaws
 pub mod CycleLaws
 pub mod RunLaws

@@ -25,9 +25,9 @@ use Rattle.code.specs.declared.records.Form.the-variants.{Memory}
 use Rattle.code.proofs.Forms.{memory-is}
 use Rattle.code.proofs.Passing.{never}
 use Rattle.eval.specs.Config.{Env, Config, with-values}
-use Rattle.eval.specs.Steps.{cell-of, valid-operand, eval-operand, valid-dst-operand, update-operand}
-use Rattle.eval.specs.Lent.{environment, held, Cells, Reads, Targets, no-slot}
-use Rattle.eval.specs.declared.operand.Reading.{Reading}
+use Rattle.eval.specs.Instructions.{cell-of, valid-operand, eval-operand, valid-dst-operand, update-operand}
+use Rattle.eval.specs.Promises.{environment, held, Cells, Loads, Resolves, no-slot}
+use Rattle.eval.specs.declared.operand.Loaded.{Loaded}
 use Rattle.eval.specs.declared.operand.Slot.{Slot}
 
 -- whether a destination can be written does not hang on what the cells hold
@@ -38,53 +38,53 @@ valid-whatever env (OReg r) s values = refl
 valid-whatever env (OMem m) s values = refl
 
 module _ (addresses tags regs values : List ℕ) (o : Operand) (next : ℕ) (fill flags : ℕ) (xmms : List ℕ) where
-  abbrev Source : Reading → Type 0
-  Source r = Reads (environment addresses tags fill) (held regs xmms flags values) o next r
+  abbrev Load : Loaded → Type 0
+  Load r = Loads (environment addresses tags fill) (held regs xmms flags values) o next r
 
-  abbrev Target : Slot → Type 0
-  Target t = Targets (environment addresses tags fill) (held regs xmms flags values) o next t
+  abbrev Resolve : Slot → Type 0
+  Resolve t = Resolves (environment addresses tags fill) (held regs xmms flags values) o next t
 
   -- ---- a constant
-  pub source-constant : (n : ℕ) → o ≡ OConst n → Source (record { found = true; word = n; next = next })
+  pub load-constant : (n : ℕ) → o ≡ OConst n → Load (record { number = 0; word = n; next = next })
   unfolding valid-operand eval-operand
-  source-constant n q = record { found = rw q; word = λ _. rw q; next = refl }
+  load-constant n q = record { number = rw q; word = λ _. rw q; next = refl }
 
-  pub target-constant : (n : ℕ) → o ≡ OConst n → (t : Slot) → t ≡ no-slot next → Target t
+  pub resolve-constant : (n : ℕ) → o ≡ OConst n → (t : Slot) → t ≡ no-slot next → Resolve t
   unfolding valid-dst-operand valid-operand
-  target-constant n q t e =
+  resolve-constant n q t e =
       rw e record {
-        valid = rw (q, constant-no-dst n);
-        writes = λ h. absurd (never (sym h));
-        bounds = λ h. absurd (never (sym h));
+        number = rw (q, constant-no-dst n);
+        writes = λ h. absurd (omega (arith, h));
+        bounds = λ h. absurd (omega (arith, h));
         next = refl;
       }
 
   -- ---- a register
   module _ (r : Reg) (q : o ≡ OReg r) where
-    pub source-register : Source (record { found = true; word = reg-at regs r; next = next })
+    pub load-register : Load (record { number = 0; word = reg-at regs r; next = next })
     unfolding valid-operand eval-operand
-    source-register = record { found = rw q; word = λ _. rw q; next = refl }
+    load-register = record { number = rw q; word = λ _. rw q; next = refl }
 
     module _ (b : Bool) (is : b ≡ eqb (r .number) (Rsp .number)) where
-      pub target-rsp : b ≡ true → (t : Slot) → t ≡ no-slot next → Target t
+      pub resolve-rsp : b ≡ true → (t : Slot) → t ≡ no-slot next → Resolve t
       unfolding valid-dst-operand valid-operand
-      target-rsp h t e =
+      resolve-rsp h t e =
           let p : eqb (r .number) 7 ≡ true = sym is ∙ h in
           rw e record {
-            valid = rw (q, register-dst r, p);
-            writes = λ h. absurd (never (sym h));
-            bounds = λ h. absurd (never (sym h));
+            number = rw (q, register-dst r, p);
+            writes = λ h. absurd (omega (arith, h));
+            bounds = λ h. absurd (omega (arith, h));
             next = refl;
           }
 
-      pub target-register :
+      pub resolve-register :
           b ≡ false → r .number < 16 →
-          Target (record { valid = true; register = true; index = r .number; word = reg-at regs r; next = next })
+          Resolve (record { number = 0; register = true; index = r .number; word = reg-at regs r; next = next })
       unfolding valid-dst-operand valid-operand eval-operand update-operand
-      target-register h l =
+      resolve-register h l =
           let p : eqb (r .number) 7 ≡ false = sym is ∙ h in
           record {
-            valid = rw (q, register-dst r, p);
+            number = rw (q, register-dst r, p);
             writes = λ _. record { word = rw q; update = λ v vs. rw q };
             bounds = λ _. record { register = λ _. l; cell = λ h. absurd (never h) };
             next = refl;
@@ -108,17 +108,17 @@ module _ (addresses tags regs values : List ℕ) (o : Operand) (next : ℕ) (fil
       pub cell-inside : Cells addresses tags values → i < length values
       cell-inside cells = omega (arith, find-hit addresses tags (eval-maddr m regs) i here .inside, cells .long)
 
-      pub source-cell : Source (record { found = true; word = getD values i 0; next = next })
+      pub load-cell : Load (record { number = 0; word = getD values i 0; next = next })
       unfolding valid-operand eval-operand cell-of
-      source-cell = record { found = rw (q, here); word = λ _. rw (q, here); next = refl }
+      load-cell = record { number = rw (q, here); word = λ _. rw (q, here); next = refl }
 
-      pub target-cell :
+      pub resolve-cell :
           Cells addresses tags values →
-          Target (record { valid = true; register = false; index = i; word = getD values i 0; next = next })
+          Resolve (record { number = 0; register = false; index = i; word = getD values i 0; next = next })
       unfolding valid-dst-operand valid-operand eval-operand update-operand cell-of
-      target-cell cells =
+      resolve-cell cells =
           record {
-            valid = rw (q, here, memory-dst m);
+            number = rw (q, here, memory-dst m);
             writes = λ _. record { word = rw (q, here); update = λ v vs. rw (q, here) };
             bounds = λ _. record { register = λ h. absurd (never (sym h)); cell = λ _. cell-inside cells };
             next = refl;
@@ -128,16 +128,16 @@ module _ (addresses tags regs values : List ℕ) (o : Operand) (next : ℕ) (fil
       nowhere : find-cell addresses tags (eval-maddr m regs) ≡ none
       nowhere = sym (found m q) ∙ ap index-of e
 
-      pub source-none : Source (record { found = false; word = 0; next = next })
+      pub load-none : Load (record { number = 31; word = 0; next = next })
       unfolding valid-operand cell-of
-      source-none = record { found = rw (q, nowhere); word = λ h. absurd (never (sym h)); next = refl }
+      load-none = record { number = rw (q, nowhere); word = λ h. absurd (omega (arith, h)); next = refl }
 
-      pub target-none : (t : Slot) → t ≡ no-slot next → Target t
+      pub resolve-none : (t : Slot) → t ≡ no-slot next → Resolve t
       unfolding valid-dst-operand valid-operand cell-of
-      target-none t g =
+      resolve-none t g =
           rw g record {
-            valid = rw (q, nowhere);
-            writes = λ h. absurd (never (sym h));
-            bounds = λ h. absurd (never (sym h));
+            number = rw (q, nowhere);
+            writes = λ h. absurd (omega (arith, h));
+            bounds = λ h. absurd (omega (arith, h));
             next = refl;
           }

@@ -14,17 +14,15 @@ use Rattle.code.proofs.CodeFrames.{list-of-one}
 use Rattle.eval.specs.Config.{Env, Config, Outcome, End, ends}
 use Rattle.eval.specs.Config as Config
 use Rattle.eval.specs.Running.{run-checked, run-read, run-of}
-use Rattle.eval.specs.Stepped.{how, Ran}
-use Rattle.eval.specs.Lent.{Cells}
-use Rattle.eval.specs.Coded.{CodesAt, RunsAll}
-use Rattle.eval.specs.declared.step.Step.{Step}
+use Rattle.eval.specs.Promises.{how, Ran, Cells, CodesAt, RunsAll}
+use Rattle.eval.specs.declared.exit.Exit.{Exit}
 use Rattle.eval.proofs.CycleLaws.{run-one}
 
--- how a step is named, where it is not done
-pub how-spent : (r : Step) → (r .number ≡ 0 → ⊥) → r .number ≡ 1 → Config.spent (r .place) ≡ how r
+-- how an exit is named, where it is not done
+pub how-spent : (r : Exit) → (r .number ≡ 0 → ⊥) → r .number ≡ 1 → Config.spent (r .place) ≡ how r
 how-spent r z h = rw (ne-eqb (r .number) 0 z, eq-eqb (r .number) 1 h)
 
-pub how-fault : (r : Step) → (r .number ≡ 0 → ⊥) → (r .number ≡ 1 → ⊥) → Config.fault (r .number) (r .place) ≡ how r
+pub how-fault : (r : Exit) → (r .number ≡ 0 → ⊥) → (r .number ≡ 1 → ⊥) → Config.fault (r .number) (r .place) ≡ how r
 how-fault r z h = rw (ne-eqb (r .number) 0 z, ne-eqb (r .number) 1 h)
 
 pub accepted-cells : (xs ts vs : List ℕ) → check-cells xs ts vs ≡ accepted → Cells xs ts vs
@@ -60,7 +58,7 @@ module _ (bs : List ℕ) (env : Env) (fuel : ℕ) (s : Config) where
 
     pub run-ran :
         check-cells (env .addresses) (env .tags) (s .values) ≡ accepted →
-        (r : Step) (t : Config) → RunsAll env bs 0 (length bs) fuel s r t → (o : Outcome) → o ≡ how r → ends o t ≡ run-of bs env fuel s
+        (r : Exit) (t : Config) → RunsAll env bs 0 (length bs) fuel s r t → (o : Outcome) → o ≡ how r → ends o t ≡ run-of bs env fuel s
     unfolding run-checked
     run-ran h r t ran o x =
         let c = reading bs .accepts here .0 in

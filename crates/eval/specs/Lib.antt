@@ -1,10 +1,5 @@
 pub mod Config
-pub mod Flags
-pub mod Steps
+pub mod Instructions
 pub mod Running
-pub mod Lent
-pub mod Stepped
-pub mod Families
-pub mod Comparing
-pub mod Coded
+pub mod Promises
 pub mod Inputs

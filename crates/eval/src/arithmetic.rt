@@ -5,8 +5,9 @@ ghost use Prim.Native.Nat.{_+_};
 ghost use Rattle.words.specs.Bits.{bit};
 ghost use Rattle.words.specs.Flags as Flags;
 ghost use Rattle.words.specs.Sums.{sum-mod, sum-carry};
-ghost use Rattle.eval.specs.Flags.{add-flags};
-ghost use Rattle.eval.specs.Families.{two-word, two-flags, IsEffect};
+ghost use Rattle.code.specs.Families.{is-two};
+ghost use Rattle.eval.specs.Instructions.{add-flags, two-word, two-flags};
+ghost use Rattle.eval.specs.Promises.{IsEffect};
 use words::add64;
 use words::cf;
 use words::iand64;
@@ -38,7 +39,10 @@ fn addition(fill: u64, flags: u64, a: u64, b: u64, carry: bool) -> Effect
 
 // Adcx64.
 fn carry_addition(flags: u64, a: u64, b: u64) -> Effect
-    ensures { λ r. ⌜ IsEffect (sum-mod 64 (a + b + bit (Flags.cf flags))) (Flags.update-cf flags (sum-carry 64 (a + b + bit (Flags.cf flags)))) r ⌝ }
+    ensures { λ r. ⌜
+        IsEffect (sum-mod 64 (a + b + bit (Flags.cf flags)))
+        (Flags.update-cf flags (sum-carry 64 (a + b + bit (Flags.cf flags)))) r
+        ⌝ }
 {
     let sum = add64(a, b, cf(flags));
     Effect {
@@ -49,7 +53,10 @@ fn carry_addition(flags: u64, a: u64, b: u64) -> Effect
 
 // Adox64.
 fn overflow_addition(flags: u64, a: u64, b: u64) -> Effect
-    ensures { λ r. ⌜ IsEffect (sum-mod 64 (a + b + bit (Flags.overflow flags))) (Flags.update-of flags (sum-carry 64 (a + b + bit (Flags.overflow flags)))) r ⌝ }
+    ensures { λ r. ⌜
+        IsEffect (sum-mod 64 (a + b + bit (Flags.overflow flags)))
+        (Flags.update-of flags (sum-carry 64 (a + b + bit (Flags.overflow flags)))) r
+        ⌝ }
 {
     let sum = add64(a, b, overflow(flags));
     Effect {
@@ -66,6 +73,7 @@ fn cleared(fill: u64) -> u64
 }
 
 pub fn effect_of(kind: u8, fill: u64, flags: u64, a: u64, b: u64) -> Effect
+    requires { ⌜ is-two kind ≡ true ⌝ }
     ensures { λ r. ⌜ IsEffect (two-word kind flags a b) (two-flags kind fill flags a b) r ⌝ }
 {
     match kind {
@@ -94,9 +102,11 @@ pub fn effect_of(kind: u8, fill: u64, flags: u64, a: u64, b: u64) -> Effect
             word: ishr64(a, b),
             flags: fill,
         },
-        _ => Effect {
+        0x0e => Effect {
             word: ishl64(a, b),
             flags: fill,
         },
+        // No other kind comes here.
+        _ => Effect { word: b, flags },
     }
 }

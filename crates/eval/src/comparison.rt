@@ -2,15 +2,13 @@
 ghost use mathlib.Core.Path.{_≡_};
 ghost use mathlib.Core.Bool.{true};
 ghost use mathlib.Core.List.{List};
-ghost use Prim.Native.Nat.{ℕ, _≤_};
-ghost use lib.ListN.{length};
-ghost use Rattle.code.specs.Records.{is-ocmp, ocmp-at};
-ghost use Rattle.code.specs.Spells.{Stands};
-ghost use Rattle.eval.specs.Lent.{environment, held, Cells};
-ghost use Rattle.eval.specs.Comparing.{comparison, Compares};
-use crate::operand::source;
+ghost use Prim.Native.Nat.{ℕ};
+ghost use Rattle.code.specs.Records.{is-ocmp};
+ghost use Rattle.eval.specs.Promises.{environment, held, Cells, comparison, OcmpAt, ComparesAt};
+use crate::operand::load;
 
-// 0 where it does not hold, 1 where it holds, 2 where an operand cannot be read; and the place behind.
+// 0 where it does not hold, 1 where it holds, or the number of the check that fails; and the place
+// behind.
 pub struct Compared {
     pub how: u8,
     pub next: usize,
@@ -26,32 +24,48 @@ fn holds(kind: u8, a: u64, b: u64) -> bool
         0x32 => a <= b,
         0x33 => b <= a,
         0x34 => a < b,
-        _ => b < a,
+        0x35 => b < a,
+        // No other kind comes here.
+        _ => false,
     }
 }
 
+// The comparison of an IfElse or a While: one that passes its check sets the flags.
 pub fn compare(
     code: &[u8],
     at: usize,
+    fill: u64,
     regs: &[u64; 16],
+    flags: &mut u64,
     addresses: &[u64],
     tags: &[u8],
     values: &[u64],
 ) -> Compared
-    requires { ⌜ ((e : ℕ) × Stands is-ocmp (now code) at e × (e ≤ length (now code))) ⌝ }
+    requires { ⌜ OcmpAt (now code) at ⌝ }
     requires { ⌜ Cells (now addresses) (now tags) (now values) ⌝ }
-    ensures { λ r. ⌜ ((fill flags : ℕ) (xmms : List ℕ) (e : ℕ) → Stands is-ocmp (now (code .entry)) at e → Compares (environment (now (addresses .entry)) (now (tags .entry)) fill) (held (now (regs .entry)) xmms flags (now (values .entry))) (ocmp-at (now (code .entry)) at) e r) ⌝ }
+    ensures { λ r. ⌜
+        ((xmms : List ℕ) →
+        ComparesAt (environment (now (addresses .entry)) (now (tags .entry)) fill) (now (code .entry)) at
+        (held (now (regs .entry)) xmms (now (flags .entry)) (now (values .entry))) r (now (flags .exit)))
+        ⌝ }
 {
-    let a = source(code, at + 1, regs, addresses, tags, values);
+    let a = load(code, at + 1, regs, addresses, tags, values);
     let second = a.next;
-    let b = source(code, second, regs, addresses, tags, values);
+    let b = load(code, second, regs, addresses, tags, values);
     let next = b.next;
-    if !a.found {
-        return Compared { how: 2, next };
+    if a.number != 0 {
+        return Compared {
+            how: a.number,
+            next,
+        };
     }
-    if !b.found {
-        return Compared { how: 2, next };
+    if b.number != 0 {
+        return Compared {
+            how: b.number,
+            next,
+        };
     }
+    *flags = fill;
     if holds(code[at], a.word, b.word) {
         return Compared { how: 1, next };
     }

@@ -3,12 +3,10 @@
 ghost use mathlib.Core.Path.{_≡_};
 ghost use Prim.Native.Nat.{_≤_};
 ghost use Rattle.code.specs.Records.{byte-at};
-ghost use Rattle.eval.specs.Lent.{environment, held, Cells};
-ghost use Rattle.eval.specs.Coded.{CodeAt, CodesAt, codes-from, Runs, RunsAll};
+ghost use Rattle.eval.specs.Promises.{environment, held, Cells, CodeAt, CodesAt, codes-from, Runs, RunsAll};
 use crate::comparison::compare;
+use crate::exit::Exit;
 use crate::instruction::instruction;
-use crate::step::Step;
-use crate::step::unread;
 use code::number4;
 
 // Where the codes of a part begin, so that a part that is a Block costs no turn of the cycle.
@@ -29,24 +27,28 @@ pub fn eval_codes(
     regs: &mut [u64; 16],
     xmms: &mut [u32; 64],
     flags: &mut u64,
-    cells: &[u64],
+    addresses: &[u64],
     tags: &[u8],
     values: &mut [u64],
-) -> Step
+) -> Exit
     requires { ⌜ CodesAt (now code) from end ⌝ }
-    requires { ⌜ Cells (now cells) (now tags) (now values) ⌝ }
-    ensures { λ r. ⌜ RunsAll (environment (now (cells .entry)) (now (tags .entry)) fill) (now (code .entry)) from end fuel (held (now (regs .entry)) (now (xmms .entry)) (now (flags .entry)) (now (values .entry))) r (held (now (regs .exit)) (now (xmms .exit)) (now (flags .exit)) (now (values .exit))) ⌝ }
+    requires { ⌜ Cells (now addresses) (now tags) (now values) ⌝ }
+    ensures { λ r. ⌜
+        RunsAll (environment (now (addresses .entry)) (now (tags .entry)) fill) (now (code .entry)) from end fuel
+        (held (now (regs .entry)) (now (xmms .entry)) (now (flags .entry)) (now (values .entry))) r
+        (held (now (regs .exit)) (now (xmms .exit)) (now (flags .exit)) (now (values .exit)))
+        ⌝ }
 {
     let mut next = from;
     while next < end {
         if code[next] < 0x20 {
-            let step = instruction(code, next, fill, regs, xmms, flags, cells, tags, values);
-            if step.number != 0 {
-                return step;
+            let ran = instruction(code, next, fill, regs, xmms, flags, addresses, tags, values);
+            if ran.number != 0 {
+                return ran;
             }
-            next = step.place;
+            next = ran.place;
         } else {
-            let ran = eval_code(
+            let went = eval_code(
                 code,
                 next,
                 fuel,
@@ -54,17 +56,17 @@ pub fn eval_codes(
                 regs,
                 xmms,
                 flags,
-                cells,
+                addresses,
                 tags,
                 values,
             );
-            if ran.number != 0 {
-                return ran;
+            if went.number != 0 {
+                return went;
             }
-            next = ran.place;
+            next = went.place;
         }
     }
-    Step {
+    Exit {
         number: 0,
         place: end,
     }
@@ -79,14 +81,18 @@ fn eval_code(
     regs: &mut [u64; 16],
     xmms: &mut [u32; 64],
     flags: &mut u64,
-    cells: &[u64],
+    addresses: &[u64],
     tags: &[u8],
     values: &mut [u64],
-) -> Step
+) -> Exit
     requires { ⌜ CodeAt (now code) at ⌝ }
     requires { ⌜ 0x20 ≤ byte-at (now code) at ⌝ }
-    requires { ⌜ Cells (now cells) (now tags) (now values) ⌝ }
-    ensures { λ r. ⌜ Runs (environment (now (cells .entry)) (now (tags .entry)) fill) (now (code .entry)) at fuel (held (now (regs .entry)) (now (xmms .entry)) (now (flags .entry)) (now (values .entry))) r (held (now (regs .exit)) (now (xmms .exit)) (now (flags .exit)) (now (values .exit))) ⌝ }
+    requires { ⌜ Cells (now addresses) (now tags) (now values) ⌝ }
+    ensures { λ r. ⌜
+        Runs (environment (now (addresses .entry)) (now (tags .entry)) fill) (now (code .entry)) at fuel
+        (held (now (regs .entry)) (now (xmms .entry)) (now (flags .entry)) (now (values .entry))) r
+        (held (now (regs .exit)) (now (xmms .exit)) (now (flags .exit)) (now (values .exit)))
+        ⌝ }
 {
     let kind = code[at];
     if kind == 0x20 {
@@ -101,15 +107,37 @@ fn eval_code(
             regs,
             xmms,
             flags,
-            cells,
+            addresses,
             tags,
             values,
         );
     }
     if kind == 0x21 {
-        return eval_if_else(code, at, fuel, fill, regs, xmms, flags, cells, tags, values);
+        return eval_if_else(
+            code,
+            at,
+            fuel,
+            fill,
+            regs,
+            xmms,
+            flags,
+            addresses,
+            tags,
+            values,
+        );
     }
-    eval_while(code, at, fuel, fill, regs, xmms, flags, cells, tags, values)
+    eval_while(
+        code,
+        at,
+        fuel,
+        fill,
+        regs,
+        xmms,
+        flags,
+        addresses,
+        tags,
+        values,
+    )
 }
 
 fn eval_if_else(
@@ -120,27 +148,33 @@ fn eval_if_else(
     regs: &mut [u64; 16],
     xmms: &mut [u32; 64],
     flags: &mut u64,
-    cells: &[u64],
+    addresses: &[u64],
     tags: &[u8],
     values: &mut [u64],
-) -> Step
+) -> Exit
     requires { ⌜ CodeAt (now code) at ⌝ }
     requires { ⌜ byte-at (now code) at ≡ 0x21 ⌝ }
-    requires { ⌜ Cells (now cells) (now tags) (now values) ⌝ }
-    ensures { λ r. ⌜ Runs (environment (now (cells .entry)) (now (tags .entry)) fill) (now (code .entry)) at fuel (held (now (regs .entry)) (now (xmms .entry)) (now (flags .entry)) (now (values .entry))) r (held (now (regs .exit)) (now (xmms .exit)) (now (flags .exit)) (now (values .exit))) ⌝ }
+    requires { ⌜ Cells (now addresses) (now tags) (now values) ⌝ }
+    ensures { λ r. ⌜
+        Runs (environment (now (addresses .entry)) (now (tags .entry)) fill) (now (code .entry)) at fuel
+        (held (now (regs .entry)) (now (xmms .entry)) (now (flags .entry)) (now (values .entry))) r
+        (held (now (regs .exit)) (now (xmms .exit)) (now (flags .exit)) (now (values .exit)))
+        ⌝ }
 {
     let test = at + 9;
-    let compared = compare(code, test, regs, cells, tags, values);
-    if compared.how == 2 {
-        return unread(test);
+    let compared = compare(code, test, fill, regs, flags, addresses, tags, values);
+    if 1 < compared.how {
+        return Exit {
+            number: compared.how,
+            place: test,
+        };
     }
-    *flags = fill;
     let first = compared.next;
     let second = first + number4(code, at + 1);
     let end = second + number4(code, at + 5);
     let part = if compared.how == 1 { first } else { second };
     let behind = if compared.how == 1 { second } else { end };
-    let step = eval_codes(
+    let ran = eval_codes(
         code,
         first_code(code, part),
         behind,
@@ -149,14 +183,14 @@ fn eval_if_else(
         regs,
         xmms,
         flags,
-        cells,
+        addresses,
         tags,
         values,
     );
-    if step.number != 0 {
-        return step;
+    if ran.number != 0 {
+        return ran;
     }
-    Step {
+    Exit {
         number: 0,
         place: end,
     }
@@ -170,33 +204,39 @@ fn eval_while(
     regs: &mut [u64; 16],
     xmms: &mut [u32; 64],
     flags: &mut u64,
-    cells: &[u64],
+    addresses: &[u64],
     tags: &[u8],
     values: &mut [u64],
-) -> Step
+) -> Exit
     requires { ⌜ CodeAt (now code) at ⌝ }
     requires { ⌜ byte-at (now code) at ≡ 0x22 ⌝ }
-    requires { ⌜ Cells (now cells) (now tags) (now values) ⌝ }
-    ensures { λ r. ⌜ Runs (environment (now (cells .entry)) (now (tags .entry)) fill) (now (code .entry)) at fuel (held (now (regs .entry)) (now (xmms .entry)) (now (flags .entry)) (now (values .entry))) r (held (now (regs .exit)) (now (xmms .exit)) (now (flags .exit)) (now (values .exit))) ⌝ }
+    requires { ⌜ Cells (now addresses) (now tags) (now values) ⌝ }
+    ensures { λ r. ⌜
+        Runs (environment (now (addresses .entry)) (now (tags .entry)) fill) (now (code .entry)) at fuel
+        (held (now (regs .entry)) (now (xmms .entry)) (now (flags .entry)) (now (values .entry))) r
+        (held (now (regs .exit)) (now (xmms .exit)) (now (flags .exit)) (now (values .exit)))
+        ⌝ }
 {
     let mut left = fuel;
     while left != 0 {
-        let condition = at + 5;
-        let compared = compare(code, condition, regs, cells, tags, values);
-        if compared.how == 2 {
-            return unread(condition);
+        let test = at + 5;
+        let compared = compare(code, test, fill, regs, flags, addresses, tags, values);
+        if 1 < compared.how {
+            return Exit {
+                number: compared.how,
+                place: test,
+            };
         }
-        *flags = fill;
         let body = compared.next;
         let end = body + number4(code, at + 1);
         if compared.how == 0 {
-            return Step {
+            return Exit {
                 number: 0,
                 place: end,
             };
         }
         left -= 1;
-        let step = eval_codes(
+        let ran = eval_codes(
             code,
             first_code(code, body),
             end,
@@ -205,15 +245,15 @@ fn eval_while(
             regs,
             xmms,
             flags,
-            cells,
+            addresses,
             tags,
             values,
         );
-        if step.number != 0 {
-            return step;
+        if ran.number != 0 {
+            return ran;
         }
     }
-    Step {
+    Exit {
         number: 1,
         place: at,
     }

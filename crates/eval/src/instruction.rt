@@ -1,11 +1,8 @@
 // One instruction, by its kind: in two levels, so that each stays small.
-ghost use Prim.Native.Nat.{ℕ, _≤_};
-ghost use lib.ListN.{length, getD};
-ghost use Rattle.code.specs.Records.{is-ins, ins-at};
-ghost use Rattle.code.specs.Spells.{Stands};
-ghost use Rattle.eval.specs.Steps.{run-ins};
-ghost use Rattle.eval.specs.Lent.{environment, held, Cells};
-ghost use Rattle.eval.specs.Stepped.{Ran};
+ghost use Prim.Native.Nat.{_≤_};
+ghost use lib.ListN.{getD};
+ghost use Rattle.eval.specs.Promises.{environment, held, Cells, InsAt, RunsIns};
+use crate::exit::Exit;
 use crate::lanes::extract;
 use crate::lanes::insert;
 use crate::lanes::shift_by_word;
@@ -14,7 +11,6 @@ use crate::lanes::shuffle;
 use crate::lanes::two_quads;
 use crate::products::multiply;
 use crate::products::multiply_into;
-use crate::step::Step;
 use crate::twos::add_lea;
 use crate::twos::two_operands;
 
@@ -28,19 +24,28 @@ fn lane_instruction(
     addresses: &[u64],
     tags: &[u8],
     values: &mut [u64],
-) -> Step
-    requires { ⌜ ((e : ℕ) × Stands is-ins (now code) at e × (e ≤ length (now code))) ⌝ }
+) -> Exit
+    requires { ⌜ InsAt (now code) at ⌝ }
     requires { ⌜ 0x0f ≤ getD (now code) at 0 ⌝ }
     requires { ⌜ Cells (now addresses) (now tags) (now values) ⌝ }
-    ensures { λ r. ⌜ ((e : ℕ) → Stands is-ins (now (code .entry)) at e → Ran (run-ins (environment (now (addresses .entry)) (now (tags .entry)) fill) at (ins-at (now (code .entry)) at) (held (now (regs .entry)) (now (xmms .entry)) (now (flags .entry)) (now (values .entry)))) e r (held (now (regs .exit)) (now (xmms .exit)) (now (flags .exit)) (now (values .exit)))) ⌝ }
+    ensures { λ r. ⌜
+        RunsIns (environment (now (addresses .entry)) (now (tags .entry)) fill) (now (code .entry)) at
+        (held (now (regs .entry)) (now (xmms .entry)) (now (flags .entry)) (now (values .entry))) r
+        (held (now (regs .exit)) (now (xmms .exit)) (now (flags .exit)) (now (values .exit)))
+        ⌝ }
 {
     match code[at] {
+        0x0f | 0x10 | 0x14 => two_quads(code, at, fill, xmms, flags),
         0x11 | 0x12 => shift_words(code, at, xmms),
         0x13 => shuffle(code, at, xmms),
         0x15 => extract(code, at, regs, xmms, addresses, tags, values),
         0x16 | 0x17 => insert(code, at, regs, xmms, addresses, tags, values),
         0x18 => shift_by_word(code, at, xmms),
-        _ => two_quads(code, at, fill, xmms, flags),
+        // No other kind comes here.
+        _ => Exit {
+            number: 0,
+            place: at,
+        },
     }
 }
 
@@ -54,16 +59,27 @@ pub fn instruction(
     addresses: &[u64],
     tags: &[u8],
     values: &mut [u64],
-) -> Step
-    requires { ⌜ ((e : ℕ) × Stands is-ins (now code) at e × (e ≤ length (now code))) ⌝ }
+) -> Exit
+    requires { ⌜ InsAt (now code) at ⌝ }
     requires { ⌜ Cells (now addresses) (now tags) (now values) ⌝ }
-    ensures { λ r. ⌜ ((e : ℕ) → Stands is-ins (now (code .entry)) at e → Ran (run-ins (environment (now (addresses .entry)) (now (tags .entry)) fill) at (ins-at (now (code .entry)) at) (held (now (regs .entry)) (now (xmms .entry)) (now (flags .entry)) (now (values .entry)))) e r (held (now (regs .exit)) (now (xmms .exit)) (now (flags .exit)) (now (values .exit)))) ⌝ }
+    ensures { λ r. ⌜
+        RunsIns (environment (now (addresses .entry)) (now (tags .entry)) fill) (now (code .entry)) at
+        (held (now (regs .entry)) (now (xmms .entry)) (now (flags .entry)) (now (values .entry))) r
+        (held (now (regs .exit)) (now (xmms .exit)) (now (flags .exit)) (now (values .exit)))
+        ⌝ }
 {
     match code[at] {
+        0x01 | 0x02 | 0x04..=0x07 | 0x0a..=0x0e => {
+            two_operands(code, at, fill, regs, flags, addresses, tags, values)
+        }
         0x03 => add_lea(code, at, regs, addresses, tags, values),
         0x08 => multiply(code, at, fill, regs, flags, addresses, tags, values),
         0x09 => multiply_into(code, at, regs, addresses, tags, values),
         0x0f..=0x18 => lane_instruction(code, at, fill, regs, xmms, flags, addresses, tags, values),
-        _ => two_operands(code, at, fill, regs, flags, addresses, tags, values),
+        // No other kind comes here.
+        _ => Exit {
+            number: 0,
+            place: at,
+        },
     }
 }

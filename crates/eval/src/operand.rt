@@ -12,7 +12,7 @@ ghost use Rattle.code.specs.Records.{operand-at, behind};
 ghost use Rattle.code.specs.Spells.{OperandBytes};
 ghost use Rattle.code.specs.Forms.{form-of};
 ghost use Rattle.code.specs.declared.records.Form.the-variants.{Memory};
-ghost use Rattle.eval.specs.Lent.{environment, held, Cells, Reads, Targets, InBounds, no-slot, put-regs, put-values};
+ghost use Rattle.eval.specs.Promises.{environment, held, Cells, Loads, Resolves, InBounds, no-slot, put-regs, put-values};
 use code::Form;
 use code::form_at;
 use code::memory_at;
@@ -20,17 +20,17 @@ use code::operand_behind;
 use machine::Found;
 use machine::cell_of;
 
-// A source: whether it can be read, its word, and the place behind its record.
-pub struct Reading {
-    pub found: bool,
+// A source: 0 or the number of the check that fails, its word, and the place behind its record.
+pub struct Loaded {
+    pub number: u8,
     pub word: u64,
     pub next: usize,
 }
 
-// A destination: whether it can be written; whether it is a register or a cell, and which; the word
-// that it holds; and the place behind its record.
+// A destination: 0 or the number of the check that fails; whether it is a register or a cell, and
+// which; the word that it holds; and the place behind its record.
 pub struct Slot {
-    pub valid: bool,
+    pub number: u8,
     pub register: bool,
     pub index: usize,
     pub word: u64,
@@ -43,48 +43,57 @@ fn cell_at(code: &[u8], at: usize, regs: &[u64; 16], addresses: &[u64], tags: &[
     requires { ⌜ OperandBytes (now code) at ⌝ }
     requires { ⌜ form-of (operand-at (now code) at) ≡ Memory ⌝ }
     requires { ⌜ Searchable (now addresses) (now tags) ⌝ }
-    ensures { λ r. ⌜ ((m : Maddr) → operand-at (now (code .entry)) at ≡ OMem m → index-of r ≡ find-cell (now (addresses .entry)) (now (tags .entry)) (eval-maddr m (now (regs .entry)))) ⌝ }
+    ensures { λ r. ⌜
+        ((m : Maddr) →
+        operand-at (now (code .entry)) at ≡ OMem m →
+        index-of r ≡ find-cell (now (addresses .entry)) (now (tags .entry)) (eval-maddr m (now (regs .entry))))
+        ⌝ }
 {
     let m = memory_at(code, at);
     cell_of(m, regs, addresses, tags)
 }
 
-pub fn source(
+pub fn load(
     code: &[u8],
     at: usize,
     regs: &[u64; 16],
     addresses: &[u64],
     tags: &[u8],
     values: &[u64],
-) -> Reading
+) -> Loaded
     requires { ⌜ OperandBytes (now code) at ⌝ }
     requires { ⌜ Cells (now addresses) (now tags) (now values) ⌝ }
-    ensures { λ r. ⌜ ((fill flags : ℕ) (xmms : List ℕ) → Reads (environment (now (addresses .entry)) (now (tags .entry)) fill) (held (now (regs .entry)) xmms flags (now (values .entry))) (operand-at (now (code .entry)) at) (behind (now (code .entry)) at) r) ⌝ }
+    ensures { λ r. ⌜
+        ((fill flags : ℕ) (xmms : List ℕ) →
+        Loads (environment (now (addresses .entry)) (now (tags .entry)) fill)
+        (held (now (regs .entry)) xmms flags (now (values .entry)))
+        (operand-at (now (code .entry)) at) (behind (now (code .entry)) at) r)
+        ⌝ }
 {
     let next = operand_behind(code, at);
     let form = form_at(code, at);
     match form {
-        Form::Const(word) => Reading {
-            found: true,
+        Form::Const(word) => Loaded {
+            number: 0,
             word,
             next,
         },
         Form::Register(register) => {
             let index = register.number as usize;
-            Reading {
-                found: true,
+            Loaded {
+                number: 0,
                 word: regs[index],
                 next,
             }
         }
         Form::Memory => match cell_at(code, at, regs, addresses, tags) {
-            Found::At(index) => Reading {
-                found: true,
+            Found::At(index) => Loaded {
+                number: 0,
                 word: values[index],
                 next,
             },
-            Found::Nothing => Reading {
-                found: false,
+            Found::Nothing => Loaded {
+                number: 31,
                 word: 0,
                 next,
             },
@@ -97,7 +106,7 @@ fn nowhere(next: usize) -> Slot
     ensures { λ r. ⌜ r ≡ no-slot next ⌝ }
 {
     Slot {
-        valid: false,
+        number: 32,
         register: false,
         index: 0,
         word: 0,
@@ -105,7 +114,7 @@ fn nowhere(next: usize) -> Slot
     }
 }
 
-pub fn target(
+pub fn resolve(
     code: &[u8],
     at: usize,
     regs: &[u64; 16],
@@ -115,7 +124,12 @@ pub fn target(
 ) -> Slot
     requires { ⌜ OperandBytes (now code) at ⌝ }
     requires { ⌜ Cells (now addresses) (now tags) (now values) ⌝ }
-    ensures { λ r. ⌜ ((fill flags : ℕ) (xmms : List ℕ) → Targets (environment (now (addresses .entry)) (now (tags .entry)) fill) (held (now (regs .entry)) xmms flags (now (values .entry))) (operand-at (now (code .entry)) at) (behind (now (code .entry)) at) r) ⌝ }
+    ensures { λ r. ⌜
+        ((fill flags : ℕ) (xmms : List ℕ) →
+        Resolves (environment (now (addresses .entry)) (now (tags .entry)) fill)
+        (held (now (regs .entry)) xmms flags (now (values .entry)))
+        (operand-at (now (code .entry)) at) (behind (now (code .entry)) at) r)
+        ⌝ }
 {
     let next = operand_behind(code, at);
     let form = form_at(code, at);
@@ -127,7 +141,7 @@ pub fn target(
             }
             let index = register.number as usize;
             Slot {
-                valid: true,
+                number: 0,
                 register: true,
                 index,
                 word: regs[index],
@@ -136,7 +150,7 @@ pub fn target(
         }
         Form::Memory => match cell_at(code, at, regs, addresses, tags) {
             Found::At(index) => Slot {
-                valid: true,
+                number: 0,
                 register: false,
                 index,
                 word: values[index],

@@ -4,14 +4,13 @@ ghost use Prim.Native.Nat.{ℕ, _+_};
 ghost use Rattle.code.specs.declared.tree.Instruction.the-variants.{Mul64, Mulx64};
 ghost use Rattle.code.specs.Records.{operand-at, behind};
 ghost use Rattle.code.specs.Spells.{OperandsFrom};
-ghost use Rattle.eval.specs.Steps.{run-ins};
-ghost use Rattle.eval.specs.Lent.{environment, held, Cells};
-ghost use Rattle.eval.specs.Stepped.{Ran};
+ghost use Rattle.eval.specs.Instructions.{run-ins};
+ghost use Rattle.eval.specs.Promises.{environment, held, Cells, Ran};
+use crate::exit::Exit;
+use crate::operand::load;
 use crate::operand::put;
 use crate::operand::registers_with;
-use crate::operand::source;
-use crate::operand::target;
-use crate::step::Step;
+use crate::operand::resolve;
 use code::operand_behind;
 use machine::Reg;
 use words::mul_wide;
@@ -25,15 +24,22 @@ pub fn multiply(
     addresses: &[u64],
     tags: &[u8],
     values: &[u64],
-) -> Step
+) -> Exit
     requires { ⌜ OperandsFrom 1 (now code) (at + 1) ⌝ }
     requires { ⌜ Cells (now addresses) (now tags) (now values) ⌝ }
-    ensures { λ r. ⌜ ((xmms : List ℕ) → Ran (run-ins (environment (now (addresses .entry)) (now (tags .entry)) fill) at (Mul64 (operand-at (now (code .entry)) (at + 1))) (held (now (regs .entry)) xmms (now (flags .entry)) (now (values .entry)))) (behind (now (code .entry)) (at + 1)) r (held (now (regs .exit)) xmms (now (flags .exit)) (now (values .entry)))) ⌝ }
+    ensures { λ r. ⌜
+        ((xmms : List ℕ) →
+        Ran (run-ins (environment (now (addresses .entry)) (now (tags .entry)) fill) at
+        (Mul64 (operand-at (now (code .entry)) (at + 1)))
+        (held (now (regs .entry)) xmms (now (flags .entry)) (now (values .entry))))
+        (behind (now (code .entry)) (at + 1)) r
+        (held (now (regs .exit)) xmms (now (flags .exit)) (now (values .entry))))
+        ⌝ }
 {
-    let src = source(code, at + 1, regs, addresses, tags, values);
-    if !src.found {
-        return Step {
-            number: 31,
+    let src = load(code, at + 1, regs, addresses, tags, values);
+    if src.number != 0 {
+        return Exit {
+            number: src.number,
             place: at,
         };
     }
@@ -45,7 +51,7 @@ pub fn multiply(
     regs[low] = product.low;
     regs[high] = product.high;
     *flags = fill;
-    Step {
+    Exit {
         number: 0,
         place: src.next,
     }
@@ -61,23 +67,32 @@ pub fn multiply_into(
     addresses: &[u64],
     tags: &[u8],
     values: &mut [u64],
-) -> Step
+) -> Exit
     requires { ⌜ OperandsFrom 3 (now code) (at + 1) ⌝ }
     requires { ⌜ Cells (now addresses) (now tags) (now values) ⌝ }
-    ensures { λ r. ⌜ ((fill flags : ℕ) (xmms : List ℕ) → Ran (run-ins (environment (now (addresses .entry)) (now (tags .entry)) fill) at (Mulx64 (operand-at (now (code .entry)) (at + 1)) (operand-at (now (code .entry)) (behind (now (code .entry)) (at + 1))) (operand-at (now (code .entry)) (behind (now (code .entry)) (behind (now (code .entry)) (at + 1))))) (held (now (regs .entry)) xmms flags (now (values .entry)))) (behind (now (code .entry)) (behind (now (code .entry)) (behind (now (code .entry)) (at + 1)))) r (held (now (regs .exit)) xmms flags (now (values .exit)))) ⌝ }
+    ensures { λ r. ⌜
+        ((fill flags : ℕ) (xmms : List ℕ) →
+        Ran (run-ins (environment (now (addresses .entry)) (now (tags .entry)) fill) at
+        (Mulx64 (operand-at (now (code .entry)) (at + 1))
+        (operand-at (now (code .entry)) (behind (now (code .entry)) (at + 1)))
+        (operand-at (now (code .entry)) (behind (now (code .entry)) (behind (now (code .entry)) (at + 1)))))
+        (held (now (regs .entry)) xmms flags (now (values .entry))))
+        (behind (now (code .entry)) (behind (now (code .entry)) (behind (now (code .entry)) (at + 1)))) r
+        (held (now (regs .exit)) xmms flags (now (values .exit))))
+        ⌝ }
 {
     let second = operand_behind(code, at + 1);
-    let low = target(code, second, regs, addresses, tags, values);
-    let src = source(code, low.next, regs, addresses, tags, values);
-    if !src.found {
-        return Step {
-            number: 31,
+    let low = resolve(code, second, regs, addresses, tags, values);
+    let src = load(code, low.next, regs, addresses, tags, values);
+    if src.number != 0 {
+        return Exit {
+            number: src.number,
             place: at,
         };
     }
-    if !low.valid {
-        return Step {
-            number: 32,
+    if low.number != 0 {
+        return Exit {
+            number: low.number,
             place: at,
         };
     }
@@ -85,16 +100,16 @@ pub fn multiply_into(
     let from = rdx.number as usize;
     let product = mul_wide(regs[from], src.word);
     let after = registers_with(low, product.low, regs);
-    let high = target(code, at + 1, &after, addresses, tags, values);
-    if !high.valid {
-        return Step {
-            number: 32,
+    let high = resolve(code, at + 1, &after, addresses, tags, values);
+    if high.number != 0 {
+        return Exit {
+            number: high.number,
             place: at,
         };
     }
     put(low, product.low, regs, values);
     put(high, product.high, regs, values);
-    Step {
+    Exit {
         number: 0,
         place: src.next,
     }

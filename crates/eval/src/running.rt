@@ -1,25 +1,26 @@
 // Running: code and cells are checked, and then the state's arrays are lent to the evaluator's cycle.
 ghost use mathlib.Core.Path.{_≡_};
+ghost use Rattle.machine.specs.Cells.{accepted, check-cells};
+ghost use Rattle.code.specs.Reader.{check-code};
 ghost use Rattle.eval.specs.Config.{config, outcome, end-of};
-ghost use Rattle.eval.specs.Stepped.{how};
-ghost use Rattle.eval.specs.Lent.{environment};
 ghost use Rattle.eval.specs.Running.{run-of};
+ghost use Rattle.eval.specs.Promises.{environment, how};
 ghost use Rattle.eval.specs.Inputs.{IsInput};
 use crate::answer::Answer;
 use crate::answer::Run;
 use crate::answer::Setting;
 use crate::cycle::eval_codes;
-use crate::step::Step;
+use crate::exit::Exit;
 use code::check_code;
 use machine::Checked;
 use machine::State;
 use machine::check_cells;
 
-fn answer_of(step: Step) -> Answer
-    ensures { λ r. ⌜ outcome r ≡ how step ⌝ }
+fn answer_of(exit: Exit) -> Answer
+    ensures { λ r. ⌜ outcome r ≡ how «exit» ⌝ }
 {
-    let number = step.number;
-    let place = step.place;
+    let number = exit.number;
+    let place = exit.place;
     if number == 0 {
         return Answer::Done;
     }
@@ -29,7 +30,47 @@ fn answer_of(step: Step) -> Answer
     Answer::Fault(number, place)
 }
 
-// The state is copied in and out once, since a copy at each call would cost more than an instruction.
+// Accepted code over accepted cells: what has many starts checks both once. The state is copied in and out once, since a
+// copy at each call would cost more than an instruction.
+pub fn evaluate(
+    code: &[u8],
+    addresses: &[u64],
+    tags: &[u8],
+    values: &mut [u64],
+    start: State,
+    setting: Setting,
+) -> Run
+    requires { ⌜ check-code (now code) ≡ accepted ⌝ }
+    requires { ⌜ check-cells (now addresses) (now tags) (now values) ≡ accepted ⌝ }
+    ensures { λ r. ⌜
+        end-of r (now (values .exit))
+        ≡ run-of (now (code .entry)) (environment (now (addresses .entry)) (now (tags .entry)) (setting .fill))
+        (setting .fuel) (config start (now (values .entry)))
+        ⌝ }
+{
+    let mut regs = start.regs;
+    let mut xmms = start.xmms;
+    let mut flags = start.flags;
+    let fuel = setting.fuel;
+    let fill = setting.fill;
+    let exit = eval_codes(
+        code,
+        0,
+        code.len(),
+        fuel,
+        fill,
+        &mut regs,
+        &mut xmms,
+        &mut flags,
+        addresses,
+        tags,
+        values,
+    );
+    let answer = answer_of(exit);
+    let state = State { regs, xmms, flags };
+    Run { answer, state }
+}
+
 pub fn run(
     code: &[u8],
     addresses: &[u64],
@@ -38,7 +79,11 @@ pub fn run(
     start: State,
     setting: Setting,
 ) -> Run
-    ensures { λ r. ⌜ end-of r (now (values .exit)) ≡ run-of (now (code .entry)) (environment (now (addresses .entry)) (now (tags .entry)) (setting .fill)) (setting .fuel) (config start (now (values .entry))) ⌝ }
+    ensures { λ r. ⌜
+        end-of r (now (values .exit))
+        ≡ run-of (now (code .entry)) (environment (now (addresses .entry)) (now (tags .entry)) (setting .fill))
+        (setting .fuel) (config start (now (values .entry)))
+        ⌝ }
     ensures { λ _. ⌜ IsInput (now (code .entry)) start setting ⌝ }
 {
     let checked = check_code(code);
@@ -57,25 +102,5 @@ pub fn run(
             state: start,
         };
     }
-    let mut regs = start.regs;
-    let mut xmms = start.xmms;
-    let mut flags = start.flags;
-    let fuel = setting.fuel;
-    let fill = setting.fill;
-    let step = eval_codes(
-        code,
-        0,
-        code.len(),
-        fuel,
-        fill,
-        &mut regs,
-        &mut xmms,
-        &mut flags,
-        addresses,
-        tags,
-        values,
-    );
-    let answer = answer_of(step);
-    let state = State { regs, xmms, flags };
-    Run { answer, state }
+    evaluate(code, addresses, tags, values, start, setting)
 }

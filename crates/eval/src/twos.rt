@@ -9,21 +9,23 @@ ghost use Rattle.code.specs.declared.tree.Instruction.the-variants.{AddLea64};
 ghost use Rattle.code.specs.Records.{operand-at, behind};
 ghost use Rattle.code.specs.Spells.{OperandsFrom};
 ghost use Rattle.code.specs.Families.{is-two, two-ins};
-ghost use Rattle.eval.specs.Steps.{run-ins};
-ghost use Rattle.eval.specs.Lent.{environment, held, Cells};
-ghost use Rattle.eval.specs.Stepped.{Ran};
+ghost use Rattle.eval.specs.Instructions.{checks-amount, run-ins};
+ghost use Rattle.eval.specs.Promises.{environment, held, Cells, Ran};
 use crate::arithmetic::effect_of;
+use crate::exit::Exit;
+use crate::operand::load;
 use crate::operand::put;
-use crate::operand::source;
-use crate::operand::target;
-use crate::step::Step;
+use crate::operand::resolve;
 use words::add64;
 
 // Whether this is a shift by 64 or more.
 fn too_far(kind: u8, amount: u64) -> bool
-    ensures { λ r. ⌜ r ≡ (leb 0x0d kind && leb 64 amount) ⌝ }
+    ensures { λ r. ⌜ r ≡ (checks-amount kind && leb 64 amount) ⌝ }
 {
-    if kind < 0x0d { false } else { 64 <= amount }
+    match kind {
+        0x0d | 0x0e => 64 <= amount,
+        _ => false,
+    }
 }
 
 // The destination is resolved first and judged last, as the source does: an invalid one does no harm
@@ -37,37 +39,45 @@ pub fn two_operands(
     addresses: &[u64],
     tags: &[u8],
     values: &mut [u64],
-) -> Step
+) -> Exit
     requires { ⌜ OperandsFrom 2 (now code) (at + 1) ⌝ }
     requires { ⌜ is-two (getD (now code) at 0) ≡ true ⌝ }
     requires { ⌜ Cells (now addresses) (now tags) (now values) ⌝ }
-    ensures { λ r. ⌜ ((xmms : List ℕ) → Ran (run-ins (environment (now (addresses .entry)) (now (tags .entry)) fill) at (two-ins (getD (now (code .entry)) at 0) (operand-at (now (code .entry)) (at + 1)) (operand-at (now (code .entry)) (behind (now (code .entry)) (at + 1)))) (held (now (regs .entry)) xmms (now (flags .entry)) (now (values .entry)))) (behind (now (code .entry)) (behind (now (code .entry)) (at + 1))) r (held (now (regs .exit)) xmms (now (flags .exit)) (now (values .exit)))) ⌝ }
+    ensures { λ r. ⌜
+        ((xmms : List ℕ) →
+        Ran (run-ins (environment (now (addresses .entry)) (now (tags .entry)) fill) at
+        (two-ins (getD (now (code .entry)) at 0) (operand-at (now (code .entry)) (at + 1))
+        (operand-at (now (code .entry)) (behind (now (code .entry)) (at + 1))))
+        (held (now (regs .entry)) xmms (now (flags .entry)) (now (values .entry))))
+        (behind (now (code .entry)) (behind (now (code .entry)) (at + 1))) r
+        (held (now (regs .exit)) xmms (now (flags .exit)) (now (values .exit))))
+        ⌝ }
 {
     let kind = code[at];
-    let dst = target(code, at + 1, regs, addresses, tags, values);
-    let src = source(code, dst.next, regs, addresses, tags, values);
-    if !src.found {
-        return Step {
-            number: 31,
+    let dst = resolve(code, at + 1, regs, addresses, tags, values);
+    let src = load(code, dst.next, regs, addresses, tags, values);
+    if src.number != 0 {
+        return Exit {
+            number: src.number,
             place: at,
         };
     }
     if too_far(kind, src.word) {
-        return Step {
+        return Exit {
             number: 33,
             place: at,
         };
     }
-    if !dst.valid {
-        return Step {
-            number: 32,
+    if dst.number != 0 {
+        return Exit {
+            number: dst.number,
             place: at,
         };
     }
     let effect = effect_of(kind, fill, *flags, dst.word, src.word);
     put(dst, effect.word, regs, values);
     *flags = effect.flags;
-    Step {
+    Exit {
         number: 0,
         place: src.next,
     }
@@ -80,34 +90,43 @@ pub fn add_lea(
     addresses: &[u64],
     tags: &[u8],
     values: &mut [u64],
-) -> Step
+) -> Exit
     requires { ⌜ OperandsFrom 3 (now code) (at + 1) ⌝ }
     requires { ⌜ Cells (now addresses) (now tags) (now values) ⌝ }
-    ensures { λ r. ⌜ ((fill flags : ℕ) (xmms : List ℕ) → Ran (run-ins (environment (now (addresses .entry)) (now (tags .entry)) fill) at (AddLea64 (operand-at (now (code .entry)) (at + 1)) (operand-at (now (code .entry)) (behind (now (code .entry)) (at + 1))) (operand-at (now (code .entry)) (behind (now (code .entry)) (behind (now (code .entry)) (at + 1))))) (held (now (regs .entry)) xmms flags (now (values .entry)))) (behind (now (code .entry)) (behind (now (code .entry)) (behind (now (code .entry)) (at + 1)))) r (held (now (regs .exit)) xmms flags (now (values .exit)))) ⌝ }
+    ensures { λ r. ⌜
+        ((fill flags : ℕ) (xmms : List ℕ) →
+        Ran (run-ins (environment (now (addresses .entry)) (now (tags .entry)) fill) at
+        (AddLea64 (operand-at (now (code .entry)) (at + 1))
+        (operand-at (now (code .entry)) (behind (now (code .entry)) (at + 1)))
+        (operand-at (now (code .entry)) (behind (now (code .entry)) (behind (now (code .entry)) (at + 1)))))
+        (held (now (regs .entry)) xmms flags (now (values .entry))))
+        (behind (now (code .entry)) (behind (now (code .entry)) (behind (now (code .entry)) (at + 1)))) r
+        (held (now (regs .exit)) xmms flags (now (values .exit))))
+        ⌝ }
 {
-    let dst = target(code, at + 1, regs, addresses, tags, values);
-    let one = source(code, dst.next, regs, addresses, tags, values);
-    let two = source(code, one.next, regs, addresses, tags, values);
-    if !one.found {
-        return Step {
-            number: 31,
+    let dst = resolve(code, at + 1, regs, addresses, tags, values);
+    let one = load(code, dst.next, regs, addresses, tags, values);
+    let two = load(code, one.next, regs, addresses, tags, values);
+    if one.number != 0 {
+        return Exit {
+            number: one.number,
             place: at,
         };
     }
-    if !two.found {
-        return Step {
-            number: 31,
+    if two.number != 0 {
+        return Exit {
+            number: two.number,
             place: at,
         };
     }
-    if !dst.valid {
-        return Step {
-            number: 32,
+    if dst.number != 0 {
+        return Exit {
+            number: dst.number,
             place: at,
         };
     }
     put(dst, add64(one.word, two.word, false).word, regs, values);
-    Step {
+    Exit {
         number: 0,
         place: two.next,
     }

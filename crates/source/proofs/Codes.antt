@@ -14,7 +14,7 @@ use Rattle.code.specs.Tree.{Code, Ins, Block, IfElse, While, Codes, ⟨⟩, _�
 use Rattle.code.specs.WellFormed.{WfOcmp, WfCode, WfCodes}
 use Rattle.eval.specs.Config.{Env, Config, with-flags, End, ends, done, fault, spent, continue, and-then}
 use Rattle.eval.specs.Config as Config
-use Rattle.eval.specs.Steps as Run
+use Rattle.eval.specs.Instructions as Run
 use Rattle.eval.specs.Running as Running
 use Rattle.source.specs.Source as Source
 use Rattle.source.specs.Source.{State, St, choose, eval-ins}

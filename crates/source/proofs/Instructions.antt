@@ -19,10 +19,11 @@ use Rattle.machine.specs.declared.Operand.the-variants.{OConst, OReg, OMem}
 use Rattle.code.specs.declared.tree.Instruction.{Instruction}
 use Rattle.code.specs.declared.tree.Instruction.the-variants.{Mov64, Add64, AddLea64, AddCarry64, Adcx64, Adox64, Sub64, Mul64, Mulx64, IMul64, Xor64, And64, Shr64, Shl64, Paddd, Pxor, Pslld, Psrld, Pshufd, Pcmpeqd, Pextrq, Pinsrd, Pinsrq, VPSLLDQ}
 use Rattle.code.specs.WellFormed.{WfOperand, WfTwo, WfIns}
-use Rattle.eval.specs.Flags.{add-flags}
+use Rattle.eval.specs.Instructions.{add-flags, two-word, two-flags, quads-word, quads-flags, shifts-word, inserts-word}
 use Rattle.eval.specs.Config.{Env, Config, with-regs, with-xmms, with-flags, End, ends, done, fault}
 use Rattle.eval.specs.Config as Config
-use Rattle.eval.specs.Steps as Run
+use Rattle.eval.specs.Instructions as Run
+use Rattle.eval.proofs.Shapes.{read-check, amount-check, write, write-xmm, flags-kept, halves-kept}
 use Rattle.source.specs.Source as Source
 use Rattle.source.specs.Source.{State, St, put}
 use Rattle.source.specs.Log.{Note, Noted, _>>=_, _>>_, quiet, get, check, check-imm, amount, update-operand-preserve-flags, update-operand, note-ins}
@@ -145,12 +146,6 @@ module _ (env : Env) where
   }
 
   -- ---- writes
-  keep-flags : (o : Operand) (v : ℕ) (s : Config) → Run.update-operand env o v s ≡ with-flags (s .flags) (Run.update-operand env o v s)
-  unfolding Run.update-operand
-  keep-flags (OConst n) v s = refl
-  keep-flags (OReg r) v s = refl
-  keep-flags (OMem m) v s = refl
-
   -- a destination is written, and flags are kept
   preserve-gate : (dst : Operand) (v w : ℕ) (s t : Config) → Held env s → Run.update-operand env dst w s ≡ t
       → (Run.valid-dst-operand env dst s ≡ true → v ≡ w) → Gate (update-operand-preserve-flags dst v) s t (Run.valid-dst-operand env dst s) 32
@@ -196,7 +191,7 @@ module _ (env : Env) where
       says-get f r e = e
 
       says-source : (o : Operand) (k : Noted (Unit {0})) (r : End) → (Run.valid-operand env o s ≡ true → Says p s k s r)
-          → Says p s (check 31 (Source.valid-operand o) >> k) s (Run.source env p o s r)
+          → Says p s (check 31 (Source.valid-operand o) >> k) s (read-check env p o s r)
       says-source o k r f = says-then p s _ k s s _ 31 r (check-gate 31 _ s _ h (valid-operand-is env o s h)) f
 
       -- a step from t to u that checks nothing, with k after it, and as the last
@@ -211,18 +206,18 @@ module _ (env : Env) where
 
       -- a destination is written and flags are kept
       says-keep : (dst : Operand) (v w : ℕ) → (Run.valid-dst-operand env dst s ≡ true → v ≡ w)
-          → Says p s (update-operand-preserve-flags dst v) s (Run.write env p dst w (s .flags) s)
-      says-keep dst v w same = says-last p s _ s _ _ 32 (preserve-gate dst v w s _ h (keep-flags dst w s) same)
+          → Says p s (update-operand-preserve-flags dst v) s (write env p dst w (s .flags) s)
+      says-keep dst v w same = says-last p s _ s _ _ 32 (preserve-gate dst v w s _ h (flags-kept env dst w s) same)
 
       -- a destination is written and flags are the fill word
       says-write : (dst : Operand) (i : Instruction) (v w : ℕ) → (Run.valid-dst-operand env dst s ≡ true → v ≡ w)
-          → Says p s (update-operand load-mem64 int-to-nat64 (env .fill) dst i v) s (Run.write env p dst w (env .fill) s)
+          → Says p s (update-operand load-mem64 int-to-nat64 (env .fill) dst i v) s (write env p dst w (env .fill) s)
       says-write dst i v w same = says-last p s _ s _ _ 32 (update-gate dst i v w s h same)
 
       -- a destination is written, and then flags by m
       says-flags : (dst : Operand) (i : Instruction) (v w : ℕ) (m : St (Unit {0})) (flags : ℕ) → (Run.valid-dst-operand env dst s ≡ true → v ≡ w)
           → (Run.valid-dst-operand env dst s ≡ true → (t : Config) → m (state-of env (with-flags (env .fill) t)) .1 ≡ state-of env (with-flags flags t))
-          → Says p s (update-operand load-mem64 int-to-nat64 (env .fill) dst i v >> quiet m) s (Run.write env p dst w flags s)
+          → Says p s (update-operand load-mem64 int-to-nat64 (env .fill) dst i v >> quiet m) s (write env p dst w flags s)
       says-flags dst i v w m flags same sets =
           let t = Run.update-operand env dst w s in
           says-then p s _ _ s (with-flags (env .fill) t) _ 32 _ (update-gate dst i v w s h same)
@@ -234,7 +229,7 @@ module _ (env : Env) where
             check 31 (Source.valid-operand src)
             update-operand load-mem64 int-to-nat64 (env .fill) dst i (f (read dst s) (read src s))
             quiet (Source.update-flags (g (read dst s) (read src s)))) s
-          (Run.source env p src s (Run.write env p dst (f (value dst s) (value src s)) (g (value dst s) (value src s)) s))
+          (read-check env p src s (write env p dst (f (value dst s) (value src s)) (g (value dst s) (value src s)) s))
       unfolding Source.update-flags Source._>>=_
       says-sum dst src fits i f g =
           says-source src _ _
@@ -247,13 +242,13 @@ module _ (env : Env) where
           → Says p s (do
             check 31 (Source.valid-operand src)
             update-operand load-mem64 int-to-nat64 (env .fill) dst i (f (read dst s) (read src s))) s
-          (Run.source env p src s (Run.write env p dst (f (value dst s) (value src s)) (env .fill) s))
+          (read-check env p src s (write env p dst (f (value dst s) (value src s)) (env .fill) s))
       says-binary dst src fits i f =
           says-source src _ _ (λ e. says-write dst i _ _ (λ d. two-are f dst src fits d e))
 
       -- a shift amount: one check of the source, 31 and then 33 in the run
       says-amount : (o : Operand) → WfOperand o → (k : Noted (Unit {0})) (r : End) → (Run.valid-operand env o s ≡ true → Says p s k s r)
-          → Says p s (check (amount o (state-of env s)) (Source.valid-shift-operand load-mem64 int-to-nat64 (env .fill) o) >> k) s (Run.amount env p o s r)
+          → Says p s (check (amount o (state-of env s)) (Source.valid-shift-operand load-mem64 int-to-nat64 (env .fill) o) >> k) s (amount-check env p o s r)
       unfolding Config.check Source.valid-shift-operand
       says-amount o fits k r f = go (Run.valid-operand env o s) refl
         where
@@ -278,12 +273,12 @@ module _ (env : Env) where
           → Says p s (do
             check (amount amt (state-of env s)) (Source.valid-shift-operand load-mem64 int-to-nat64 (env .fill) amt)
             update-operand load-mem64 int-to-nat64 (env .fill) dst i (f (read dst s) (read amt s))) s
-          (Run.amount env p amt s (Run.write env p dst (f (value dst s) (value amt s)) (env .fill) s))
+          (amount-check env p amt s (write env p dst (f (value dst s) (value amt s)) (env .fill) s))
       says-shift dst amt fits i f =
           says-amount amt (fits .1) _ _ (λ e. says-write dst i _ _ (λ d. two-are f dst amt fits d e))
 
       -- an xmm is written
-      says-xmm : (x : ℕ) (q q′ : Four ℕ) → q ≡ q′ → Says p s (quiet (Source.update-xmm-preserve-flags x q)) s (Run.write-xmm env x q′ (s .flags) s)
+      says-xmm : (x : ℕ) (q q′ : Four ℕ) → q ≡ q′ → Says p s (quiet (Source.update-xmm-preserve-flags x q)) s (write-xmm env p x q′ (s .flags) s)
       unfolding Source.update-xmm-preserve-flags Source._>>=_
       says-xmm x q q′ e =
           says-end _ s (with-xmms (set-xmm (s .xmms) x q′) s) h (ap (λ y. state-of env (with-xmms (set-xmm (s .xmms) x y) s)) e)
@@ -293,13 +288,13 @@ module _ (env : Env) where
           → Says p s (do
             check 31 (Source.valid-operand src)
             quiet (Source.update-xmm-preserve-flags x (f (read src s)))) s
-          (Run.source env p src s (Run.write-xmm env x (f (value src s)) (s .flags) s))
+          (read-check env p src s (write-xmm env p x (f (value src s)) (s .flags) s))
       says-insert x src fits f = says-source src _ _ (λ e. says-xmm x _ _ (ap f (is src fits e)))
 
       -- ---- the instructions that are like no other
       says-carry : (dst src : Operand) → WfTwo dst src
           → Says p s (note-ins load-mem64 int-to-nat64 (env .fill) (AddCarry64 dst src)) s (Run.run-ins env p (AddCarry64 dst src) s)
-      unfolding note-ins Run.run-ins sum-mod Source.update-flags Source._>>=_
+      unfolding note-ins Run.run-ins Run.act two-word two-flags sum-mod Source.update-flags Source._>>=_
       says-carry dst src fits =
           let c = bit (cf (s .flags)) in
           let sum : ℕ → ℕ → ℕ = λ a b. (a + b + c) % 2 ^ 64 in
@@ -313,7 +308,7 @@ module _ (env : Env) where
           (says-end _ u (with-flags (flags (value dst s) (value src s)) t) g (ap (λ x. state-of env (with-flags x t)) (two-are flags dst src fits d e))))))
 
       says-mul : (src : Operand) → WfOperand src → Says p s (note-ins load-mem64 int-to-nat64 (env .fill) (Mul64 src)) s (Run.run-ins env p (Mul64 src) s)
-      unfolding note-ins Run.run-ins Source.update-reg Source.update-flags Source._>>=_
+      unfolding note-ins Run.run-ins Run.act Source.update-reg Source.update-flags Source._>>=_
       says-mul src fits =
           let a = reg-at (s .regs) Rax in
           let lo : ℕ → Config = λ x. with-regs (set-reg (s .regs) Rax (mul-mod 64 a x)) s in
@@ -325,17 +320,22 @@ module _ (env : Env) where
 
       says-mulx : (dst-hi dst-lo src : Operand) → WfOperand src
           → Says p s (note-ins load-mem64 int-to-nat64 (env .fill) (Mulx64 dst-hi dst-lo src)) s (Run.run-ins env p (Mulx64 dst-hi dst-lo src) s)
-      unfolding note-ins Run.run-ins Run.run-mulx
+      unfolding note-ins Run.run-ins Run.act
       says-mulx dst-hi dst-lo src fits =
           let a = reg-at (s .regs) Rdx in
           let t = Run.update-operand env dst-lo (mul-mod 64 a (value src s)) s in
           says-get _ _ (says-source src _ _ (λ e.
           says-then p s _ _ s t _ 32 _ (preserve-gate dst-lo _ _ s t h refl (λ _. ap (mul-mod 64 a) (is src fits e)))
-          (λ _. says-last p s _ t _ _ 32 (preserve-gate dst-hi _ _ t _ (update-held env dst-lo _ s h) refl (λ _. ap (mul-div 64 a) (is src fits e))))))
+          (λ _. says-last p s _ t _ _ 32
+          (preserve-gate dst-hi _ _ t _ (update-held env dst-lo _ s h)
+          (halves-kept env dst-lo dst-hi (mul-mod 64 a (value src s)) (mul-div 64 a (value src s)) s)
+          (λ _. ap (mul-div 64 a) (is src fits e))))))
 
       -- ---- every instruction
       pub says-ins : (i : Instruction) → WfIns i → Says p s (note-ins load-mem64 int-to-nat64 (env .fill) i) s (Run.run-ins env p i s)
-      unfolding WfIns note-ins Run.run-ins Source.eval-ins Source.update-xmm Source.update-xmm-preserve-flags Source.update-cf-of Source._>>=_
+      unfolding WfIns note-ins Run.run-ins Run.act
+          two-word two-flags quads-word quads-flags shifts-word inserts-word
+          Source.eval-ins Source.update-xmm Source.update-xmm-preserve-flags Source.update-cf-of Source._>>=_
           sum-mod sum-carry mul-mod add-lanes equal-lanes shl-lanes shr-lanes shuffle-lanes shift-quad
       says-ins (Mov64 dst src) fits = says-get _ _ (says-source src _ _ (λ e. says-keep dst _ _ (λ _. is src (fits .1) e)))
       says-ins (Add64 dst src) fits =

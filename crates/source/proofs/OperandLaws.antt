@@ -16,7 +16,7 @@ use Rattle.code.specs.declared.tree.Ocmp.{Ocmp}
 use Rattle.code.specs.declared.tree.Ocmp.the-variants.{OEq, ONe, OLe, OGe, OLt, OGt}
 use Rattle.code.specs.WellFormed.{WfOperand, WfTwo, WfOcmp}
 use Rattle.eval.specs.Config.{Env, Config}
-use Rattle.eval.specs.Steps as Run
+use Rattle.eval.specs.Instructions as Run
 use Rattle.source.specs.Source as Source
 use Rattle.source.specs.Source.{with-mem}
 use Rattle.source.specs.Correspondence.{IntToNat64, state-of}

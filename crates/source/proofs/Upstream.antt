@@ -20,7 +20,7 @@ use Rattle.machine.specs.declared.reg.Reg.{Reg}
 use Rattle.machine.specs.declared.Operand.{Operand}
 use Rattle.machine.proofs.RegisterLaws.{xmm-same, xmm-other}
 use Rattle.code.specs.declared.tree.Instruction.the-variants.{Add64, AddCarry64, Pcmpeqd}
-use Rattle.eval.specs.Flags.{add-flags}
+use Rattle.eval.specs.Instructions.{add-flags}
 use Rattle.machine.specs.Memory.{Memory}
 use Rattle.source.specs.Source.{State, eval-reg, eval-xmm, update-reg′, update-xmm′, choose, if-some, eval-ins, eval-while, eval-code, eval-codes}
 use Rattle.source.specs.Upstream.{Upstream, IntToNatN, add64-text, add-carry64-text, pcmpeqd-text}

@@ -18,7 +18,7 @@ use Rattle.code.specs.declared.tree.Instruction.{Instruction}
 use Rattle.code.specs.declared.tree.Instruction.the-variants.{Mov64, Add64, AddLea64, AddCarry64, Adcx64, Adox64, Sub64, Mul64, Mulx64, IMul64, Xor64, And64, Shr64, Shl64, Paddd, Pxor, Pslld, Psrld, Pshufd, Pcmpeqd, Pextrq, Pinsrd, Pinsrq, VPSLLDQ}
 use Rattle.code.specs.declared.tree.Ocmp.{Ocmp}
 use Rattle.code.specs.Tree.{Code, Ins, Block, IfElse, While, Codes, ⟨⟩, _∷ᶜ_}
-use Rattle.eval.specs.Flags.{add-flags}
+use Rattle.eval.specs.Instructions.{add-flags}
 use Rattle.source.specs.Source.{State, with-ok, with-flags, pow2-32, pow2-64, St, put, choose, eval-reg, eval-xmm, valid-operand, valid-ocmp, valid-dst-operand, update-operand-preserve-flags′, update-reg, update-xmm-preserve-flags, update-flags, update-cf-of}
 use Rattle.source.specs.Source as Source
 

@@ -1,23 +1,24 @@
 -- An instruction that is done has made its stores and no other; one that is not done has left all as it was. Runs are made of these.
-use mathlib.Core.Path.{_≡_, refl, sym, _∙_, ap}
+use mathlib.Core.Path.{_≡_, refl, sym, _∙_, ap, subst}
 use mathlib.Core.Bool.{Bool, true, false}
 use mathlib.Core.List.{List, [], _∷_, _++_, append-assoc}
 use mathlib.Core.Option.{Option, none, some}
 use Prim.Native.Nat.{ℕ, zero, suc}
 use native.Mathlib.Omega.{arith}
 use lib.ListN.{set}
+use Rattle.machine.specs.Registers.{set-reg, set-xmm}
 use Rattle.machine.specs.Cells.{set-cell}
+use Rattle.machine.specs.declared.reg.Reg.{Reg}
 use Rattle.machine.specs.declared.Operand.{Operand}
 use Rattle.machine.specs.declared.Operand.the-variants.{OConst, OReg, OMem}
 use Rattle.words.specs.Words.{Four}
 use Rattle.code.specs.declared.tree.Instruction.{Instruction}
-use Rattle.code.specs.declared.tree.Instruction.the-variants.{Mov64, Add64, AddLea64, AddCarry64, Adcx64, Adox64, Sub64, Mul64, Mulx64, IMul64, Xor64, And64, Shr64, Shl64, Paddd, Pxor, Pslld, Psrld, Pshufd, Pcmpeqd, Pextrq, Pinsrd, Pinsrq, VPSLLDQ}
 use Rattle.code.specs.declared.tree.Ocmp.{Ocmp}
 use Rattle.code.specs.Tree.{Code, Ins, Block, IfElse, While, Codes, ⟨⟩, _∷ᶜ_}
-use Rattle.eval.specs.Config.{Env, Config, with-flags, End, ends, Outcome, done, fault, spent, refused, continue, check, choose}
-use Rattle.eval.specs.Steps.{cell-of, update-operand, write, write-xmm, run-mulx, run-ins, valid-ocmp, eval-ocmp}
+use Rattle.eval.specs.Config.{Env, Config, with-regs, with-xmms, with-flags, End, ends, Outcome, done, fault, spent, refused, continue, check, choose}
+use Rattle.eval.specs.Instructions.{cell-of, update-operand, checked, set-regs, set-xmms, written, act, run-ins, valid-ocmp, eval-ocmp}
 use Rattle.eval.specs.Running.{run-ocmp, rounds, run-code, run-codes}
-use Rattle.stores.specs.Stores.{Store, with-stores, to-cell, store, stores, stores-of, Completed, if-done, way, completed, completed-all, completed-rounds}
+use Rattle.stores.specs.Stores.{Store, with-stores, to-cell, store, stores-to, stores, stores-of, Completed, if-done, way, completed, completed-all, completed-rounds}
 
 pub make-append : (a b : List Store) (vs : List ℕ) → with-stores (a ++ b) vs ≡ with-stores b (with-stores a vs)
 unfolding with-stores
@@ -56,50 +57,42 @@ module _ (env : Env) where
       go none = refl
       go (some i) = refl
 
-  -- the shapes of an instruction behind its checks of sources
-  made-write : (p : ℕ) (dst : Operand) (v flags : ℕ) (s : Config) → Made (store env dst v s) s (write env p dst v flags s)
-  made-write p dst v flags s = made-check _ 32 p (made-done _ s _ (stored dst v s))
+  -- the checks of what is read
+  made-checked : (p : ℕ) (cs : List (Bool × ℕ)) {ws : List Store} {s : Config} {k : End} → Made ws s k → Made ws s (checked p cs s k)
+  made-checked p [] h = h
+  made-checked p (c ∷ cs) h = made-check (c .0) (c .1) p (made-checked p cs h)
 
-  made-mulx : (p : ℕ) (dst-hi dst-lo : Operand) (hi lo : ℕ) (s : Config)
-      → Made (store env dst-lo lo s ++ store env dst-hi hi (update-operand env dst-lo lo s)) s (run-mulx env p dst-hi dst-lo hi lo s)
-  unfolding run-mulx
-  made-mulx p dst-hi dst-lo hi lo s =
-      let t = update-operand env dst-lo lo s in
-      let low = store env dst-lo lo s in
-      let high = store env dst-hi hi t in
-      made-check _ 32 p (made-check _ 32 p (made-done _ s _
-      (stored dst-hi hi t ∙ ap (with-stores high) (stored dst-lo lo s) ∙ sym (make-append low high (s .values)))))
+  -- the writes from t on, behind the stores a
+  made-written :
+      (p : ℕ) (ws : List (Operand × ℕ)) (s t : Config) (f : Config → Config) → ((u : Config) → f u .values ≡ u .values) →
+      (a : List Store) → t .values ≡ with-stores a (s .values) →
+      Made (a ++ stores-to env ws t) s (written env p ws s (λ u. ends done (f u)) t)
+  unfolding stores-to with-stores
+  made-written p [] s t f keeps a h = made-done _ s _ (keeps t ∙ h ∙ sym (make-append a [] (s .values)))
+  made-written p (w ∷ ws) s t f keeps a h =
+      let next = store env (w .0) (w .1) t in
+      let u = update-operand env (w .0) (w .1) t in
+      let so-far = stored (w .0) (w .1) t ∙ ap (with-stores next) h ∙ sym (make-append a next (s .values)) in
+      made-check _ 32 p
+      (subst (λ l. Made l s (written env p ws s (λ u. ends done (f u)) u)) (append-assoc a next (stores-to env ws u))
+      (made-written p ws s u f keeps (a ++ next) so-far))
 
-  made-xmm : (x : ℕ) (q : Four ℕ) (flags : ℕ) (s : Config) → Made [] s (write-xmm env x q flags s)
-  unfolding with-stores
-  made-xmm x q flags s = made-done [] s _ refl
+  -- registers, xmm and flags are no cells
+  regs-keep : (ws : List (Reg × ℕ)) (t : Config) → set-regs ws t .values ≡ t .values
+  regs-keep [] t = refl
+  regs-keep (w ∷ ws) t = regs-keep ws (with-regs (set-reg (t .regs) (w .0) (w .1)) t)
+
+  xmms-keep : (ws : List (ℕ × Four ℕ)) (t : Config) → set-xmms ws t .values ≡ t .values
+  xmms-keep [] t = refl
+  xmms-keep (w ∷ ws) t = xmms-keep ws (with-xmms (set-xmm (t .xmms) (w .0) (w .1)) t)
 
   pub made-ins : (p : ℕ) (i : Instruction) (s : Config) → Made (stores env i s) s (run-ins env p i s)
   unfolding run-ins stores with-stores
-  made-ins p (Mov64 dst src) s = made-check _ 31 p (made-write p dst _ _ s)
-  made-ins p (Add64 dst src) s = made-check _ 31 p (made-write p dst _ _ s)
-  made-ins p (AddLea64 dst src1 src2) s = made-check _ 31 p (made-check _ 31 p (made-write p dst _ _ s))
-  made-ins p (AddCarry64 dst src) s = made-check _ 31 p (made-write p dst _ _ s)
-  made-ins p (Adcx64 dst src) s = made-check _ 31 p (made-write p dst _ _ s)
-  made-ins p (Adox64 dst src) s = made-check _ 31 p (made-write p dst _ _ s)
-  made-ins p (Sub64 dst src) s = made-check _ 31 p (made-write p dst _ _ s)
-  made-ins p (Mul64 src) s = made-check _ 31 p (made-done [] s _ refl)
-  made-ins p (Mulx64 dst-hi dst-lo src) s = made-check _ 31 p (made-mulx p dst-hi dst-lo _ _ s)
-  made-ins p (IMul64 dst src) s = made-check _ 31 p (made-write p dst _ _ s)
-  made-ins p (Xor64 dst src) s = made-check _ 31 p (made-write p dst _ _ s)
-  made-ins p (And64 dst src) s = made-check _ 31 p (made-write p dst _ _ s)
-  made-ins p (Shr64 dst amt) s = made-check _ 31 p (made-check _ 33 p (made-write p dst _ _ s))
-  made-ins p (Shl64 dst amt) s = made-check _ 31 p (made-check _ 33 p (made-write p dst _ _ s))
-  made-ins p (Paddd dst src) s = made-xmm dst _ _ s
-  made-ins p (Pxor dst src) s = made-xmm dst _ _ s
-  made-ins p (Pslld dst amt) s = made-check _ 34 p (made-xmm dst _ _ s)
-  made-ins p (Psrld dst amt) s = made-check _ 34 p (made-xmm dst _ _ s)
-  made-ins p (Pshufd dst src imm8) s = made-xmm dst _ _ s
-  made-ins p (Pcmpeqd dst src) s = made-xmm dst _ _ s
-  made-ins p (Pextrq dst src index) s = made-write p dst _ _ s
-  made-ins p (Pinsrd dst src index) s = made-check _ 31 p (made-xmm dst _ _ s)
-  made-ins p (Pinsrq dst src index) s = made-check _ 31 p (made-xmm dst _ _ s)
-  made-ins p (VPSLLDQ dst src count) s = made-check _ 35 p (made-xmm dst _ _ s)
+  made-ins p i s =
+      let a = act env i s in
+      made-checked p (a .checks)
+      (made-written p (a .words) s s (λ t. with-flags (a .flags) (set-xmms (a .quads) (set-regs (a .regs) t)))
+      (λ t. xmms-keep (a .quads) (set-regs (a .regs) t) ∙ regs-keep (a .regs) t) [] refl)
 
   stores-of-append : (a b : List Completed) → stores-of env (a ++ b) ≡ stores-of env a ++ stores-of env b
   unfolding stores-of

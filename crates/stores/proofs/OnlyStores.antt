@@ -12,13 +12,12 @@ use Rattle.machine.proofs.FindLaws.{find-hit}
 use Rattle.machine.specs.declared.Operand.{Operand}
 use Rattle.machine.specs.declared.Operand.the-variants.{OConst, OReg, OMem}
 use Rattle.code.specs.declared.tree.Instruction.{Instruction}
-use Rattle.code.specs.declared.tree.Instruction.the-variants.{Mov64, Add64, AddLea64, AddCarry64, Adcx64, Adox64, Sub64, Mul64, Mulx64, IMul64, Xor64, And64, Shr64, Shl64, Paddd, Pxor, Pslld, Psrld, Pshufd, Pcmpeqd, Pextrq, Pinsrd, Pinsrq, VPSLLDQ}
 use Rattle.code.specs.Tree.{Code}
 use Rattle.code.specs.Reader.{got, parse}
 use Rattle.eval.specs.Config.{Env, Config, End, ends, fault, refused}
-use Rattle.eval.specs.Steps.{cell-of, run-ins}
+use Rattle.eval.specs.Instructions.{cell-of, update-operand, act, run-ins}
 use Rattle.eval.specs.Running.{run-code, run-checked, run-read, run-of}
-use Rattle.stores.specs.Stores.{Store, with-stores, to-cell, store, stores, stores-of, Completed, completed}
+use Rattle.stores.specs.Stores.{Store, with-stores, to-cell, store, stores-to, stores, stores-of, Completed, completed}
 use Rattle.stores.specs.OnlyStores.{To64, OnlyStores}
 use Rattle.stores.proofs.Made.{made-ins, traced}
 
@@ -49,35 +48,15 @@ module _ (env : Env) where
       go none e = tt
       go (some i) e = (find-hit (env .addresses) (env .tags) _ i e .tag, tt)
 
-  both-64 : (o u : Operand) (v w : ℕ) (s t : Config) → To64 (env .tags) (store env o v s ++ store env u w t)
-  both-64 o u v w s t = to-64-append (env .tags) (store env o v s) (store env u w t) (store-64 o v s) (store-64 u w t)
+  written-64 : (ws : List (Operand × ℕ)) (s : Config) → To64 (env .tags) (stores-to env ws s)
+  unfolding stores-to
+  written-64 [] s = tt
+  written-64 (w ∷ ws) s =
+      to-64-append (env .tags) (store env (w .0) (w .1) s) _ (store-64 (w .0) (w .1) s) (written-64 ws (update-operand env (w .0) (w .1) s))
 
   stores-64 : (i : Instruction) (s : Config) → To64 (env .tags) (stores env i s)
   unfolding stores
-  stores-64 (Mov64 dst src) s = store-64 dst _ s
-  stores-64 (Add64 dst src) s = store-64 dst _ s
-  stores-64 (AddLea64 dst src1 src2) s = store-64 dst _ s
-  stores-64 (AddCarry64 dst src) s = store-64 dst _ s
-  stores-64 (Adcx64 dst src) s = store-64 dst _ s
-  stores-64 (Adox64 dst src) s = store-64 dst _ s
-  stores-64 (Sub64 dst src) s = store-64 dst _ s
-  stores-64 (Mul64 src) s = tt
-  stores-64 (Mulx64 dst-hi dst-lo src) s = both-64 dst-lo dst-hi _ _ s _
-  stores-64 (IMul64 dst src) s = store-64 dst _ s
-  stores-64 (Xor64 dst src) s = store-64 dst _ s
-  stores-64 (And64 dst src) s = store-64 dst _ s
-  stores-64 (Shr64 dst amt) s = store-64 dst _ s
-  stores-64 (Shl64 dst amt) s = store-64 dst _ s
-  stores-64 (Paddd dst src) s = tt
-  stores-64 (Pxor dst src) s = tt
-  stores-64 (Pslld dst amt) s = tt
-  stores-64 (Psrld dst amt) s = tt
-  stores-64 (Pshufd dst src imm8) s = tt
-  stores-64 (Pcmpeqd dst src) s = tt
-  stores-64 (Pextrq dst src index) s = store-64 dst _ s
-  stores-64 (Pinsrd dst src index) s = tt
-  stores-64 (Pinsrq dst src index) s = tt
-  stores-64 (VPSLLDQ dst src count) s = tt
+  stores-64 i s = written-64 (act env i s .words) s
 
   all-64 : (l : List Completed) → To64 (env .tags) (stores-of env l)
   unfolding stores-of

@@ -1,22 +1,16 @@
 -- The stores that a run makes to its cells: those of the instructions that it completes, in order.
-use Prim.Native.Nat.{ℕ, zero, suc, _+_, _%_}
+use Prim.Native.Nat.{ℕ, zero, suc}
 use mathlib.Core.Bool.{Bool, true, false}
 use mathlib.Core.List.{List, [], _∷_, _++_}
 use mathlib.Core.Option.{Option, none, some}
 use lib.ListN.{set}
-use Rattle.words.specs.Words.{four-to-two-two, two-select, two-to-nat}
-use Rattle.words.specs.Bits.{bit, iand, ixor, ishl, ishr}
-use Rattle.words.specs.Sums.{sum-mod, sub-mod, mul-div, mul-mod}
-use Rattle.words.specs.Flags.{cf, overflow}
-use Rattle.machine.specs.Registers.{Rdx, reg-at, xmm-at}
 use Rattle.machine.specs.declared.Operand.{Operand}
 use Rattle.machine.specs.declared.Operand.the-variants.{OConst, OReg, OMem}
 use Rattle.code.specs.declared.tree.Instruction.{Instruction}
-use Rattle.code.specs.declared.tree.Instruction.the-variants.{Mov64, Add64, AddLea64, AddCarry64, Adcx64, Adox64, Sub64, Mul64, Mulx64, IMul64, Xor64, And64, Shr64, Shl64, Paddd, Pxor, Pslld, Psrld, Pshufd, Pcmpeqd, Pextrq, Pinsrd, Pinsrq, VPSLLDQ}
 use Rattle.code.specs.declared.tree.Ocmp.{Ocmp}
 use Rattle.code.specs.Tree.{Code, Ins, Block, IfElse, While, Codes, ⟨⟩, _∷ᶜ_}
 use Rattle.eval.specs.Config.{Env, Config, with-flags, End, Outcome, done, fault, spent, refused}
-use Rattle.eval.specs.Steps.{cell-of, eval-operand, update-operand, run-ins, valid-ocmp, eval-ocmp}
+use Rattle.eval.specs.Instructions.{cell-of, update-operand, act, run-ins, valid-ocmp, eval-ocmp}
 use Rattle.eval.specs.Running.{run-code}
 
 -- a value for the cell at an index
@@ -59,37 +53,14 @@ module _ (env : Env) where
   store (OReg r) v s = []
   store (OMem m) v s = to-cell (cell-of env m s) v
 
-  -- the stores of an instruction: its destination and the value that it gets
+  -- the stores of words to destinations, each resolved in the configuration that the writes before it leave
+  unfoldable pub stores-to : List (Operand × ℕ) → Config → List Store
+  stores-to [] s = []
+  stores-to (w ∷ ws) s = store (w .0) (w .1) s ++ stores-to ws (update-operand env (w .0) (w .1) s)
+
+  -- the stores of an instruction: those of the words that it writes
   unfoldable pub stores : Instruction → Config → List Store
-  stores (Mov64 dst src) s = store dst (eval-operand env src s) s
-  stores (Add64 dst src) s = store dst (sum-mod 64 (eval-operand env dst s + eval-operand env src s)) s
-  stores (AddLea64 dst src1 src2) s = store dst (sum-mod 64 (eval-operand env src1 s + eval-operand env src2 s)) s
-  stores (AddCarry64 dst src) s = store dst (sum-mod 64 (eval-operand env dst s + eval-operand env src s + bit (cf (s .flags)))) s
-  stores (Adcx64 dst src) s = store dst (sum-mod 64 (eval-operand env dst s + eval-operand env src s + bit (cf (s .flags)))) s
-  stores (Adox64 dst src) s = store dst (sum-mod 64 (eval-operand env dst s + eval-operand env src s + bit (overflow (s .flags)))) s
-  stores (Sub64 dst src) s = store dst (sub-mod 64 (eval-operand env dst s) (eval-operand env src s)) s
-  stores (Mul64 src) s = []
-  -- the low half, then the high half, whose destination is resolved after the low half is written
-  stores (Mulx64 dst-hi dst-lo src) s =
-      let a = reg-at (s .regs) Rdx in
-      let b = eval-operand env src s in
-      store dst-lo (mul-mod 64 a b) s ++ store dst-hi (mul-div 64 a b) (update-operand env dst-lo (mul-mod 64 a b) s)
-  stores (IMul64 dst src) s = store dst (mul-mod 64 (eval-operand env dst s) (eval-operand env src s)) s
-  stores (Xor64 dst src) s = store dst (ixor 64 (eval-operand env dst s) (eval-operand env src s)) s
-  stores (And64 dst src) s = store dst (iand 64 (eval-operand env dst s) (eval-operand env src s)) s
-  stores (Shr64 dst amt) s = store dst (ishr (eval-operand env dst s) (eval-operand env amt s)) s
-  stores (Shl64 dst amt) s = store dst (ishl 64 (eval-operand env dst s) (eval-operand env amt s)) s
-  stores (Paddd dst src) s = []
-  stores (Pxor dst src) s = []
-  stores (Pslld dst amt) s = []
-  stores (Psrld dst amt) s = []
-  stores (Pshufd dst src imm8) s = []
-  stores (Pcmpeqd dst src) s = []
-  stores (Pextrq dst src index) s =
-      store dst (two-to-nat 32 (two-select (four-to-two-two (xmm-at (s .xmms) src)) (index % 2))) s
-  stores (Pinsrd dst src index) s = []
-  stores (Pinsrq dst src index) s = []
-  stores (VPSLLDQ dst src count) s = []
+  stores i s = stores-to (act env i s .words) s
 
   -- the stores of completed instructions, in order
   unfoldable pub stores-of : List Completed → List Store

@@ -3,11 +3,6 @@ use Rattle.words.specs.Bits.{bit}
 use borrow.Author.Needs.{needs}
 use Rattle.eval.proofs.arithmetic.carry_addition.Statement.{statement}
 use Rattle.eval.proofs.arithmetic.carry_addition.Tie as tie
-use Rattle.eval.proofs.arithmetic.carry_addition.Reads as reads
-use Rattle.eval.proofs.arithmetic.carry_addition.Lts as lts
-use Rattle.words.proofs.cf.Reads as cf-reads
-use Rattle.words.proofs.update_cf.Reads as update-cf-reads
-use Rattle.words.proofs.add64.Reads as add64-reads
 
 cf-requires : tie.Need-cf-requires
 cf-requires c κs = search needs

@@ -5,10 +5,6 @@ use Rattle.words.specs.Flags.{update-cf}
 use borrow.Author.Needs.{needs}
 use Rattle.eval.proofs.arithmetic.cleared.Statement.{statement}
 use Rattle.eval.proofs.arithmetic.cleared.Tie as tie
-use Rattle.eval.proofs.arithmetic.cleared.Reads as reads
-use Rattle.eval.proofs.arithmetic.cleared.Lts as lts
-use Rattle.words.proofs.update_cf.Reads as update-cf-reads
-use Rattle.words.proofs.update_of.Reads as update-of-reads
 
 update-of-requires : tie.Need-update-of-requires
 update-of-requires c κs = search needs

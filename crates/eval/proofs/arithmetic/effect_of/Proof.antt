@@ -1,24 +1,11 @@
 -- Each arm is the word and the flags of its kind.
 use mathlib.Core.Path.{_∙_}
-use borrow.Author.Tests.{ne-eqb}
-use Rattle.eval.specs.Families.{two-word, two-flags}
-use Rattle.eval.proofs.StepLaws.{plus-none}
+use Rattle.eval.specs.Instructions.{two-word, two-flags}
+use Rattle.eval.proofs.OtherKinds.{no-two}
+use Rattle.eval.proofs.InstructionLaws.{plus-none}
 use borrow.Author.Needs.{needs}
 use Rattle.eval.proofs.arithmetic.effect_of.Statement.{statement}
 use Rattle.eval.proofs.arithmetic.effect_of.Tie as tie
-use Rattle.eval.proofs.arithmetic.effect_of.Reads as reads
-use Rattle.eval.proofs.arithmetic.effect_of.Lts as lts
-use Rattle.eval.proofs.arithmetic.addition.Reads as addition-reads
-use Rattle.eval.proofs.arithmetic.carry_addition.Reads as carry-addition-reads
-use Rattle.eval.proofs.arithmetic.cleared.Reads as cleared-reads
-use Rattle.eval.proofs.arithmetic.overflow_addition.Reads as overflow-addition-reads
-use Rattle.words.proofs.iand64.Reads as iand64-reads
-use Rattle.words.proofs.ishl64.Reads as ishl64-reads
-use Rattle.words.proofs.ishr64.Reads as ishr64-reads
-use Rattle.words.proofs.ixor64.Reads as ixor64-reads
-use Rattle.words.proofs.cf.Reads as cf-reads
-use Rattle.words.proofs.mul_mod.Reads as mul-mod-reads
-use Rattle.words.proofs.sub64.Reads as sub64-reads
 
 addition-requires : tie.Need-addition-requires
 addition-requires c κs = search needs
@@ -62,19 +49,30 @@ returns c = record { word-is = rw (c .match .keys1); flags-is = rw (c .match .ke
 
 returns-2 : tie.Need-returns-2
 unfolding two-word two-flags
-returns-2 c = record { word-is = rw (c .before .match .keys2) (c .addition .ensures .word-is ∙ plus-none (c .before .before .args .a) (c .before .before .args .b)); flags-is = rw (c .before .match .keys2) (c .addition .ensures .flags-is) }
+returns-2 c =
+    let args = c .before .before .args in
+    let sum = c .addition .ensures in
+    record { word-is = rw (c .before .match .keys2) (sum .word-is ∙ plus-none (args .a) (args .b)); flags-is = rw (c .before .match .keys2) (sum .flags-is) }
 
 returns-3 : tie.Need-returns-3
 unfolding two-word two-flags
-returns-3 c = record { word-is = rw (c .before .before .match .keys3, ← c .before .cf .ensures) (c .addition2 .ensures .word-is); flags-is = rw (c .before .before .match .keys3, ← c .before .cf .ensures) (c .addition2 .ensures .flags-is) }
+returns-3 c =
+    let kind = c .before .before .match .keys3 in
+    let carry = c .before .cf .ensures in
+    let sum = c .addition2 .ensures in
+    record { word-is = rw (kind, ← carry) (sum .word-is); flags-is = rw (kind, ← carry) (sum .flags-is) }
 
 returns-4 : tie.Need-returns-4
 unfolding two-word two-flags
-returns-4 c = record { word-is = rw (c .before .match .keys4) (c .carry-addition .ensures .word-is); flags-is = rw (c .before .match .keys4) (c .carry-addition .ensures .flags-is) }
+returns-4 c =
+    let sum = c .carry-addition .ensures in
+    record { word-is = rw (c .before .match .keys4) (sum .word-is); flags-is = rw (c .before .match .keys4) (sum .flags-is) }
 
 returns-5 : tie.Need-returns-5
 unfolding two-word two-flags
-returns-5 c = record { word-is = rw (c .before .match .keys5) (c .overflow-addition .ensures .word-is); flags-is = rw (c .before .match .keys5) (c .overflow-addition .ensures .flags-is) }
+returns-5 c =
+    let sum = c .overflow-addition .ensures in
+    record { word-is = rw (c .before .match .keys5) (sum .word-is); flags-is = rw (c .before .match .keys5) (sum .flags-is) }
 
 returns-6 : tie.Need-returns-6
 unfolding two-word two-flags
@@ -86,7 +84,9 @@ returns-7 c = record { word-is = rw (c .before .match .keys7) (c .mul-mod .ensur
 
 returns-8 : tie.Need-returns-8
 unfolding two-word two-flags
-returns-8 c = record { word-is = rw (c .before .before .match .keys8) (c .before .ixor64 .ensures); flags-is = rw (c .before .before .match .keys8) (c .cleared .ensures) }
+returns-8 c =
+    let kind = c .before .before .match .keys8 in
+    record { word-is = rw kind (c .before .ixor64 .ensures); flags-is = rw kind (c .cleared .ensures) }
 
 returns-9 : tie.Need-returns-9
 unfolding two-word two-flags
@@ -98,7 +98,15 @@ returns-10 c = record { word-is = rw (c .before .match .keys10) (c .ishr64 .ensu
 
 returns-11 : tie.Need-returns-11
 unfolding two-word two-flags
-returns-11 c = let k = c .before .before .args .kind in let r = c .before .match .rest in record { word-is = rw (ne-eqb k 0x01 (r .0 .0 .0 .0 .0 .0 .0 .0 .0 .1), ne-eqb k 0x02 (r .0 .0 .0 .0 .0 .0 .0 .0 .1), ne-eqb k 0x04 (r .0 .0 .0 .0 .0 .0 .0 .1), ne-eqb k 0x05 (r .0 .0 .0 .0 .0 .0 .1), ne-eqb k 0x06 (r .0 .0 .0 .0 .0 .1), ne-eqb k 0x07 (r .0 .0 .0 .0 .1), ne-eqb k 0x0a (r .0 .0 .0 .1), ne-eqb k 0x0b (r .0 .0 .1), ne-eqb k 0x0c (r .0 .1), ne-eqb k 0x0d (r .1)) (c .ishl64 .ensures); flags-is = rw (ne-eqb k 0x01 (r .0 .0 .0 .0 .0 .0 .0 .0 .0 .1), ne-eqb k 0x02 (r .0 .0 .0 .0 .0 .0 .0 .0 .1), ne-eqb k 0x04 (r .0 .0 .0 .0 .0 .0 .0 .1), ne-eqb k 0x05 (r .0 .0 .0 .0 .0 .0 .1), ne-eqb k 0x06 (r .0 .0 .0 .0 .0 .1), ne-eqb k 0x0b (r .0 .0 .1)) }
+returns-11 c = record { word-is = rw (c .before .match .keys11) (c .ishl64 .ensures); flags-is = rw (c .before .match .keys11) }
+
+returns-12 : tie.Need-returns-12
+returns-12 c =
+    let r = c .match .rest in
+    let below7 = r .0 .0 .0 .0 .0 in
+    absurd
+    (no-two _ (c .before .pre) (below7 .0 .0 .0 .0 .0 .1) (below7 .0 .0 .0 .0 .1) (below7 .0 .0 .0 .1) (below7 .0 .0 .1) (below7 .0 .1) (below7 .1)
+    (r .0 .0 .0 .0 .1) (r .0 .0 .0 .1) (r .0 .0 .1) (r .0 .1) (r .1))
 
 pub effect-of-spec : {M : Type 1} → statement M
 effect-of-spec =
@@ -126,4 +134,5 @@ effect-of-spec =
     returns-8
     returns-9
     returns-10
-    returns-11)
+    returns-11
+    returns-12)

@@ -2,11 +2,6 @@
 use borrow.Author.Needs.{needs}
 use Rattle.eval.proofs.arithmetic.overflow_addition.Statement.{statement}
 use Rattle.eval.proofs.arithmetic.overflow_addition.Tie as tie
-use Rattle.eval.proofs.arithmetic.overflow_addition.Reads as reads
-use Rattle.eval.proofs.arithmetic.overflow_addition.Lts as lts
-use Rattle.words.proofs.overflow.Reads as overflow-reads
-use Rattle.words.proofs.update_of.Reads as update-of-reads
-use Rattle.words.proofs.add64.Reads as add64-reads
 
 overflow-requires : tie.Need-overflow-requires
 overflow-requires c κs = search needs

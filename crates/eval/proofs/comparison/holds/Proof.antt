@@ -1,9 +1,6 @@
 -- `holds` meets its contract: each arm is the entry of its kind in the definition's list.
-use mathlib.Core.Path.{refl}
-use native.Mathlib.Omega.{arith}
-use Rattle.code.proofs.Passing.{between-true}
-use Rattle.eval.specs.Comparing.{comparison}
-use Rattle.eval.proofs.ComparisonLaws.{last-kind}
+use Rattle.eval.specs.Promises.{comparison}
+use Rattle.eval.proofs.OtherKinds.{no-ocmp}
 use Rattle.eval.proofs.comparison.holds.Statement.{statement}
 use Rattle.eval.proofs.comparison.holds.Tie as tie
 
@@ -29,9 +26,12 @@ returns-5 c = rw (c .match .keys5)
 
 returns-6 : tie.Need-returns-6
 unfolding comparison
-returns-6 c =
+returns-6 c = rw (c .match .keys6)
+
+returns-7 : tie.Need-returns-7
+returns-7 c =
     let r = c .match .rest in
-    rw (last-kind (c .before .args .kind) (c .before .pre) (r .0 .0 .0 .0 .1) (r .0 .0 .0 .1) (r .0 .0 .1) (r .0 .1) (r .1))
+    absurd (no-ocmp _ (c .before .pre) (r .0 .0 .0 .0 .0 .1) (r .0 .0 .0 .0 .1) (r .0 .0 .0 .1) (r .0 .0 .1) (r .0 .1) (r .1))
 
 pub holds-spec : {M : Type 1} → statement M
-holds-spec = tie.close (tie.spec returns returns-2 returns-3 returns-4 returns-5 returns-6)
+holds-spec = tie.close (tie.spec returns returns-2 returns-3 returns-4 returns-5 returns-6 returns-7)

@@ -7,8 +7,8 @@ use mathlib.Core.Path.{refl, sym, ap, _∙_}
 use mathlib.Core.Logic.{inl, inr, ⊎-elim}
 use native.Mathlib.Omega.{arith}
 use lib.ListN.{length}
-use Rattle.eval.specs.Lent.{environment, held}
-use Rattle.eval.proofs.CycleLaws.{code-frame, starts, has-length, block-inside, choice-inside, loop-inside, still-cells, how-done, ins-ran, Going, going-starts, next-there, next-past, codes-go, codes-stop, codes-done, codes-past, block-codes, block-ran, both-ways, if-unread, part-there, if-ran, Looping, loop-ran, loop-spent, loop-unread, loop-done, loop-ends, body-there, loop-goes, loop-stops}
+use Rattle.eval.specs.Promises.{environment, held}
+use Rattle.eval.proofs.CycleLaws.{code-frame, starts, has-length, block-inside, choice-inside, loop-inside, still-cells, how-done, ins-ran, Going, going-starts, next-there, next-past, codes-go, codes-stop, codes-done, codes-past, block-codes, block-ran, both-ways, if-unread, Chosen, chosen-there, chosen-ran, Looping, loop-ran, loop-spent, loop-unread, loop-done, Round, round-ends, round-there, round-goes, round-stops}
 use borrow.Author.Needs.{needs}
 use borrow.Fn.Kinds.{In}
 use borrow.Fn.PlainCycle.{Measures, is, falls, and}
@@ -26,7 +26,6 @@ use Rattle.eval.proofs.cycle.eval_while.Kinds as eval-while-kinds
 use Rattle.eval.proofs.cycle.+eval_code+eval_codes+eval_if_else+eval_while.Lts-eval_while as eval-while-lts
 use Rattle.code.proofs.number4.Reads as number4-reads
 use Rattle.eval.proofs.comparison.compare.Reads as compare-reads
-use Rattle.eval.proofs.step.unread.Reads as unread-reads
 use Rattle.eval.proofs.cycle.first_code.Reads as first-code-reads
 use Rattle.eval.proofs.instruction.instruction.Reads as instruction-reads
 use Rattle.eval.proofs.cycle.+eval_code+eval_codes+eval_if_else+eval_while.{statement}
@@ -98,8 +97,6 @@ abbrev eval-if-else-claims : ℕ → eval-if-else-lts.Claims
 eval-if-else-claims t = (
   compare-reads.Asked,
   compare-reads.Learnt,
-  unread-reads.Asked,
-  unread-reads.Learnt,
   number4-reads.Asked,
   number4-reads.Learnt,
   first-code-reads.Asked,
@@ -112,8 +109,6 @@ abbrev eval-while-claims : ℕ → eval-while-lts.Claims
 eval-while-claims t = (
   compare-reads.Asked,
   compare-reads.Learnt,
-  unread-reads.Asked,
-  unread-reads.Learnt,
   number4-reads.Asked,
   number4-reads.Learnt,
   first-code-reads.Asked,
@@ -151,7 +146,8 @@ eval-code-add-end t c =
 
 eval-code-eval-codes-requires : (t : ℕ) → eval-code-lts.Need-eval-codes-requires (eval-code-claims t) (eval-code-at t) eval-code.Post
 eval-code-eval-codes-requires t c κs =
-    let s = c .before .before .before .before .before .before .before .before .before .before .before in
+    let back8 = c .before .before .before .before .before .before .before .before in
+    let s = back8 .before .before .before in
     let size = c .before .before .before .before .number4 in
     let if1 = c .before .before .before .before .before .if1 in
     let end = ap (λ (n : ℕ). s .args .at + 5 + n) (size .ensures .0) in
@@ -160,39 +156,41 @@ eval-code-eval-codes-requires t c κs =
 
 eval-code-same-length : (t : ℕ) → eval-code-lts.Need-same-length (eval-code-claims t) (eval-code-at t) eval-code.Post
 eval-code-same-length t c =
-    let step = c .before .before .eval-codes in
-    step .kept .1 .1 .1 .1 .1 .1 .1 .1 .1 .1 .0
+    let ran = c .before .before .eval-codes in
+    ran .kept .1 .1 .1 .1 .1 .1 .1 .1 .1 .1 .0
 
 eval-code-returns : (t : ℕ) → eval-code-lts.Need-returns (eval-code-claims t) (eval-code-at t) eval-code.Post
 eval-code-returns t c =
     let back8 = c .before .before .before .before .before .before .before .before in
     let s = back8 .before .before .before .before .before .before in
     let size = c .before .before .before .before .before .before .before .number4 in
-    let if1 = back8 .if1 in
-    let step = c .before .before .eval-codes in
+    let if1 = c .before .before .before .before .before .before .before .before .if1 in
+    let ran = c .before .before .eval-codes in
     let end = ap (λ (n : ℕ). s .args .at + 5 + n) (size .ensures .0) in
-    block-ran _ _ _ _ _ _ (if1 .taken) end (step .result) _ (step .ensures)
+    block-ran _ _ _ _ _ _ (if1 .taken) end (ran .result) _ (ran .ensures)
 
 eval-code-eval-if-else-requires : (t : ℕ) → eval-code-lts.Need-eval-if-else-requires (eval-code-claims t) (eval-code-at t) eval-code.Post
 eval-code-eval-if-else-requires t c κs =
-    let s = c .before .before .before .before .before .before .before .before .before .before .before in
+    let back8 = c .before .before .before .before .before .before .before .before in
+    let s = back8 .before .before .before in
     let if2 = c .before .before .before .before .if2 in
     let w = has-length _ _ (s .pre .1 .0) (s .pre .1 .1 .0) in
     (omega (arith, s .pre .0, w), (s .pre .1 .0, (if2 .taken, s .pre .1 .1 .1)))
 
 eval-code-same-length-2 : (t : ℕ) → eval-code-lts.Need-same-length-2 (eval-code-claims t) (eval-code-at t) eval-code.Post
 eval-code-same-length-2 t c =
-    let step = c .before .before .eval-if-else in
-    step .kept .1 .1 .1 .1 .1 .1 .1 .1 .1 .0
+    let ran = c .before .before .eval-if-else in
+    ran .kept .1 .1 .1 .1 .1 .1 .1 .1 .1 .0
 
 eval-code-returns-2 : (t : ℕ) → eval-code-lts.Need-returns-2 (eval-code-claims t) (eval-code-at t) eval-code.Post
 eval-code-returns-2 t c =
-    let step = c .before .before .eval-if-else in
-    step .ensures
+    let ran = c .before .before .eval-if-else in
+    ran .ensures
 
 eval-code-eval-while-requires : (t : ℕ) → eval-code-lts.Need-eval-while-requires (eval-code-claims t) (eval-code-at t) eval-code.Post
 eval-code-eval-while-requires t c κs =
-    let s = c .before .before .before .before .before .before .before .before .before .before .before in
+    let back8 = c .before .before .before .before .before .before .before .before in
+    let s = back8 .before .before .before in
     let if1 = c .before .before .before .before .before .if1 in
     let if2 = c .before .before .before .before .if2 in
     let w = has-length _ _ (s .pre .1 .0) (s .pre .1 .1 .0) in
@@ -201,22 +199,23 @@ eval-code-eval-while-requires t c κs =
 
 eval-code-same-length-3 : (t : ℕ) → eval-code-lts.Need-same-length-3 (eval-code-claims t) (eval-code-at t) eval-code.Post
 eval-code-same-length-3 t c =
-    let step = c .before .before .eval-while in
-    step .kept .1 .1 .1 .1 .1 .1 .1 .1 .1 .0
+    let ran = c .before .before .eval-while in
+    ran .kept .1 .1 .1 .1 .1 .1 .1 .1 .1 .0
 
 eval-code-returns-3 : (t : ℕ) → eval-code-lts.Need-returns-3 (eval-code-claims t) (eval-code-at t) eval-code.Post
 eval-code-returns-3 t c =
-    let step = c .before .before .eval-while in
-    step .ensures
+    let ran = c .before .before .eval-while in
+    ran .ensures
 
 abbrev eval-codes-Inv-loop : eval-codes-lts.InvT-loop
-eval-codes-Inv-loop code from end fuel fill regs₀ xmms₀ flags₀ cells tags values₀ next₀ regs xmms flags values next =
-    Going (environment cells tags fill) code from end fuel (held regs₀ xmms₀ flags₀ values₀) next (held regs xmms flags values)
+eval-codes-Inv-loop code from end fuel fill regs₀ xmms₀ flags₀ addresses tags values₀ next₀ regs xmms flags values next =
+    Going (environment addresses tags fill) code from end fuel (held regs₀ xmms₀ flags₀ values₀) next (held regs xmms flags values)
 
 abbrev eval-codes-μ-loop : eval-codes-lts.MeasureT-loop
-eval-codes-μ-loop code from end fuel fill regs₀ xmms₀ flags₀ cells tags values₀ next₀ regs xmms flags values next = end - next
+eval-codes-μ-loop code from end fuel fill regs₀ xmms₀ flags₀ addresses tags values₀ next₀ regs xmms flags values next = end - next
 
-eval-codes-loop-holds : (t : ℕ) → eval-codes-lts.Need-loop-holds (eval-codes-claims t) (eval-codes-at t) eval-codes.Post eval-codes-Inv-loop eval-codes-μ-loop
+eval-codes-loop-holds :
+    (t : ℕ) → eval-codes-lts.Need-loop-holds (eval-codes-claims t) (eval-codes-at t) eval-codes.Post eval-codes-Inv-loop eval-codes-μ-loop
 eval-codes-loop-holds t c =
     let s = c .before .before .before .before in
     going-starts _ _ _ _ _ _ (s .pre .1 .0)
@@ -231,59 +230,69 @@ eval-codes-shared-slice-read-if1 t c =
 eval-codes-instruction-requires :
     (t : ℕ) → eval-codes-lts.Need-instruction-requires (eval-codes-claims t) (eval-codes-at t) eval-codes.Post eval-codes-Inv-loop eval-codes-μ-loop
 eval-codes-instruction-requires t c κs =
+    let back8 = c .before .before .before .before .before .before .before .before in
     let l = c .before .before .before .before .before .before .before .loop in
     let test = c .before .before .before .before .before .before .loop-test in
-    let s = c .before .before .before .before .before .before .before .before .before .before .before .before in
+    let s = back8 .before .before .before .before in
     let if1 = c .before .before .before .before .if1 in
     let w = next-there _ _ _ _ _ _ _ _ (l .inv) (test .taken) (s .pre .1 .0 .inside) in
     ((w .end, code-frame _ _ w .ins (if1 .taken), w .inside), still-cells _ _ _ _ (s .pre .1 .1) (l .inv .long))
 
-eval-codes-same-length : (t : ℕ) → eval-codes-lts.Need-same-length (eval-codes-claims t) (eval-codes-at t) eval-codes.Post eval-codes-Inv-loop eval-codes-μ-loop
+eval-codes-same-length :
+    (t : ℕ) → eval-codes-lts.Need-same-length (eval-codes-claims t) (eval-codes-at t) eval-codes.Post eval-codes-Inv-loop eval-codes-μ-loop
 eval-codes-same-length t c =
-    let step = c .before .before .before .before .instruction in
-    let l = c .before .before .before .before .before .before .before .before .before .before .before .before .loop in
-    step .kept .1 .1 .1 .1 .1 .1 .1 .1 .0 ∙ l .inv .long
+    let back8 = c .before .before .before .before .before .before .before .before in
+    let ran = c .before .before .before .before .instruction in
+    let l = back8 .before .before .before .before .loop in
+    ran .kept .1 .1 .1 .1 .1 .1 .1 .1 .0 ∙ l .inv .long
 
-eval-codes-returns : (t : ℕ) → eval-codes-lts.Need-returns (eval-codes-claims t) (eval-codes-at t) eval-codes.Post eval-codes-Inv-loop eval-codes-μ-loop
+eval-codes-returns :
+    (t : ℕ) → eval-codes-lts.Need-returns (eval-codes-claims t) (eval-codes-at t) eval-codes.Post eval-codes-Inv-loop eval-codes-μ-loop
 eval-codes-returns t c =
-    let if1 = c .before .before .before .before .before .before .before .before .before .if1 in
-    let step = c .before .before .before .before .instruction in
-    let l = c .before .before .before .before .before .before .before .before .before .before .before .before .loop in
-    let test = c .before .before .before .before .before .before .before .before .before .before .before .loop-test in
+    let back8 = c .before .before .before .before .before .before .before .before in
+    let if1 = back8 .before .if1 in
+    let ran = c .before .before .before .before .instruction in
+    let l = back8 .before .before .before .before .loop in
+    let test = back8 .before .before .before .loop-test in
     let if2 = c .if2 in
-    let ran = ins-ran _ _ _ _ _ _ _ (if1 .taken) (step .ensures) in
-    codes-stop _ _ _ _ _ _ _ _ (l .inv) (step .result) _ ran (test .taken) (if2 .taken)
+    let went = ins-ran _ _ _ _ _ _ _ (if1 .taken) (ran .ensures) in
+    codes-stop _ _ _ _ _ _ _ _ (l .inv) (ran .result) _ went (test .taken) (if2 .taken)
 
-eval-codes-loop-less : (t : ℕ) → eval-codes-lts.Need-loop-less (eval-codes-claims t) (eval-codes-at t) eval-codes.Post eval-codes-Inv-loop eval-codes-μ-loop
+eval-codes-loop-less :
+    (t : ℕ) → eval-codes-lts.Need-loop-less (eval-codes-claims t) (eval-codes-at t) eval-codes.Post eval-codes-Inv-loop eval-codes-μ-loop
 eval-codes-loop-less t c =
-    let l = c .before .before .before .before .before .before .before .before .before .before .before .before .loop in
-    let step = c .before .before .before .before .instruction in
-    let if1 = c .before .before .before .before .before .before .before .before .before .if1 in
-    let test = c .before .before .before .before .before .before .before .before .before .before .before .loop-test in
+    let back8 = c .before .before .before .before .before .before .before .before in
+    let l = back8 .before .before .before .before .loop in
+    let ran = c .before .before .before .before .instruction in
+    let if1 = back8 .before .if1 in
+    let test = back8 .before .before .before .loop-test in
     let if2 = c .if2 in
     let p =
-    next-past _ _ _ _ _ _ _ _ (l .inv) (step .result) _ (ins-ran _ _ _ _ _ _ _ (if1 .taken) (step .ensures))
+    next-past _ _ _ _ _ _ _ _ (l .inv) (ran .result) _ (ins-ran _ _ _ _ _ _ _ (if1 .taken) (ran .ensures))
     (test .taken) (if2 .left)
     in
     omega (arith, p .0, p .1)
 
-eval-codes-loop-again : (t : ℕ) → eval-codes-lts.Need-loop-again (eval-codes-claims t) (eval-codes-at t) eval-codes.Post eval-codes-Inv-loop eval-codes-μ-loop
+eval-codes-loop-again :
+    (t : ℕ) → eval-codes-lts.Need-loop-again (eval-codes-claims t) (eval-codes-at t) eval-codes.Post eval-codes-Inv-loop eval-codes-μ-loop
 eval-codes-loop-again t c =
-    let if1 = c .before .before .before .before .before .before .before .before .before .if1 in
-    let step = c .before .before .before .before .instruction in
-    let l = c .before .before .before .before .before .before .before .before .before .before .before .before .loop in
-    let test = c .before .before .before .before .before .before .before .before .before .before .before .loop-test in
+    let back8 = c .before .before .before .before .before .before .before .before in
+    let if1 = back8 .before .if1 in
+    let ran = c .before .before .before .before .instruction in
+    let l = back8 .before .before .before .before .loop in
+    let test = back8 .before .before .before .loop-test in
     let if2 = c .if2 in
-    let ran = ins-ran _ _ _ _ _ _ _ (if1 .taken) (step .ensures) in
-    codes-go _ _ _ _ _ _ _ _ (l .inv) (step .result) _ ran (test .taken) (if2 .left)
-    (step .kept .1 .1 .1 .1 .1 .1 .1 .1 .0)
+    let went = ins-ran _ _ _ _ _ _ _ (if1 .taken) (ran .ensures) in
+    codes-go _ _ _ _ _ _ _ _ (l .inv) (ran .result) _ went (test .taken) (if2 .left)
+    (ran .kept .1 .1 .1 .1 .1 .1 .1 .1 .0)
 
 eval-codes-eval-code-requires :
     (t : ℕ) → eval-codes-lts.Need-eval-code-requires (eval-codes-claims t) (eval-codes-at t) eval-codes.Post eval-codes-Inv-loop eval-codes-μ-loop
 eval-codes-eval-code-requires t c κs =
+    let back8 = c .before .before .before .before .before .before .before .before in
     let l = c .before .before .before .before .before .before .before .loop in
     let test = c .before .before .before .before .before .before .loop-test in
-    let s = c .before .before .before .before .before .before .before .before .before .before .before .before in
+    let s = back8 .before .before .before .before in
     let if1 = c .before .before .before .before .if1 in
     let w = next-there _ _ _ _ _ _ _ _ (l .inv) (test .taken) (s .pre .1 .0 .inside) in (
       omega (arith, s .pre .0, starts _ _ w, l .inv .past),
@@ -293,36 +302,42 @@ eval-codes-eval-code-requires t c κs =
 eval-codes-same-length-2 :
     (t : ℕ) → eval-codes-lts.Need-same-length-2 (eval-codes-claims t) (eval-codes-at t) eval-codes.Post eval-codes-Inv-loop eval-codes-μ-loop
 eval-codes-same-length-2 t c =
-    let step = c .before .before .before .before .eval-code in
-    let l = c .before .before .before .before .before .before .before .before .before .before .before .before .loop in
-    step .kept .1 .1 .1 .1 .1 .1 .1 .1 .1 .0 ∙ l .inv .long
+    let back8 = c .before .before .before .before .before .before .before .before in
+    let ran = c .before .before .before .before .eval-code in
+    let l = back8 .before .before .before .before .loop in
+    ran .kept .1 .1 .1 .1 .1 .1 .1 .1 .1 .0 ∙ l .inv .long
 
-eval-codes-returns-2 : (t : ℕ) → eval-codes-lts.Need-returns-2 (eval-codes-claims t) (eval-codes-at t) eval-codes.Post eval-codes-Inv-loop eval-codes-μ-loop
+eval-codes-returns-2 :
+    (t : ℕ) → eval-codes-lts.Need-returns-2 (eval-codes-claims t) (eval-codes-at t) eval-codes.Post eval-codes-Inv-loop eval-codes-μ-loop
 eval-codes-returns-2 t c =
-    let l = c .before .before .before .before .before .before .before .before .before .before .before .before .loop in
-    let step = c .before .before .before .before .eval-code in
-    let test = c .before .before .before .before .before .before .before .before .before .before .before .loop-test in
+    let back8 = c .before .before .before .before .before .before .before .before in
+    let l = back8 .before .before .before .before .loop in
+    let ran = c .before .before .before .before .eval-code in
+    let test = back8 .before .before .before .loop-test in
     let if3 = c .if3 in
-    codes-stop _ _ _ _ _ _ _ _ (l .inv) (step .result) _ (step .ensures) (test .taken) (if3 .taken)
+    codes-stop _ _ _ _ _ _ _ _ (l .inv) (ran .result) _ (ran .ensures) (test .taken) (if3 .taken)
 
-eval-codes-loop-less-2 : (t : ℕ) → eval-codes-lts.Need-loop-less-2 (eval-codes-claims t) (eval-codes-at t) eval-codes.Post eval-codes-Inv-loop eval-codes-μ-loop
+eval-codes-loop-less-2 :
+    (t : ℕ) → eval-codes-lts.Need-loop-less-2 (eval-codes-claims t) (eval-codes-at t) eval-codes.Post eval-codes-Inv-loop eval-codes-μ-loop
 eval-codes-loop-less-2 t c =
-    let l = c .before .before .before .before .before .before .before .before .before .before .before .before .loop in
-    let step = c .before .before .before .before .eval-code in
-    let test = c .before .before .before .before .before .before .before .before .before .before .before .loop-test in
+    let back8 = c .before .before .before .before .before .before .before .before in
+    let l = back8 .before .before .before .before .loop in
+    let ran = c .before .before .before .before .eval-code in
+    let test = back8 .before .before .before .loop-test in
     let if3 = c .if3 in
-    let p = next-past _ _ _ _ _ _ _ _ (l .inv) (step .result) _ (step .ensures) (test .taken) (if3 .left) in
+    let p = next-past _ _ _ _ _ _ _ _ (l .inv) (ran .result) _ (ran .ensures) (test .taken) (if3 .left) in
     omega (arith, p .0, p .1)
 
 eval-codes-loop-again-2 :
     (t : ℕ) → eval-codes-lts.Need-loop-again-2 (eval-codes-claims t) (eval-codes-at t) eval-codes.Post eval-codes-Inv-loop eval-codes-μ-loop
 eval-codes-loop-again-2 t c =
-    let l = c .before .before .before .before .before .before .before .before .before .before .before .before .loop in
-    let step = c .before .before .before .before .eval-code in
-    let test = c .before .before .before .before .before .before .before .before .before .before .before .loop-test in
+    let back8 = c .before .before .before .before .before .before .before .before in
+    let l = back8 .before .before .before .before .loop in
+    let ran = c .before .before .before .before .eval-code in
+    let test = back8 .before .before .before .loop-test in
     let if3 = c .if3 in
-    codes-go _ _ _ _ _ _ _ _ (l .inv) (step .result) _ (step .ensures) (test .taken) (if3 .left)
-    (step .kept .1 .1 .1 .1 .1 .1 .1 .1 .1 .0)
+    codes-go _ _ _ _ _ _ _ _ (l .inv) (ran .result) _ (ran .ensures) (test .taken) (if3 .left)
+    (ran .kept .1 .1 .1 .1 .1 .1 .1 .1 .1 .0)
 
 eval-codes-same-length-3 :
     (t : ℕ) → eval-codes-lts.Need-same-length-3 (eval-codes-claims t) (eval-codes-at t) eval-codes.Post eval-codes-Inv-loop eval-codes-μ-loop
@@ -330,7 +345,8 @@ eval-codes-same-length-3 t c =
     let l = c .before .loop in
     l .inv .long
 
-eval-codes-returns-3 : (t : ℕ) → eval-codes-lts.Need-returns-3 (eval-codes-claims t) (eval-codes-at t) eval-codes.Post eval-codes-Inv-loop eval-codes-μ-loop
+eval-codes-returns-3 :
+    (t : ℕ) → eval-codes-lts.Need-returns-3 (eval-codes-claims t) (eval-codes-at t) eval-codes.Post eval-codes-Inv-loop eval-codes-μ-loop
 eval-codes-returns-3 t c =
     let l = c .before .loop in
     let test = c .loop-test in
@@ -344,182 +360,171 @@ eval-if-else-add-test t c =
 
 eval-if-else-compare-requires : (t : ℕ) → eval-if-else-lts.Need-compare-requires (eval-if-else-claims t) (eval-if-else-at t) eval-if-else.Post
 eval-if-else-compare-requires t c κs =
-    let s = c .before .before .before .before .before .before in
+    let s = c .before .before .before .before .before .before .before in
     let w = choice-inside _ _ (s .pre .1 .0) (s .pre .1 .1 .0) in
     ((w .mid, w .stands, omega (arith, w .within)), s .pre .1 .1 .1)
-
-eval-if-else-unread-requires : (t : ℕ) → eval-if-else-lts.Need-unread-requires (eval-if-else-claims t) (eval-if-else-at t) eval-if-else.Post
-eval-if-else-unread-requires t c κs = search needs
 
 eval-if-else-same-length : (t : ℕ) → eval-if-else-lts.Need-same-length (eval-if-else-claims t) (eval-if-else-at t) eval-if-else.Post
 eval-if-else-same-length t c = refl
 
 eval-if-else-returns : (t : ℕ) → eval-if-else-lts.Need-returns (eval-if-else-claims t) (eval-if-else-at t) eval-if-else.Post
 eval-if-else-returns t c =
-    let x = c .before .before .before .compare in
-    let s = c .before .before .before .before .before .before .before .before .before .before in
-    let if1 = c .before .if1 in
-    let compared = x .ensures (s .args .fill) (s .args .flags .now) (s .args .xmms .now) in
-    rw (c .unread .ensures) (if-unread _ _ _ _ _ (s .pre .1 .1 .0) (x .result) compared (if1 .taken))
+    let back8 = c .before .before .before .before .before .before .before .before in
+    let x = c .before .before .compare in
+    let s = back8 .before .before in
+    let if1 = c .if1 in
+    if-unread _ _ _ _ _ (s .pre .1 .1 .0) (x .result) _ (x .ensures (s .args .xmms .now)) (if1 .taken)
 
 eval-if-else-add-number4 : (t : ℕ) → eval-if-else-lts.Need-add-number4 (eval-if-else-claims t) (eval-if-else-at t) eval-if-else.Post
 eval-if-else-add-number4 t c =
-    let s = c .before .before .before .before .before .before .before .before .before in
+    let back8 = c .before .before .before .before .before .before .before .before in
+    let s = back8 .before .before in
     let w = choice-inside _ _ (s .pre .1 .0) (s .pre .1 .1 .0) in
     omega arith
 
 eval-if-else-number4-requires : (t : ℕ) → eval-if-else-lts.Need-number4-requires (eval-if-else-claims t) (eval-if-else-at t) eval-if-else.Post
 eval-if-else-number4-requires t c κs =
-    let s = c .before .before .before .before .before .before .before .before .before in
+    let back8 = c .before .before .before .before .before .before .before .before in
+    let s = back8 .before .before in
     let w = choice-inside _ _ (s .pre .1 .0) (s .pre .1 .1 .0) in
     omega arith
 
 eval-if-else-add-second : (t : ℕ) → eval-if-else-lts.Need-add-second (eval-if-else-claims t) (eval-if-else-at t) eval-if-else.Post
 eval-if-else-add-second t c =
-    let s = c .before .before .before .before .before .before .before .before .before .before in
+    let back8 = c .before .before .before .before .before .before .before .before in
+    let s = back8 .before .before .before in
     let x = c .before .before .before .compare in
     let size = c .number4 in
     let w = choice-inside _ _ (s .pre .1 .0) (s .pre .1 .1 .0) in
-    let next = x .ensures (s .args .fill) (s .args .flags .now) (s .args .xmms .now) (w .mid) (w .stands) .next in
+    let next = x .ensures (s .args .xmms .now) (w .mid) (w .stands) .next in
     omega (arith, w .within, next, size .ensures .0)
 
 eval-if-else-add-number4-2 : (t : ℕ) → eval-if-else-lts.Need-add-number4-2 (eval-if-else-claims t) (eval-if-else-at t) eval-if-else.Post
 eval-if-else-add-number4-2 t c =
-    let s = c .before .before .before .before .before .before .before .before .before .before in
+    let back8 = c .before .before .before .before .before .before .before .before in
+    let s = back8 .before .before .before in
     let w = choice-inside _ _ (s .pre .1 .0) (s .pre .1 .1 .0) in
     omega arith
 
 eval-if-else-number4-requires-2 : (t : ℕ) → eval-if-else-lts.Need-number4-requires-2 (eval-if-else-claims t) (eval-if-else-at t) eval-if-else.Post
 eval-if-else-number4-requires-2 t c κs =
-    let s = c .before .before .before .before .before .before .before .before .before .before in
+    let back8 = c .before .before .before .before .before .before .before .before in
+    let s = back8 .before .before .before in
     let w = choice-inside _ _ (s .pre .1 .0) (s .pre .1 .1 .0) in
     omega arith
 
 eval-if-else-add-end : (t : ℕ) → eval-if-else-lts.Need-add-end (eval-if-else-claims t) (eval-if-else-at t) eval-if-else.Post
 eval-if-else-add-end t c =
-    let s = c .before .before .before .before .before .before .before .before .before .before .before in
+    let back8 = c .before .before .before .before .before .before .before .before in
+    let s = back8 .before .before .before .before in
     let x = c .before .before .before .before .compare in
     let size = c .before .number4 in
     let other = c .number42 in
     let w = choice-inside _ _ (s .pre .1 .0) (s .pre .1 .1 .0) in
-    let next = x .ensures (s .args .fill) (s .args .flags .now) (s .args .xmms .now) (w .mid) (w .stands) .next in
+    let next = x .ensures (s .args .xmms .now) (w .mid) (w .stands) .next in
     omega (arith, w .within, next, size .ensures .0, other .ensures .0)
+
+-- the part that the comparison chose
+eval-if-else-chosen :
+    (t : ℕ) (c : eval-if-else-lts.Joined3 (eval-if-else-claims t) (eval-if-else-at t) eval-if-else.Post) →
+    let back8 = c .before .before .before .before .before .before .before .before in
+    let back16 = back8 .before .before .before .before .before .before .before .before in
+    let s = back16 in
+    let x = c .before .before .before .before .before .before .before .before .compare in
+    let size = c .before .before .before .before .before .number4 in
+    let other = c .before .before .before .before .number42 in
+    let if2 = c .before .before .if2 in
+    Chosen (environment (s .args .addresses .now) (s .args .tags .now) (s .args .fill)) (s .args .code .now) (s .args .at)
+    (held (s .args .regs .now) (s .args .xmms .now) (s .args .flags .now) (s .args .values .now)) (x .result) (x .last .1 .1 .1 .1 .0)
+    (if2 .part) (c .if3 .behind) (x .result .next + size .result + other .result)
+eval-if-else-chosen t c =
+    let back8 = c .before .before .before .before .before .before .before .before in
+    let back16 = back8 .before .before .before .before .before .before .before .before in
+    let s = back16 in
+    let x = c .before .before .before .before .before .before .before .before .compare in
+    let size = c .before .before .before .before .before .number4 in
+    let other = c .before .before .before .before .number42 in
+    let if2 = c .before .before .if2 in
+    record {
+      kind = s .pre .1 .1 .0;
+      compared = x .ensures (s .args .xmms .now);
+      mid = x .result .next + size .result;
+      mid-is = ap (λ (n : ℕ). x .result .next + n) (size .ensures .0);
+      end-is = ap (λ (n : ℕ). x .result .next + size .result + n) (other .ensures .0);
+      way =
+          both-ways
+          (⊎-elim (λ h. inl (h .0 .taken, h .1)) (λ h. inr (h .0 .left, h .1)) (if2 .came))
+          (⊎-elim (λ h. inl (h .0 .taken, h .1)) (λ h. inr (h .0 .left, h .1)) (c .if3 .came));
+    }
 
 eval-if-else-first-code-requires : (t : ℕ) → eval-if-else-lts.Need-first-code-requires (eval-if-else-claims t) (eval-if-else-at t) eval-if-else.Post
 eval-if-else-first-code-requires t c κs =
     let back8 = c .before .before .before .before .before .before .before .before in
-    let x = back8 .compare in
-    let s = back8 .before .before .before .before .before .before .before in
-    let size = c .before .before .before .before .before .number4 in
-    let other = c .before .before .before .before .number42 in
-    let if2 = c .before .before .if2 in
-    let if3 = c .if3 in
-    let compared = x .ensures (s .args .fill) (s .args .flags .now) (s .args .xmms .now) in
-    let mid = ap (λ (n : ℕ). x .result .next + n) (size .ensures .0) in
-    let end = ap (λ (n : ℕ). x .result .next + size .result + n) (other .ensures .0) in
-    part-there _ _ _ (s .args .fuel) _ (s .pre .1 .1 .0) (x .result) compared _ _ (if2 .part) (if3 .behind) mid end
-    (both-ways
-    (⊎-elim (λ h. inl (h .0 .taken, h .1)) (λ h. inr (h .0 .left, h .1)) (if2 .came))
-    (⊎-elim (λ h. inl (h .0 .taken, h .1)) (λ h. inr (h .0 .left, h .1)) (if3 .came)))
-    (s .pre .1 .0)
-    .0
+    let back16 = back8 .before .before .before .before .before .before .before .before in
+    let s = back16 in
+    chosen-there _ _ _ (s .args .fuel) _ _ _ _ _ _ (eval-if-else-chosen t c) (s .pre .1 .0) .0
 
 eval-if-else-eval-codes-requires : (t : ℕ) → eval-if-else-lts.Need-eval-codes-requires (eval-if-else-claims t) (eval-if-else-at t) eval-if-else.Post
 eval-if-else-eval-codes-requires t c κs =
     let back8 = c .before .before .before .before .before .before .before .before in
     let back16 = back8 .before .before .before .before .before .before .before .before in
-    let x = back8 .before .before .before .before .before .compare in
-    let s = back16 .before .before .before .before in
-    let size = back8 .before .before .number4 in
-    let other = back8 .before .number42 in
+    let s = back16 .before .before .before .before .before in
+    let joined = c .before .before .before .before .before in
     let if2 = c .before .before .before .before .before .before .before .if2 in
-    let if3 = c .before .before .before .before .before .if3 in
     let first = c .before .before .before .before .first-code in
-    let compared = x .ensures (s .args .fill) (s .args .flags .now) (s .args .xmms .now) in
-    let mid = ap (λ (n : ℕ). x .result .next + n) (size .ensures .0) in
-    let end = ap (λ (n : ℕ). x .result .next + size .result + n) (other .ensures .0) in
-    let p =
-    part-there _ _ _ (s .args .fuel) _ (s .pre .1 .1 .0) (x .result) compared _ _ (if2 .part) (if3 .behind) mid end
-    (both-ways
-    (⊎-elim (λ h. inl (h .0 .taken, h .1)) (λ h. inr (h .0 .left, h .1)) (if2 .came))
-    (⊎-elim (λ h. inl (h .0 .taken, h .1)) (λ h. inr (h .0 .left, h .1)) (if3 .came)))
-    (s .pre .1 .0)
-    in (
+    let p = chosen-there _ _ _ (s .args .fuel) _ _ _ _ _ _ (eval-if-else-chosen t joined) (s .pre .1 .0) in (
       omega (arith, s .pre .0, starts _ _ (p .0), p .2, codes-past (s .args .code .now) (if2 .part), first .ensures),
       (rw (first .ensures) (p .1), s .pre .1 .1 .1),
     )
 
 eval-if-else-same-length-2 : (t : ℕ) → eval-if-else-lts.Need-same-length-2 (eval-if-else-claims t) (eval-if-else-at t) eval-if-else.Post
 eval-if-else-same-length-2 t c =
-    let step = c .before .before .before .before .eval-codes in
-    step .kept .1 .1 .1 .1 .1 .1 .1 .1 .1 .1 .0
+    let ran = c .before .before .before .before .eval-codes in
+    ran .kept .1 .1 .1 .1 .1 .1 .1 .1 .1 .1 .0
 
 eval-if-else-returns-2 : (t : ℕ) → eval-if-else-lts.Need-returns-2 (eval-if-else-claims t) (eval-if-else-at t) eval-if-else.Post
 eval-if-else-returns-2 t c =
     let back8 = c .before .before .before .before .before .before .before .before in
     let back16 = back8 .before .before .before .before .before .before .before .before in
-    let back24 = back16 .before .before .before .before .before .before .before .before in
-    let x = back16 .before .before .compare in
-    let s = back24 .before in
-    let size = back8 .before .before .before .before .before .before .before .number4 in
-    let other = back8 .before .before .before .before .before .before .number42 in
-    let if2 = back8 .before .before .before .before .if2 in
-    let if3 = back8 .before .before .if3 in
+    let joined = back8 .before .before in
     let if1 = back16 .if1 in
-    let step = c .before .before .before .before .eval-codes in
+    let ran = c .before .before .before .before .eval-codes in
     let first = back8 .before .first-code in
     let if4 = c .if4 in
-    let compared = x .ensures (s .args .fill) (s .args .flags .now) (s .args .xmms .now) in
-    let mid = ap (λ (n : ℕ). x .result .next + n) (size .ensures .0) in
-    let end = ap (λ (n : ℕ). x .result .next + size .result + n) (other .ensures .0) in
-    if-ran _ _ _ (s .args .fuel) _ (s .pre .1 .1 .0) (x .result) compared _ _ (if2 .part) (if3 .behind) mid end
-    (both-ways
-    (⊎-elim (λ h. inl (h .0 .taken, h .1)) (λ h. inr (h .0 .left, h .1)) (if2 .came))
-    (⊎-elim (λ h. inl (h .0 .taken, h .1)) (λ h. inr (h .0 .left, h .1)) (if3 .came)))
-    (if1 .left) (step .result) _ (rw (first .ensures) at (step .ensures)) (step .result) refl (λ z. absurd (if4 .taken z))
+    chosen-ran _ _ _ _ _ _ _ _ _ _ (eval-if-else-chosen t joined) (if1 .left) (ran .result) _ (rw (first .ensures) at (ran .ensures))
+    (ran .result) refl (λ z. absurd (if4 .taken z))
 
 eval-if-else-same-length-3 : (t : ℕ) → eval-if-else-lts.Need-same-length-3 (eval-if-else-claims t) (eval-if-else-at t) eval-if-else.Post
 eval-if-else-same-length-3 t c =
-    let step = c .before .before .before .before .eval-codes in
-    step .kept .1 .1 .1 .1 .1 .1 .1 .1 .1 .1 .0
+    let ran = c .before .before .before .before .eval-codes in
+    ran .kept .1 .1 .1 .1 .1 .1 .1 .1 .1 .1 .0
 
 eval-if-else-returns-3 : (t : ℕ) → eval-if-else-lts.Need-returns-3 (eval-if-else-claims t) (eval-if-else-at t) eval-if-else.Post
 eval-if-else-returns-3 t c =
     let back8 = c .before .before .before .before .before .before .before .before in
     let back16 = back8 .before .before .before .before .before .before .before .before in
-    let back24 = back16 .before .before .before .before .before .before .before .before in
-    let x = back16 .before .before .compare in
-    let s = back24 .before in
-    let size = back8 .before .before .before .before .before .before .before .number4 in
-    let other = back8 .before .before .before .before .before .before .number42 in
-    let if2 = back8 .before .before .before .before .if2 in
-    let if3 = back8 .before .before .if3 in
+    let joined = back8 .before .before in
     let if1 = back16 .if1 in
-    let step = c .before .before .before .before .eval-codes in
+    let ran = c .before .before .before .before .eval-codes in
     let first = back8 .before .first-code in
     let if4 = c .if4 in
-    let compared = x .ensures (s .args .fill) (s .args .flags .now) (s .args .xmms .now) in
-    let mid = ap (λ (n : ℕ). x .result .next + n) (size .ensures .0) in
-    let end = ap (λ (n : ℕ). x .result .next + size .result + n) (other .ensures .0) in
-    if-ran _ _ _ (s .args .fuel) _ (s .pre .1 .1 .0) (x .result) compared _ _ (if2 .part) (if3 .behind) mid end
-    (both-ways
-    (⊎-elim (λ h. inl (h .0 .taken, h .1)) (λ h. inr (h .0 .left, h .1)) (if2 .came))
-    (⊎-elim (λ h. inl (h .0 .taken, h .1)) (λ h. inr (h .0 .left, h .1)) (if3 .came)))
-    (if1 .left) (step .result) _ (rw (first .ensures) at (step .ensures)) _ (sym (how-done (step .result) (if4 .left))) (λ _. refl)
+    chosen-ran _ _ _ _ _ _ _ _ _ _ (eval-if-else-chosen t joined) (if1 .left) (ran .result) _ (rw (first .ensures) at (ran .ensures))
+    _ (sym (how-done (ran .result) (if4 .left))) (λ _. refl)
 
 abbrev eval-while-Inv-loop : eval-while-lts.InvT-loop
-eval-while-Inv-loop code at fuel fill regs₀ xmms₀ flags₀ cells tags values₀ left₀ regs xmms flags values left =
-    Looping (environment cells tags fill) code at fuel (held regs₀ xmms₀ flags₀ values₀) left (held regs xmms flags values)
+eval-while-Inv-loop code at fuel fill regs₀ xmms₀ flags₀ addresses tags values₀ left₀ regs xmms flags values left =
+    Looping (environment addresses tags fill) code at fuel (held regs₀ xmms₀ flags₀ values₀) left (held regs xmms flags values)
 
 abbrev eval-while-μ-loop : eval-while-lts.MeasureT-loop
-eval-while-μ-loop code at fuel fill regs₀ xmms₀ flags₀ cells tags values₀ left₀ regs xmms flags values left = left
+eval-while-μ-loop code at fuel fill regs₀ xmms₀ flags₀ addresses tags values₀ left₀ regs xmms flags values left = left
 
-eval-while-loop-holds : (t : ℕ) → eval-while-lts.Need-loop-holds (eval-while-claims t) (eval-while-at t) eval-while.Post eval-while-Inv-loop eval-while-μ-loop
+eval-while-loop-holds :
+    (t : ℕ) → eval-while-lts.Need-loop-holds (eval-while-claims t) (eval-while-at t) eval-while.Post eval-while-Inv-loop eval-while-μ-loop
 eval-while-loop-holds t c = record { same = λ _ _ _. refl; long = refl; less = omega arith }
 
-eval-while-add-condition :
-    (t : ℕ) → eval-while-lts.Need-add-condition (eval-while-claims t) (eval-while-at t) eval-while.Post eval-while-Inv-loop eval-while-μ-loop
-eval-while-add-condition t c =
+eval-while-add-test :
+    (t : ℕ) → eval-while-lts.Need-add-test (eval-while-claims t) (eval-while-at t) eval-while.Post eval-while-Inv-loop eval-while-μ-loop
+eval-while-add-test t c =
     let s = c .before .before .before .before .before .before in
     let w = loop-inside _ _ (s .pre .1 .0) (s .pre .1 .1 .0) in
     omega arith
@@ -527,109 +532,128 @@ eval-while-add-condition t c =
 eval-while-compare-requires :
     (t : ℕ) → eval-while-lts.Need-compare-requires (eval-while-claims t) (eval-while-at t) eval-while.Post eval-while-Inv-loop eval-while-μ-loop
 eval-while-compare-requires t c κs =
-    let s = c .before .before .before .before .before .before .before .before in
-    let l = c .before .before .before .loop in
+    let back8 = c .before .before .before .before .before .before .before .before in
+    let s = back8 .before in
+    let l = c .before .before .before .before .loop in
     let w = loop-inside _ _ (s .pre .1 .0) (s .pre .1 .1 .0) in
     ((w .mid, w .stands, omega (arith, w .within)), still-cells _ _ _ _ (s .pre .1 .1 .1) (l .inv .long))
 
-eval-while-unread-requires :
-    (t : ℕ) → eval-while-lts.Need-unread-requires (eval-while-claims t) (eval-while-at t) eval-while.Post eval-while-Inv-loop eval-while-μ-loop
-eval-while-unread-requires t c κs = search needs
-
-eval-while-same-length : (t : ℕ) → eval-while-lts.Need-same-length (eval-while-claims t) (eval-while-at t) eval-while.Post eval-while-Inv-loop eval-while-μ-loop
+eval-while-same-length :
+    (t : ℕ) → eval-while-lts.Need-same-length (eval-while-claims t) (eval-while-at t) eval-while.Post eval-while-Inv-loop eval-while-μ-loop
 eval-while-same-length t c =
     let l = c .before .before .before .before .before .before .before .loop in
     l .inv .long
 
-eval-while-returns : (t : ℕ) → eval-while-lts.Need-returns (eval-while-claims t) (eval-while-at t) eval-while.Post eval-while-Inv-loop eval-while-μ-loop
+eval-while-returns :
+    (t : ℕ) → eval-while-lts.Need-returns (eval-while-claims t) (eval-while-at t) eval-while.Post eval-while-Inv-loop eval-while-μ-loop
 eval-while-returns t c =
-    let x = c .before .before .before .compare in
-    let s = c .before .before .before .before .before .before .before .before .before .before .before .before in
+    let back8 = c .before .before .before .before .before .before .before .before in
+    let x = c .before .before .compare in
+    let s = back8 .before .before .before .before in
     let l = c .before .before .before .before .before .before .before .loop in
     let test = c .before .before .before .before .before .before .loop-test in
-    let if1 = c .before .if1 in
-    let compared = x .ensures (s .args .fill) (l .flags) (l .xmms) in
-    rw (c .unread .ensures)
-    (loop-ran _ _ _ _ _ _ _ (l .inv) _ _
-    (loop-unread _ _ _ (l .left) _ (s .pre .1 .1 .0) (test .taken) (x .result) compared (if1 .taken))
-    (λ _ _ _ z. absurd (omega arith)))
+    let if1 = c .if1 in
+    loop-ran _ _ _ _ _ _ _ (l .inv) _ _
+    (loop-unread _ _ _ (l .left) _ (s .pre .1 .1 .0) (test .taken) (x .result) _ (x .ensures (l .xmms)) (if1 .taken))
+    (λ _ _ _ z. absurd (omega (arith, z, if1 .taken)))
 
-eval-while-add-number4 : (t : ℕ) → eval-while-lts.Need-add-number4 (eval-while-claims t) (eval-while-at t) eval-while.Post eval-while-Inv-loop eval-while-μ-loop
+eval-while-add-number4 :
+    (t : ℕ) → eval-while-lts.Need-add-number4 (eval-while-claims t) (eval-while-at t) eval-while.Post eval-while-Inv-loop eval-while-μ-loop
 eval-while-add-number4 t c =
-    let s = c .before .before .before .before .before .before .before .before .before .before .before in
+    let back8 = c .before .before .before .before .before .before .before .before in
+    let s = back8 .before .before .before .before in
     let w = loop-inside _ _ (s .pre .1 .0) (s .pre .1 .1 .0) in
     omega arith
 
 eval-while-number4-requires :
     (t : ℕ) → eval-while-lts.Need-number4-requires (eval-while-claims t) (eval-while-at t) eval-while.Post eval-while-Inv-loop eval-while-μ-loop
 eval-while-number4-requires t c κs =
-    let s = c .before .before .before .before .before .before .before .before .before .before .before in
+    let back8 = c .before .before .before .before .before .before .before .before in
+    let s = back8 .before .before .before .before in
     let w = loop-inside _ _ (s .pre .1 .0) (s .pre .1 .1 .0) in
     omega arith
 
-eval-while-add-end : (t : ℕ) → eval-while-lts.Need-add-end (eval-while-claims t) (eval-while-at t) eval-while.Post eval-while-Inv-loop eval-while-μ-loop
+eval-while-add-end :
+    (t : ℕ) → eval-while-lts.Need-add-end (eval-while-claims t) (eval-while-at t) eval-while.Post eval-while-Inv-loop eval-while-μ-loop
 eval-while-add-end t c =
-    let s = c .before .before .before .before .before .before .before .before .before .before .before .before in
+    let back8 = c .before .before .before .before .before .before .before .before in
+    let s = back8 .before .before .before .before .before in
     let x = c .before .before .before .compare in
-    let l = c .before .before .before .before .before .before .before .loop in
+    let l = c .before .before .before .before .before .before .before .before .loop in
     let size = c .number4 in
     let w = loop-inside _ _ (s .pre .1 .0) (s .pre .1 .1 .0) in
-    let next = x .ensures (s .args .fill) (l .flags) (l .xmms) (w .mid) (w .stands) .next in
+    let next = x .ensures (l .xmms) (w .mid) (w .stands) .next in
     omega (arith, w .within, next, size .ensures .0)
 
 eval-while-same-length-2 :
     (t : ℕ) → eval-while-lts.Need-same-length-2 (eval-while-claims t) (eval-while-at t) eval-while.Post eval-while-Inv-loop eval-while-μ-loop
 eval-while-same-length-2 t c =
-    let l = c .before .before .before .before .before .before .before .before .before .loop in
+    let back8 = c .before .before .before .before .before .before .before .before in
+    let l = back8 .before .before .loop in
     l .inv .long
 
-eval-while-returns-2 : (t : ℕ) → eval-while-lts.Need-returns-2 (eval-while-claims t) (eval-while-at t) eval-while.Post eval-while-Inv-loop eval-while-μ-loop
+-- the round that the comparison began
+eval-while-round :
+    (t : ℕ) (c : eval-while-lts.After-number4 (eval-while-claims t) (eval-while-at t) eval-while.Post eval-while-Inv-loop eval-while-μ-loop) →
+    let back8 = c .before .before .before .before .before .before .before .before in
+    let s = back8 .before .before .before .before .before in
+    let x = c .before .before .before .compare in
+    let l = c .before .before .before .before .before .before .before .before .loop in
+    Round (environment (s .args .addresses .now) (s .args .tags .now) (s .args .fill)) (s .args .code .now) (s .args .at) (l .left)
+    (held (l .regs) (l .xmms) (l .flags) (l .values)) (x .result) (x .last .1 .1 .1 .1 .0) (x .result .next + c .number4 .result)
+eval-while-round t c =
+    let back8 = c .before .before .before .before .before .before .before .before in
+    let s = back8 .before .before .before .before .before in
+    let x = c .before .before .before .compare in
+    let l = c .before .before .before .before .before .before .before .before .loop in
+    let test = c .before .before .before .before .before .before .before .loop-test in
+    record {
+      kind = s .pre .1 .1 .0;
+      some-fuel = test .taken;
+      compared = x .ensures (l .xmms);
+      end-is = ap (λ (n : ℕ). x .result .next + n) (c .number4 .ensures .0);
+    }
+
+eval-while-returns-2 :
+    (t : ℕ) → eval-while-lts.Need-returns-2 (eval-while-claims t) (eval-while-at t) eval-while.Post eval-while-Inv-loop eval-while-μ-loop
 eval-while-returns-2 t c =
     let back8 = c .before .before .before .before .before .before .before .before in
     let x = c .before .before .before .before .before .compare in
-    let s = back8 .before .before .before .before .before .before in
-    let l = back8 .before .loop in
-    let size = c .before .before .number4 in
-    let test = back8 .loop-test in
+    let s = back8 .before .before .before .before .before .before .before in
+    let l = back8 .before .before .loop in
+    let test = back8 .before .loop-test in
     let if2 = c .if2 in
-    let compared = x .ensures (s .args .fill) (l .flags) (l .xmms) in
-    let end = ap (λ (n : ℕ). x .result .next + n) (size .ensures .0) in
+    let round = c .before .before in
     loop-ran _ _ _ _ _ _ _ (l .inv) _ _
-    (loop-done _ _ _ (l .left) _ (s .pre .1 .1 .0) (test .taken) (x .result) compared (if2 .taken))
-    (λ d e h _. loop-ends _ _ _ (l .left) _ (s .pre .1 .1 .0) (test .taken) (x .result) compared _ end d e h)
+    (loop-done _ _ _ (l .left) _ (s .pre .1 .1 .0) (test .taken) (x .result) _ (x .ensures (l .xmms)) (if2 .taken))
+    (λ d e h _. round-ends _ _ _ _ _ _ _ _ (eval-while-round t round) d e h)
 
-eval-while-sub-left : (t : ℕ) → eval-while-lts.Need-sub-left (eval-while-claims t) (eval-while-at t) eval-while.Post eval-while-Inv-loop eval-while-μ-loop
+eval-while-sub-left :
+    (t : ℕ) → eval-while-lts.Need-sub-left (eval-while-claims t) (eval-while-at t) eval-while.Post eval-while-Inv-loop eval-while-μ-loop
 eval-while-sub-left t c =
-    let test = c .before .before .before .before .before .before .before .before .loop-test in
+    let back8 = c .before .before .before .before .before .before .before .before in
+    let test = back8 .before .loop-test in
     omega (arith, test .taken)
 
 eval-while-first-code-requires :
     (t : ℕ) → eval-while-lts.Need-first-code-requires (eval-while-claims t) (eval-while-at t) eval-while.Post eval-while-Inv-loop eval-while-μ-loop
 eval-while-first-code-requires t c κs =
     let back8 = c .before .before .before .before .before .before .before .before in
-    let x = c .before .before .before .before .before .compare in
-    let s = back8 .before .before .before .before .before .before in
-    let l = back8 .before .loop in
-    let size = c .before .before .number4 in
-    let test = back8 .loop-test in
-    let compared = x .ensures (s .args .fill) (l .flags) (l .xmms) in
-    let end = ap (λ (n : ℕ). x .result .next + n) (size .ensures .0) in
-    body-there _ _ _ (l .left) _ (s .pre .1 .1 .0) (test .taken) (x .result) compared _ end (s .pre .1 .0) .0
+    let s = back8 .before .before .before .before .before .before .before in
+    let round = c .before .before in
+    round-there _ _ _ _ _ _ _ _ (eval-while-round t round) (s .pre .1 .0) .0
 
 eval-while-eval-codes-requires :
     (t : ℕ) → eval-while-lts.Need-eval-codes-requires (eval-while-claims t) (eval-while-at t) eval-while.Post eval-while-Inv-loop eval-while-μ-loop
 eval-while-eval-codes-requires t c κs =
     let back8 = c .before .before .before .before .before .before .before .before in
     let back16 = back8 .before .before .before .before .before .before .before .before in
+    let s = back16 .before .before .before .before in
     let x = back8 .before .before .compare in
-    let s = back16 .before .before .before in
-    let l = back8 .before .before .before .before .before .before .loop in
-    let size = c .before .before .before .before .before .before .before .number4 in
-    let test = back8 .before .before .before .before .before .loop-test in
+    let l = back8 .before .before .before .before .before .before .before .loop in
+    let round = c .before .before .before .before .before .before .before in
     let first = c .before .before .before .before .first-code in
-    let compared = x .ensures (s .args .fill) (l .flags) (l .xmms) in
-    let end = ap (λ (n : ℕ). x .result .next + n) (size .ensures .0) in
-    let p = body-there _ _ _ (l .left) _ (s .pre .1 .1 .0) (test .taken) (x .result) compared _ end (s .pre .1 .0) in
+    let p = round-there _ _ _ _ _ _ _ _ (eval-while-round t round) (s .pre .1 .0) in
     let later = codes-past (s .args .code .now) (x .result .next) in (
       omega (arith, s .pre .0, starts _ _ (p .0), p .2, later, first .ensures, l .inv .less),
       (rw (first .ensures) (p .1), still-cells _ _ _ _ (s .pre .1 .1 .1) (l .inv .long)),
@@ -640,62 +664,53 @@ eval-while-same-length-3 :
 eval-while-same-length-3 t c =
     let back8 = c .before .before .before .before .before .before .before .before in
     let back16 = back8 .before .before .before .before .before .before .before .before in
-    let step = c .before .before .before .before .eval-codes in
-    let l = back16 .before .before .before .loop in
-    step .kept .1 .1 .1 .1 .1 .1 .1 .1 .1 .1 .0 ∙ l .inv .long
+    let ran = c .before .before .before .before .eval-codes in
+    let l = back16 .before .before .before .before .loop in
+    ran .kept .1 .1 .1 .1 .1 .1 .1 .1 .1 .1 .0 ∙ l .inv .long
 
-eval-while-returns-3 : (t : ℕ) → eval-while-lts.Need-returns-3 (eval-while-claims t) (eval-while-at t) eval-while.Post eval-while-Inv-loop eval-while-μ-loop
+eval-while-returns-3 :
+    (t : ℕ) → eval-while-lts.Need-returns-3 (eval-while-claims t) (eval-while-at t) eval-while.Post eval-while-Inv-loop eval-while-μ-loop
 eval-while-returns-3 t c =
     let back8 = c .before .before .before .before .before .before .before .before in
     let back16 = back8 .before .before .before .before .before .before .before .before in
-    let back24 = back16 .before .before .before .before .before .before .before .before in
-    let x = back8 .before .before .before .before .before .before .before .compare in
-    let s = back24 in
-    let l = back16 .before .before .before .loop in
-    let size = back8 .before .before .before .before .number4 in
-    let step = c .before .before .before .before .eval-codes in
-    let test = back16 .before .before .loop-test in
+    let l = back16 .before .before .before .before .loop in
+    let round = back8 .before .before .before .before in
     let if1 = back8 .before .before .before .before .before .if1 in
     let if2 = back8 .before .before .if2 in
+    let ran = c .before .before .before .before .eval-codes in
     let first = back8 .before .first-code in
     let if3 = c .if3 in
-    let compared = x .ensures (s .args .fill) (l .flags) (l .xmms) in
-    let end = ap (λ (n : ℕ). x .result .next + n) (size .ensures .0) in
-    loop-ran _ _ _ _ _ _ _ (l .inv) (step .result) _
-    (loop-stops _ _ _ (l .left) _ (s .pre .1 .1 .0) (test .taken) (x .result) compared _ end (if1 .left) (if2 .left)
-    (step .result) _ (rw (first .ensures) at (step .ensures)) (if3 .taken))
+    loop-ran _ _ _ _ _ _ _ (l .inv) (ran .result) _
+    (round-stops _ _ _ _ _ _ _ _ (eval-while-round t round) (if1 .left) (if2 .left) (ran .result) _
+    (rw (first .ensures) at (ran .ensures)) (if3 .taken))
     (λ _ _ _ z. absurd (if3 .taken z))
 
-eval-while-loop-less : (t : ℕ) → eval-while-lts.Need-loop-less (eval-while-claims t) (eval-while-at t) eval-while.Post eval-while-Inv-loop eval-while-μ-loop
+eval-while-loop-less :
+    (t : ℕ) → eval-while-lts.Need-loop-less (eval-while-claims t) (eval-while-at t) eval-while.Post eval-while-Inv-loop eval-while-μ-loop
 eval-while-loop-less t c =
     let back8 = c .before .before .before .before .before .before .before .before in
     let back16 = back8 .before .before .before .before .before .before .before .before in
-    let test = back16 .before .before .loop-test in
+    let test = back16 .before .before .before .loop-test in
     omega (arith, test .taken)
 
-eval-while-loop-again : (t : ℕ) → eval-while-lts.Need-loop-again (eval-while-claims t) (eval-while-at t) eval-while.Post eval-while-Inv-loop eval-while-μ-loop
+eval-while-loop-again :
+    (t : ℕ) → eval-while-lts.Need-loop-again (eval-while-claims t) (eval-while-at t) eval-while.Post eval-while-Inv-loop eval-while-μ-loop
 eval-while-loop-again t c =
     let back8 = c .before .before .before .before .before .before .before .before in
     let back16 = back8 .before .before .before .before .before .before .before .before in
-    let back24 = back16 .before .before .before .before .before .before .before .before in
-    let x = back8 .before .before .before .before .before .before .before .compare in
-    let s = back24 in
-    let l = back16 .before .before .before .loop in
-    let size = back8 .before .before .before .before .number4 in
-    let test = back16 .before .before .loop-test in
+    let l = back16 .before .before .before .before .loop in
+    let round = back8 .before .before .before .before in
     let if1 = back8 .before .before .before .before .before .if1 in
     let if2 = back8 .before .before .if2 in
-    let step = c .before .before .before .before .eval-codes in
+    let ran = c .before .before .before .before .eval-codes in
     let first = back8 .before .first-code in
     let if3 = c .if3 in
-    let compared = x .ensures (s .args .fill) (l .flags) (l .xmms) in
-    let end = ap (λ (n : ℕ). x .result .next + n) (size .ensures .0) in
     record {
       same = λ d e h.
           l .inv .same d e h
-          ∙ loop-goes _ _ _ (l .left) _ (s .pre .1 .1 .0) (test .taken) (x .result) compared _ end (if1 .left) (if2 .left)
-          (step .result) _ (rw (first .ensures) at (step .ensures)) (if3 .left) d e h;
-      long = step .kept .1 .1 .1 .1 .1 .1 .1 .1 .1 .1 .0 ∙ l .inv .long;
+          ∙ round-goes _ _ _ _ _ _ _ _ (eval-while-round t round) (if1 .left) (if2 .left) (ran .result) _
+          (rw (first .ensures) at (ran .ensures)) (if3 .left) d e h;
+      long = ran .kept .1 .1 .1 .1 .1 .1 .1 .1 .1 .1 .0 ∙ l .inv .long;
       less = omega (arith, l .inv .less);
     }
 
@@ -705,7 +720,8 @@ eval-while-same-length-4 t c =
     let l = c .before .loop in
     l .inv .long
 
-eval-while-returns-4 : (t : ℕ) → eval-while-lts.Need-returns-4 (eval-while-claims t) (eval-while-at t) eval-while.Post eval-while-Inv-loop eval-while-μ-loop
+eval-while-returns-4 :
+    (t : ℕ) → eval-while-lts.Need-returns-4 (eval-while-claims t) (eval-while-at t) eval-while.Post eval-while-Inv-loop eval-while-μ-loop
 eval-while-returns-4 t c =
     let l = c .before .loop in
     let s = c .before .before .before .before .before .before in
@@ -767,8 +783,6 @@ pub +eval-code+eval-codes+eval-if-else+eval-while-spec : {M : Type 1} → statem
     (λ t. eval-if-else-lts.spec (
       compare-reads.Asked,
       compare-reads.Learnt,
-      unread-reads.Asked,
-      unread-reads.Learnt,
       number4-reads.Asked,
       number4-reads.Learnt,
       first-code-reads.Asked,
@@ -780,7 +794,6 @@ pub +eval-code+eval-codes+eval-if-else+eval-while-spec : {M : Type 1} → statem
     eval-if-else.Post
     (eval-if-else-add-test t)
     (eval-if-else-compare-requires t)
-    (eval-if-else-unread-requires t)
     (eval-if-else-same-length t)
     (eval-if-else-returns t)
     (eval-if-else-add-number4 t)
@@ -798,8 +811,6 @@ pub +eval-code+eval-codes+eval-if-else+eval-while-spec : {M : Type 1} → statem
     λ t. eval-while-lts.spec (
       compare-reads.Asked,
       compare-reads.Learnt,
-      unread-reads.Asked,
-      unread-reads.Learnt,
       number4-reads.Asked,
       number4-reads.Learnt,
       first-code-reads.Asked,
@@ -812,9 +823,8 @@ pub +eval-code+eval-codes+eval-if-else+eval-while-spec : {M : Type 1} → statem
     eval-while-Inv-loop
     eval-while-μ-loop
     (eval-while-loop-holds t)
-    (eval-while-add-condition t)
+    (eval-while-add-test t)
     (eval-while-compare-requires t)
-    (eval-while-unread-requires t)
     (eval-while-same-length t)
     (eval-while-returns t)
     (eval-while-add-number4 t)

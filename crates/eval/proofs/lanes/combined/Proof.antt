@@ -1,14 +1,9 @@
 -- Each arm is the operation of its kind.
-use borrow.Author.Tests.{ne-eqb}
-use Rattle.eval.specs.Families.{quads-word}
 use borrow.Author.Needs.{needs}
+use Rattle.eval.specs.Instructions.{quads-word}
+use Rattle.eval.proofs.OtherKinds.{no-quads}
 use Rattle.eval.proofs.lanes.combined.Statement.{statement}
 use Rattle.eval.proofs.lanes.combined.Tie as tie
-use Rattle.eval.proofs.lanes.combined.Reads as reads
-use Rattle.eval.proofs.lanes.combined.Lts as lts
-use Rattle.words.proofs.add_lanes.Reads as add-lanes-reads
-use Rattle.words.proofs.equal_lanes.Reads as equal-lanes-reads
-use Rattle.words.proofs.quad32_xor.Reads as quad32-xor-reads
 
 add-lanes-requires : tie.Need-add-lanes-requires
 add-lanes-requires c κs = search needs
@@ -29,7 +24,10 @@ returns-2 c = rw (c .before .match .keys2) (c .quad32-xor .ensures)
 
 returns-3 : tie.Need-returns-3
 unfolding quads-word
-returns-3 c = rw (ne-eqb (c .before .before .args .kind) 0x0f (c .before .match .rest .0 .1), ne-eqb (c .before .before .args .kind) 0x10 (c .before .match .rest .1)) (c .equal-lanes .ensures)
+returns-3 c = rw (c .before .match .keys3) (c .equal-lanes .ensures)
+
+returns-4 : tie.Need-returns-4
+returns-4 c = let r = c .match .rest in absurd (no-quads _ (c .before .pre) (r .0 .0 .1) (r .0 .1) (r .1))
 
 pub combined-spec : {M : Type 1} → statement M
 combined-spec =
@@ -40,4 +38,5 @@ combined-spec =
     equal-lanes-requires
     returns
     returns-2
-    returns-3)
+    returns-3
+    returns-4)

@@ -1,28 +1,27 @@
 -- A source that cannot be read is the fault 31; else its word goes into the quad. Assumes nothing.
 use native.Mathlib.Omega.{arith}
 use borrow.Author.Needs.{needs}
-use borrow.Author.Tests.{not-true, not-false}
 use Rattle.code.proofs.Frames.{operand-frame}
 use Rattle.eval.proofs.LaneLaws.{inserts-unread, inserts-done}
 use Rattle.eval.proofs.lanes.insert.Statement.{statement}
 use Rattle.eval.proofs.lanes.insert.Tie as tie
 
-add-source : tie.Need-add-source
-add-source c =
+add-load : tie.Need-add-load
+add-load c =
     let s = c .before .before .before .before in
     omega (arith, operand-frame _ _ (s .pre .0 .0) .starts)
 
-source-requires : tie.Need-source-requires
-source-requires c κs = search needs
+load-requires : tie.Need-load-requires
+load-requires c κs = search needs
 
 returns : tie.Need-returns
 returns c =
-    let src = c .before .before .source in
+    let src = c .before .before .load in
     let s = c .before .before .before .before .before .before .before in
     let if1 = c .if1 in
     λ fill flags.
     let R = src .ensures fill flags (s .args .xmms .now) in
-    record { ends = inserts-unread _ _ _ _ _ _ _ _ _ _ _ _ _ R (not-true _ (if1 .taken)) _; next = λ h. absurd (omega arith) }
+    inserts-unread _ _ _ _ _ _ _ _ _ (s .pre .1 .1 .1) _ _ _ _ _ R (if1 .taken)
 
 add-dst : tie.Need-add-dst
 add-dst c =
@@ -61,7 +60,7 @@ set-xmm-requires c κs = search needs
 returns-2 : tie.Need-returns-2
 returns-2 c =
     let back8 = c .before .before .before .before .before .before .before .before in
-    let src = back8 .before .before .source in
+    let src = back8 .before .before .load in
     let s = back8 .before .before .before .before .before .before .before in
     let if1 = back8 .if1 in
     let quad = c .before .before .before .before .xmm-at in
@@ -69,19 +68,15 @@ returns-2 c =
     let wrote = c .set-xmm in
     λ fill flags.
     let R = src .ensures fill flags (s .args .xmms .now) in
-    record {
-      ends =
-          inserts-done _ _ _ _ _ _ _ _ _ _ _ _ _ R (not-false _ (if1 .left)) _ (quad .result) (new .result) _ (quad .ensures)
-          (new .ensures) (wrote .ensures);
-      next = λ _. R .next;
-    }
+    inserts-done _ _ _ _ _ _ _ _ _ (s .pre .1 .1 .1) _ _ _ _ _ R (if1 .left) (quad .result) (new .result) _ (quad .ensures)
+    (new .ensures) (wrote .ensures)
 
 pub insert-spec : {M : Type 1} → statement M
 insert-spec =
     tie.close
     (tie.spec
-    add-source
-    source-requires
+    add-load
+    load-requires
     returns
     add-dst
     shared-slice-read-dst

@@ -15,7 +15,7 @@ shared-slice-read-if1 c = search needs
 returns : tie.Need-returns
 returns c =
     let if1 = c .if1 in
-    λ env regs values flags. record { ends = word-shift-fails _ _ _ _ _ _ _ _ _ (if1 .taken); next = λ h. absurd (omega arith) }
+    λ env regs values flags. word-shift-fails _ _ _ _ _ _ _ _ _ _ (if1 .taken)
 
 add-xmm-at : tie.Need-add-xmm-at
 add-xmm-at c = search needs
@@ -48,12 +48,8 @@ returns-2 c =
     let if1 = c .before .before .before .before .before .before .before .if1 in
     let wrote = c .set-xmm in
     λ env regs values flags.
-    record {
-      ends =
-          word-shift-done _ _ _ _ _ _ _ _ _ (quad .result) (new .result) _ (if1 .left) (quad .ensures) (new .ensures)
-          (wrote .ensures);
-      next = λ _. refl;
-    }
+    word-shift-done _ _ _ _ _ _ _ _ _ _ (quad .result) (new .result) _ (if1 .left) (quad .ensures) (new .ensures)
+    (wrote .ensures)
 
 pub shift-by-word-spec : {M : Type 1} → statement M
 shift-by-word-spec =

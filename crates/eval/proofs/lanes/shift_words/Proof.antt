@@ -20,8 +20,9 @@ shared-slice-read-amount c = search needs
 
 returns : tie.Need-returns
 returns c =
+    let s = c .before .before .before .before in
     let if1 = c .if1 in
-    λ env regs values flags. record { ends = shifts-fail _ _ _ _ _ _ _ _ _ (if1 .taken); next = λ h. absurd (omega arith) }
+    λ env regs values flags. shifts-fail _ _ _ _ _ _ _ (s .pre .1 .1) _ _ _ (if1 .taken)
 
 shared-slice-read-shifted : tie.Need-shared-slice-read-shifted
 shared-slice-read-shifted c = search needs
@@ -40,16 +41,13 @@ add-t6 c = search needs
 
 returns-2 : tie.Need-returns-2
 returns-2 c =
+    let s = c .before .before .before .before .before .before .before .before .before .before in
     let quad = c .before .before .xmm-at in
     let new = c .before .shifted in
     let if1 = c .before .before .before .before .before .before .if1 in
     let wrote = c .set-xmm in
     λ env regs values flags.
-    record {
-      ends =
-          shifts-done _ _ _ _ _ _ _ _ _ (quad .result) (new .result) _ (if1 .left) (quad .ensures) (new .ensures) (wrote .ensures);
-      next = λ _. refl;
-    }
+    shifts-done _ _ _ _ _ _ _ (s .pre .1 .1) _ _ _ (quad .result) (new .result) _ (if1 .left) (quad .ensures) (new .ensures) (wrote .ensures)
 
 pub shift-words-spec : {M : Type 1} → statement M
 shift-words-spec =

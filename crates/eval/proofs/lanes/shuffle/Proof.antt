@@ -41,10 +41,7 @@ returns c =
     let new = c .before .shuffle-lanes in
     let wrote = c .set-xmm in
     λ env regs values flags.
-    record {
-      ends = shuffle-done _ _ _ _ _ _ _ _ _ (quad .result) (new .result) _ (quad .ensures) (new .ensures) (wrote .ensures);
-      next = λ _. refl;
-    }
+    shuffle-done _ _ _ _ _ _ _ _ _ _ (quad .result) (new .result) _ (quad .ensures) (new .ensures) (wrote .ensures)
 
 pub shuffle-spec : {M : Type 1} → statement M
 shuffle-spec =

@@ -40,18 +40,16 @@ add-t11 c = search needs
 
 returns : tie.Need-returns
 returns c =
-    let one = c .before .before .before .before .before .before .before .before .xmm-at in
+    let back8 = c .before .before .before .before .before .before .before .before in
+    let s = back8 .before .before .before .before .before in
+    let one = back8 .xmm-at in
     let other = c .before .before .before .before .before .xmm-at2 in
     let new = c .before .before .before .before .combined in
     let wrote = c .before .before .set-xmm in
     let flagged = c .quads-flags in
     λ addresses tags regs values.
-    record {
-      ends =
-          quads-done _ _ _ _ _ _ _ _ _ (one .result) (other .result) (new .result) _ _ (one .ensures) (other .ensures)
-          (new .ensures) (wrote .ensures) (flagged .ensures);
-      next = λ _. refl;
-    }
+    quads-done _ _ _ _ _ _ _ _ _ (s .pre .1 .1 .1) _ (one .result) (other .result) (new .result) _ _ (one .ensures) (other .ensures)
+    (new .ensures) (wrote .ensures) (flagged .ensures)
 
 pub two-quads-spec : {M : Type 1} → statement M
 two-quads-spec =

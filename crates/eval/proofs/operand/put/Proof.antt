@@ -3,8 +3,6 @@ use native.Mathlib.Omega.{arith}
 use borrow.Author.Needs.{needs}
 use Rattle.eval.proofs.operand.put.Statement.{statement}
 use Rattle.eval.proofs.operand.put.Tie as tie
-use Rattle.eval.proofs.operand.put.Reads as reads
-use Rattle.eval.proofs.operand.put.Lts as lts
 
 mul-regs : tie.Need-mul-regs
 mul-regs c = omega (arith, c .before .pre .register (c .if1 .taken))

@@ -1,28 +1,27 @@
 -- A source that cannot be read is the fault 31; else Rax and Rdx take the two words of the product. Assumes nothing.
 use native.Mathlib.Omega.{arith}
 use borrow.Author.Needs.{needs}
-use borrow.Author.Tests.{not-true, not-false}
 use Rattle.code.proofs.Frames.{operand-frame}
-use Rattle.eval.proofs.StepLaws.{mul-unread, mul-done}
+use Rattle.eval.proofs.InstructionLaws.{mul-unread, mul-done}
 use Rattle.eval.proofs.products.multiply.Statement.{statement}
 use Rattle.eval.proofs.products.multiply.Tie as tie
 
-add-source : tie.Need-add-source
-add-source c =
+add-load : tie.Need-add-load
+add-load c =
     let s = c .before .before .before .before in
     omega (arith, operand-frame _ _ (s .pre .0 .0) .starts)
 
-source-requires : tie.Need-source-requires
-source-requires c κs = search needs
+load-requires : tie.Need-load-requires
+load-requires c κs = search needs
 
 returns : tie.Need-returns
 returns c =
-    let src = c .before .before .source in
+    let src = c .before .before .load in
     let s = c .before .before .before .before .before .before .before .before in
     let if1 = c .if1 in
     λ xmms.
     let R = src .ensures (s .args .fill) (s .args .flags .now) xmms in
-    record { ends = mul-unread _ _ _ _ _ _ _ _ _ _ _ R (not-true _ (if1 .taken)); next = λ h. absurd (omega arith) }
+    mul-unread _ _ _ _ _ _ _ _ _ _ _ R (if1 .taken)
 
 cast-low : tie.Need-cast-low
 cast-low c = search needs
@@ -53,23 +52,20 @@ element-write-regs-2 c = search needs
 
 returns-2 : tie.Need-returns-2
 returns-2 c =
-    let src = c .before .before .before .before .before .before .source in
+    let src = c .before .before .before .before .before .before .load in
     let s = c .before .before .before .before .before .before .before .before .before .before .before .before in
     let if1 = c .before .before .before .before .if1 in
     let product = c .mul-wide in
     λ xmms.
     let R = src .ensures (s .args .fill) (s .args .flags .now) xmms in
-    record {
-      ends = mul-done _ _ _ _ _ _ _ _ _ _ _ R (not-false _ (if1 .left)) _ _ (product .ensures .low-is) (product .ensures .high-is);
-      next = λ _. R .next;
-    }
+    mul-done _ _ _ _ _ _ _ _ _ _ _ R (if1 .left) _ _ (product .ensures .low-is) (product .ensures .high-is)
 
 pub multiply-spec : {M : Type 1} → statement M
 multiply-spec =
     tie.close
     (tie.spec
-    add-source
-    source-requires
+    add-load
+    load-requires
     returns
     cast-low
     cast-high

@@ -4,10 +4,9 @@ use mathlib.Core.Path.{refl, sym, ap, _∙_}
 use mathlib.Core.List.{[]}
 use native.Mathlib.Omega.{arith}
 use borrow.Author.Needs.{needs}
-use borrow.Author.Tests.{not-true, not-false}
 use Rattle.code.proofs.Frames.{operand-frame}
-use Rattle.eval.specs.Lent.{put-regs, put-values}
-use Rattle.eval.proofs.StepLaws.{read-at, target-at, mulx-unread, mulx-unwritten, mulx-unresolved, mulx-done}
+use Rattle.eval.specs.Promises.{put-regs, put-values}
+use Rattle.eval.proofs.InstructionLaws.{load-at, slot-at, mulx-unread, mulx-unwritten, mulx-unresolved, mulx-done}
 use Rattle.eval.proofs.products.multiply_into.Statement.{statement}
 use Rattle.eval.proofs.products.multiply_into.Tie as tie
 
@@ -19,15 +18,15 @@ add-operand-behind c =
 operand-behind-requires : tie.Need-operand-behind-requires
 operand-behind-requires c κs = search needs
 
-target-requires : tie.Need-target-requires
-target-requires c κs =
+resolve-requires : tie.Need-resolve-requires
+resolve-requires c κs =
     let second = c .before .before .operand-behind in
     let s = c .before .before .before .before .before .before .before in
     (rw (second .ensures) (s .pre .0 .1 .0), s .pre .1)
 
-source-requires : tie.Need-source-requires
-source-requires c κs =
-    let low = c .before .before .target in
+load-requires : tie.Need-load-requires
+load-requires c κs =
+    let low = c .before .before .resolve in
     let second = c .before .before .before .before .before .operand-behind in
     let s = c .before .before .before .before .before .before .before .before .before .before in
     (rw (low .ensures 0 0 [] .next, second .ensures) (s .pre .0 .1 .1 .0), s .pre .1)
@@ -38,16 +37,13 @@ same-length c = search needs
 returns : tie.Need-returns
 returns c =
     let second = c .before .before .before .before .before .before .before .before .operand-behind in
-    let low = c .before .before .before .before .before .target in
-    let src = c .before .before .source in
+    let low = c .before .before .before .before .before .resolve in
+    let src = c .before .before .load in
     let if1 = c .if1 in
     λ fill flags xmms.
-    let T = target-at _ _ _ _ _ (second .ensures) _ (low .ensures fill flags xmms) in
-    let R = read-at _ _ _ _ _ (T .next) _ (src .ensures fill flags xmms) in
-    record {
-      ends = mulx-unread _ _ _ _ _ _ _ _ _ _ _ _ _ _ _ T R (not-true _ (if1 .taken));
-      next = λ h. absurd (omega arith);
-    }
+    let T = slot-at _ _ _ _ _ (second .ensures) _ (low .ensures fill flags xmms) in
+    let R = load-at _ _ _ _ _ (T .next) _ (src .ensures fill flags xmms) in
+    mulx-unread _ _ _ _ _ _ _ _ _ _ _ _ _ _ _ T R (if1 .taken)
 
 same-length-2 : tie.Need-same-length-2
 same-length-2 c = search needs
@@ -55,17 +51,14 @@ same-length-2 c = search needs
 returns-2 : tie.Need-returns-2
 returns-2 c =
     let second = c .before .before .before .before .before .before .before .before .before .before .operand-behind in
-    let low = c .before .before .before .before .before .before .before .target in
-    let src = c .before .before .before .before .source in
+    let low = c .before .before .before .before .before .before .before .resolve in
+    let src = c .before .before .before .before .load in
     let if1 = c .before .before .if1 in
     let if2 = c .if2 in
     λ fill flags xmms.
-    let T = target-at _ _ _ _ _ (second .ensures) _ (low .ensures fill flags xmms) in
-    let R = read-at _ _ _ _ _ (T .next) _ (src .ensures fill flags xmms) in
-    record {
-      ends = mulx-unwritten _ _ _ _ _ _ _ _ _ _ _ _ _ _ _ T R (not-false _ (if1 .left)) (not-true _ (if2 .taken));
-      next = λ h. absurd (omega arith);
-    }
+    let T = slot-at _ _ _ _ _ (second .ensures) _ (low .ensures fill flags xmms) in
+    let R = load-at _ _ _ _ _ (T .next) _ (src .ensures fill flags xmms) in
+    mulx-unwritten _ _ _ _ _ _ _ _ _ _ _ _ _ _ _ T R (if1 .left) (if2 .taken)
 
 cast-from : tie.Need-cast-from
 cast-from c = search needs
@@ -81,19 +74,19 @@ mul-wide-requires c κs = search needs
 
 registers-with-requires : tie.Need-registers-with-requires
 registers-with-requires c κs =
-    let low = c .before .before .before .before .before .before .before .before .before .before .before .target in
+    let low = c .before .before .before .before .before .before .before .before .before .before .before .resolve in
     let if2 = c .before .before .before .before .if2 in
-    low .ensures 0 0 [] .bounds (not-false _ (if2 .left)) .register
+    low .ensures 0 0 [] .bounds (if2 .left) .register
 
-add-target : tie.Need-add-target
-add-target c =
+add-resolve : tie.Need-add-resolve
+add-resolve c =
     let back8 = c .before .before .before .before .before .before .before .before in
     let back16 = back8 .before .before .before .before .before .before .before .before in
     let s = back16 .before .before .before .before in
     omega (arith, operand-frame _ _ (s .pre .0 .0) .starts)
 
-target-requires-2 : tie.Need-target-requires-2
-target-requires-2 c κs =
+resolve-requires-2 : tie.Need-resolve-requires-2
+resolve-requires-2 c κs =
     let back8 = c .before .before .before .before .before .before .before .before in
     let back16 = back8 .before .before .before .before .before .before .before .before in
     let s = back16 .before .before .before .before .before .before in
@@ -107,39 +100,35 @@ returns-3 c =
     let back8 = c .before .before .before .before .before .before .before .before in
     let back16 = back8 .before .before .before .before .before .before .before .before in
     let second = back16 .before .before .before .before .operand-behind in
-    let low = back16 .before .target in
-    let src = back8 .before .before .before .before .before .before .source in
+    let low = back16 .before .resolve in
+    let src = back8 .before .before .before .before .before .before .load in
     let if1 = back8 .before .before .before .before .if1 in
     let if2 = back8 .before .before .if2 in
     let product = c .before .before .before .before .before .before .before .mul-wide in
     let after = c .before .before .before .before .before .registers-with in
-    let high = c .before .before .target2 in
+    let high = c .before .before .resolve2 in
     let if3 = c .if3 in
     λ fill flags xmms.
-    let T = target-at _ _ _ _ _ (second .ensures) _ (low .ensures fill flags xmms) in
-    let R = read-at _ _ _ _ _ (T .next) _ (src .ensures fill flags xmms) in
-    record {
-      ends =
-          mulx-unresolved _ _ _ _ _ _ _ _ _ _ _ _ _ _ _ T R (not-false _ (if1 .left)) (not-false _ (if2 .left))
-          (product .result .low) (product .result .high) (product .ensures .low-is) (product .ensures .high-is) _ _ (after .ensures) refl
-          _ (high .result) (high .ensures fill flags xmms) (not-true _ (if3 .taken));
-      next = λ h. absurd (omega arith);
-    }
+    let T = slot-at _ _ _ _ _ (second .ensures) _ (low .ensures fill flags xmms) in
+    let R = load-at _ _ _ _ _ (T .next) _ (src .ensures fill flags xmms) in
+    mulx-unresolved _ _ _ _ _ _ _ _ _ _ _ _ _ _ _ T R (if1 .left) (if2 .left)
+    (product .result .low) (product .result .high) (product .ensures .low-is) (product .ensures .high-is) _ _ (after .ensures) refl
+    _ (high .result) (high .ensures fill flags xmms) (if3 .taken)
 
 put-requires : tie.Need-put-requires
 put-requires c κs =
     let back8 = c .before .before .before .before .before .before .before .before in
     let back16 = back8 .before .before .before .before .before .before .before .before in
-    let low = back16 .before .before .before .target in
+    let low = back16 .before .before .before .resolve in
     let if2 = back8 .before .before .before .before .if2 in
-    low .ensures 0 0 [] .bounds (not-false _ (if2 .left))
+    low .ensures 0 0 [] .bounds (if2 .left)
 
 put-requires-2 : tie.Need-put-requires-2
 put-requires-2 c κs =
     let wrote = c .before .before .before .before .put in
-    let high = c .before .before .before .before .before .before .before .before .before .target2 in
+    let high = c .before .before .before .before .before .before .before .before .before .resolve2 in
     let if3 = c .before .before .before .before .before .before .before .if3 in
-    rw (wrote .kept .1 .1 .1 .0) (high .ensures 0 0 [] .bounds (not-false _ (if3 .left)))
+    rw (wrote .kept .1 .1 .1 .0) (high .ensures 0 0 [] .bounds (if3 .left))
 
 same-length-4 : tie.Need-same-length-4
 same-length-4 c = search needs
@@ -150,9 +139,9 @@ returns-4 c =
     let back16 = back8 .before .before .before .before .before .before .before .before in
     let back24 = back16 .before .before .before .before .before .before .before .before in
     let second = back24 .before .before .before .before .before .before .operand-behind in
-    let low = back24 .before .before .before .target in
-    let src = back24 .source in
-    let high = back8 .before .before .before .before .target2 in
+    let low = back24 .before .before .before .resolve in
+    let src = back24 .load in
+    let high = back8 .before .before .before .before .resolve2 in
     let product = back16 .before .mul-wide in
     let wrote = c .before .before .before .before .before .before .before .put in
     let after = back8 .before .before .before .before .before .before .before .registers-with in
@@ -161,17 +150,13 @@ returns-4 c =
     let if3 = back8 .before .before .if3 in
     let then = c .before .before .put2 in
     λ fill flags xmms.
-    let T = target-at _ _ _ _ _ (second .ensures) _ (low .ensures fill flags xmms) in
-    let R = read-at _ _ _ _ _ (T .next) _ (src .ensures fill flags xmms) in
+    let T = slot-at _ _ _ _ _ (second .ensures) _ (low .ensures fill flags xmms) in
+    let R = load-at _ _ _ _ _ (T .next) _ (src .ensures fill flags xmms) in
     let regs = ap (put-regs (high .result) (product .result .high)) (wrote .ensures .0 ∙ sym (after .ensures)) in
     let values = ap (put-values (high .result) (product .result .high)) (wrote .ensures .1) in
-    record {
-      ends =
-          mulx-done _ _ _ _ _ _ _ _ _ _ _ _ _ _ _ T R (not-false _ (if1 .left)) (not-false _ (if2 .left))
-          (product .result .low) (product .result .high) (product .ensures .low-is) (product .ensures .high-is) _ _ (after .ensures) refl
-          _ (high .result) (high .ensures fill flags xmms) (not-false _ (if3 .left)) _ _ (then .ensures .0 ∙ regs) (then .ensures .1 ∙ values);
-      next = λ _. R .next;
-    }
+    mulx-done _ _ _ _ _ _ _ _ _ _ _ _ _ _ _ T R (if1 .left) (if2 .left)
+    (product .result .low) (product .result .high) (product .ensures .low-is) (product .ensures .high-is) _ _ (after .ensures) refl
+    _ (high .result) (high .ensures fill flags xmms) (if3 .left) _ _ (then .ensures .0 ∙ regs) (then .ensures .1 ∙ values)
 
 pub multiply-into-spec : {M : Type 1} → statement M
 multiply-into-spec =
@@ -179,8 +164,8 @@ multiply-into-spec =
     (tie.spec
     add-operand-behind
     operand-behind-requires
-    target-requires
-    source-requires
+    resolve-requires
+    load-requires
     same-length
     returns
     same-length-2
@@ -190,8 +175,8 @@ multiply-into-spec =
     element-copy-out-mul-wide
     mul-wide-requires
     registers-with-requires
-    add-target
-    target-requires-2
+    add-resolve
+    resolve-requires-2
     same-length-3
     returns-3
     put-requires

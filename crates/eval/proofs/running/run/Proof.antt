@@ -1,14 +1,13 @@
--- `run` meets its contract: what the checks refuse is refused by the definition, and an accepted code is run by the cycle
--- over the lent parts of the start. Every value of the parameters' types is an input. Assumes nothing.
+-- `run` meets its contract: what the checks refuse is refused by the definition, and the rest is `evaluate`. Every value of the parameters'
+-- types is an input. Assumes nothing.
 use Prim.Native.Nat.{_^_}
 use mathlib.Core.Path.{refl, sym, ap, _∙_}
 use native.Mathlib.Omega.{arith}
 use denote.Struct.Field.{u32-field, u64-field}
 use Rattle.machine.specs.Cells.{verdict}
-use Rattle.eval.specs.Config.{outcome}
 use Rattle.eval.specs.Inputs.{IsInput}
 use Rattle.eval.proofs.InputLaws.{words-of}
-use Rattle.eval.proofs.RunLaws.{accepted-cells, accepted-codes, code-refused, cells-refused, run-ran}
+use Rattle.eval.proofs.RunLaws.{code-refused, cells-refused}
 use Rattle.eval.proofs.running.run.Statement.{statement}
 use Rattle.eval.proofs.running.run.Tie as tie
 
@@ -31,13 +30,10 @@ is-input c =
     }
 
 check-code-requires : tie.Need-check-code-requires
-check-code-requires c κs =
-    tt
+check-code-requires c κs = tt
 
 enum-known-checked : tie.Need-enum-known-checked
-enum-known-checked c =
-    let m = c .match in
-    m .keys1
+enum-known-checked c = c .match .keys1
 
 returns : tie.Need-returns
 returns c =
@@ -49,81 +45,52 @@ returns c =
     (code-refused (s .args .code .now) _ _ _ (trouble .given .0 .0) (trouble .given .0 .1 .0) why, is-input entry)
 
 enum-told : tie.Need-enum-told
-enum-told c =
-    let m = c .match in
-    m .keys2
+enum-told c = c .match .keys2
 
 check-cells-requires : tie.Need-check-cells-requires
-check-cells-requires c κs =
-    tt
+check-cells-requires c κs = tt
 
 enum-known-cells : tie.Need-enum-known-cells
-enum-known-cells c =
-    let m2 = c .match2 in
-    m2 .keys1
+enum-known-cells c = c .match2 .keys1
 
 same-length : tie.Need-same-length
-same-length c =
-    refl
+same-length c = refl
 
 returns-2 : tie.Need-returns-2
 returns-2 c =
-    let entry = c .before .before .before .before .before .before .before .before .before .before .before in
+    let back8 = c .before .before .before .before .before .before .before .before in
+    let entry = back8 .before .before .before in
     let cells = c .before .before .before .check-cells in
     let trouble = c .before .cells in
     let accepted-here = c .before .before .before .before .before .enum-told in
     let code = c .before .before .before .before .before .before .before .check-code in
-    let s = c .before .before .before .before .before .before .before .before .before .before .before .before in
+    let s = back8 .before .before .before .before in
     let code-good = sym (code .ensures) ∙ ap verdict (accepted-here .given .1) in
     let why = sym (cells .ensures) ∙ ap verdict (trouble .given .1) in
     (cells-refused (s .args .code .now) _ _ _ code-good (trouble .given .0 .0) (trouble .given .0 .1 .0) why, is-input entry)
 
 enum-told-2 : tie.Need-enum-told-2
-enum-told-2 c =
-    let m2 = c .match2 in
-    m2 .keys2
+enum-told-2 c = c .match2 .keys2
 
-eval-codes-requires : tie.Need-eval-codes-requires
-eval-codes-requires c κs =
-    let back8 = c .before .before .before .before .before .before .before .before in
-    let back16 = back8 .before .before .before .before .before .before .before .before in
-    let cells-here = c .before .before .before .before .before .before .enum-told2 in
-    let cells = back8 .check-cells in
-    let accepted-here = back8 .before .before .enum-told in
-    let code = back8 .before .before .before .before .check-code in
-    let s = back16 .before in
-    let code-good = sym (code .ensures) ∙ ap verdict (accepted-here .given .1) in
-    let cells-good = sym (cells .ensures) ∙ ap verdict (cells-here .given .1) in (
-      accepted-codes (s .args .code .now) code-good,
-      accepted-cells (s .args .addresses .now) (s .args .tags .now) (s .args .values .now) cells-good,
-    )
-
-answer-of-requires : tie.Need-answer-of-requires
-answer-of-requires c κs =
-    tt
+evaluate-requires : tie.Need-evaluate-requires
+evaluate-requires c κs =
+    let cells-here = c .before .enum-told2 in
+    let cells = c .before .before .before .check-cells in
+    let accepted-here = c .before .before .before .before .before .enum-told in
+    let code = c .before .before .before .before .before .before .before .check-code in
+    (sym (code .ensures) ∙ ap verdict (accepted-here .given .1), sym (cells .ensures) ∙ ap verdict (cells-here .given .1))
 
 same-length-2 : tie.Need-same-length-2
 same-length-2 c =
-    let step = c .before .before .before .eval-codes in
-    step .kept .1 .1 .1 .1 .1 .1 .1 .1 .1 .1 .0
+    let ran = c .before .before .evaluate in
+    ran .kept .1 .1 .1 .0
 
 returns-3 : tie.Need-returns-3
 returns-3 c =
     let back8 = c .before .before .before .before .before .before .before .before in
-    let back16 = back8 .before .before .before .before .before .before .before .before in
-    let entry = back16 .before .before .before .before in
-    let answer = c .answer-of in
-    let step = c .before .before .before .eval-codes in
-    let cells-here = back8 .before .before .enum-told2 in
-    let cells = back8 .before .before .before .before .check-cells in
-    let accepted-here = back8 .before .before .before .before .before .before .enum-told in
-    let code = back16 .check-code in
-    let s = back16 .before .before .before .before .before in
-    let code-good = sym (code .ensures) ∙ ap verdict (accepted-here .given .1) in
-    let cells-good = sym (cells .ensures) ∙ ap verdict (cells-here .given .1) in (
-      run-ran (s .args .code .now) _ _ _ code-good cells-good (step .result) _ (step .ensures) (outcome (answer .result)) (answer .ensures),
-      is-input entry,
-    )
+    let entry = back8 .before .before .before .before .before .before in
+    let ran = c .before .before .evaluate in
+    (ran .ensures, is-input entry)
 
 pub run-spec : {M : Type 1} → statement M
 run-spec =
@@ -138,7 +105,6 @@ run-spec =
     same-length
     returns-2
     enum-told-2
-    eval-codes-requires
-    answer-of-requires
+    evaluate-requires
     same-length-2
     returns-3)

@@ -4,9 +4,8 @@ use mathlib.Core.Path.{sym, _∙_}
 use mathlib.Core.List.{[]}
 use native.Mathlib.Omega.{arith}
 use borrow.Author.Needs.{needs}
-use borrow.Author.Tests.{not-true, not-false}
 use Rattle.code.proofs.Frames.{operand-frame}
-use Rattle.eval.proofs.StepLaws.{read-at, two-unread, two-amount, two-unwritten, two-done}
+use Rattle.eval.proofs.InstructionLaws.{load-at, two-unread, two-amount, two-unwritten, two-done}
 use Rattle.eval.proofs.twos.two_operands.Statement.{statement}
 use Rattle.eval.proofs.twos.two_operands.Tie as tie
 
@@ -15,17 +14,17 @@ shared-slice-read-kind c =
     let s = c .before .before .before .before .before in
     omega (arith, operand-frame _ _ (s .pre .0 .0) .starts)
 
-add-target : tie.Need-add-target
-add-target c =
+add-resolve : tie.Need-add-resolve
+add-resolve c =
     let s = c .before .before .before .before .before in
     omega (arith, operand-frame _ _ (s .pre .0 .0) .starts)
 
-target-requires : tie.Need-target-requires
-target-requires c κs = search needs
+resolve-requires : tie.Need-resolve-requires
+resolve-requires c κs = search needs
 
-source-requires : tie.Need-source-requires
-source-requires c κs =
-    let dst = c .before .before .target in
+load-requires : tie.Need-load-requires
+load-requires c κs =
+    let dst = c .before .before .resolve in
     let s = c .before .before .before .before .before .before .before .before .before .before in
     (rw (dst .ensures 0 0 [] .next) (s .pre .0 .1 .0), s .pre .1 .1)
 
@@ -35,17 +34,14 @@ same-length c = search needs
 returns : tie.Need-returns
 returns c =
     let back8 = c .before .before .before .before .before .before .before .before in
-    let dst = c .before .before .before .before .before .target in
+    let dst = c .before .before .before .before .before .resolve in
     let s = back8 .before .before .before .before .before in
-    let src = c .before .before .source in
+    let src = c .before .before .load in
     let if1 = c .if1 in
     λ xmms.
     let T = dst .ensures (s .args .fill) (s .args .flags .now) xmms in
-    let R = read-at _ _ _ _ _ (T .next) _ (src .ensures (s .args .fill) (s .args .flags .now) xmms) in
-    record {
-      ends = two-unread _ _ _ _ _ _ _ _ _ (s .pre .1 .0) _ _ _ _ _ _ T R (not-true _ (if1 .taken));
-      next = λ h. absurd (omega arith);
-    }
+    let R = load-at _ _ _ _ _ (T .next) _ (src .ensures (s .args .fill) (s .args .flags .now) xmms) in
+    two-unread _ _ _ _ _ _ _ _ _ (s .pre .1 .0) _ _ _ _ _ _ T R (if1 .taken)
 
 too-far-requires : tie.Need-too-far-requires
 too-far-requires c κs = search needs
@@ -56,20 +52,16 @@ same-length-2 c = search needs
 returns-2 : tie.Need-returns-2
 returns-2 c =
     let back8 = c .before .before .before .before .before .before .before .before in
-    let dst = c .before .before .before .before .before .before .before .target in
+    let dst = c .before .before .before .before .before .before .before .resolve in
     let s = back8 .before .before .before .before .before .before .before in
-    let src = c .before .before .before .before .source in
+    let src = c .before .before .before .before .load in
     let if1 = c .before .before .if1 in
     let far = c .before .too-far in
     let if2 = c .if2 in
     λ xmms.
     let T = dst .ensures (s .args .fill) (s .args .flags .now) xmms in
-    let R = read-at _ _ _ _ _ (T .next) _ (src .ensures (s .args .fill) (s .args .flags .now) xmms) in
-    record {
-      ends =
-          two-amount _ _ _ _ _ _ _ _ _ (s .pre .1 .0) _ _ _ _ _ _ T R (not-false _ (if1 .left)) (sym (far .ensures) ∙ if2 .taken);
-      next = λ h. absurd (omega arith);
-    }
+    let R = load-at _ _ _ _ _ (T .next) _ (src .ensures (s .args .fill) (s .args .flags .now) xmms) in
+    two-amount _ _ _ _ _ _ _ _ _ (s .pre .1 .0) _ _ _ _ _ _ T R (if1 .left) (sym (far .ensures) ∙ if2 .taken)
 
 same-length-3 : tie.Need-same-length-3
 same-length-3 c = search needs
@@ -78,32 +70,31 @@ returns-3 : tie.Need-returns-3
 returns-3 c =
     let back8 = c .before .before .before .before .before .before .before .before in
     let back16 = back8 .before .before .before .before .before .before .before .before in
-    let dst = back8 .before .target in
+    let dst = back8 .before .resolve in
     let s = back16 .before in
-    let src = c .before .before .before .before .before .before .source in
+    let src = c .before .before .before .before .before .before .load in
     let if1 = c .before .before .before .before .if1 in
     let far = c .before .before .before .too-far in
     let if2 = c .before .before .if2 in
     let if3 = c .if3 in
     λ xmms.
     let T = dst .ensures (s .args .fill) (s .args .flags .now) xmms in
-    let R = read-at _ _ _ _ _ (T .next) _ (src .ensures (s .args .fill) (s .args .flags .now) xmms) in
-    record {
-      ends =
-          two-unwritten _ _ _ _ _ _ _ _ _ (s .pre .1 .0) _ _ _ _ _ _ T R (not-false _ (if1 .left)) (sym (far .ensures) ∙ if2 .left)
-          (not-true _ (if3 .taken));
-      next = λ h. absurd (omega arith);
-    }
+    let R = load-at _ _ _ _ _ (T .next) _ (src .ensures (s .args .fill) (s .args .flags .now) xmms) in
+    two-unwritten _ _ _ _ _ _ _ _ _ (s .pre .1 .0) _ _ _ _ _ _ T R (if1 .left) (sym (far .ensures) ∙ if2 .left) (if3 .taken)
 
 effect-of-requires : tie.Need-effect-of-requires
-effect-of-requires c κs = search needs
+effect-of-requires c κs =
+    let back8 = c .before .before .before .before .before .before .before .before in
+    let back16 = back8 .before .before .before .before .before .before .before .before in
+    let s = back16 .before .before in
+    s .pre .1 .0
 
 put-requires : tie.Need-put-requires
 put-requires c κs =
     let back8 = c .before .before .before .before .before .before .before .before in
-    let dst = back8 .before .before .before .before .before .target in
+    let dst = back8 .before .before .before .before .before .resolve in
     let if3 = c .before .before .before .before .if3 in
-    dst .ensures 0 0 [] .bounds (not-false _ (if3 .left))
+    dst .ensures 0 0 [] .bounds (if3 .left)
 
 same-length-4 : tie.Need-same-length-4
 same-length-4 c = search needs
@@ -113,9 +104,9 @@ returns-4 c =
     let back8 = c .before .before .before .before .before .before .before .before in
     let back16 = back8 .before .before .before .before .before .before .before .before in
     let back24 = back16 .before .before .before .before .before .before .before .before in
-    let dst = back16 .target in
+    let dst = back16 .resolve in
     let s = back24 in
-    let src = back8 .before .before .before .before .before .source in
+    let src = back8 .before .before .before .before .before .load in
     let if1 = back8 .before .before .before .if1 in
     let far = back8 .before .before .too-far in
     let if2 = back8 .before .if2 in
@@ -124,22 +115,18 @@ returns-4 c =
     let effect = c .before .before .before .before .before .effect-of in
     λ xmms.
     let T = dst .ensures (s .args .fill) (s .args .flags .now) xmms in
-    let R = read-at _ _ _ _ _ (T .next) _ (src .ensures (s .args .fill) (s .args .flags .now) xmms) in
-    record {
-      ends =
-          two-done _ _ _ _ _ _ _ _ _ (s .pre .1 .0) _ _ _ _ _ _ T R (not-false _ (if1 .left)) (sym (far .ensures) ∙ if2 .left)
-          (not-false _ (if3 .left)) _ _ _ _ (put .ensures .0) (put .ensures .1) (effect .ensures .word-is) (effect .ensures .flags-is);
-      next = λ _. R .next;
-    }
+    let R = load-at _ _ _ _ _ (T .next) _ (src .ensures (s .args .fill) (s .args .flags .now) xmms) in
+    two-done _ _ _ _ _ _ _ _ _ (s .pre .1 .0) _ _ _ _ _ _ T R (if1 .left) (sym (far .ensures) ∙ if2 .left)
+    (if3 .left) _ _ _ _ (put .ensures .0) (put .ensures .1) (effect .ensures .word-is) (effect .ensures .flags-is)
 
 pub two-operands-spec : {M : Type 1} → statement M
 two-operands-spec =
     tie.close
     (tie.spec
     shared-slice-read-kind
-    add-target
-    target-requires
-    source-requires
+    add-resolve
+    resolve-requires
+    load-requires
     same-length
     returns
     too-far-requires

@@ -4,9 +4,9 @@ use mathlib.Core.List.{[]}
 use native.Mathlib.Omega.{arith}
 use borrow.Author.Needs.{needs}
 use Rattle.code.proofs.Forms.{constant-is, register-is, register-below}
-use Rattle.eval.proofs.OperandLaws.{source-constant, source-register, cell-inside, source-cell, source-none}
-use Rattle.eval.proofs.operand.source.Statement.{statement}
-use Rattle.eval.proofs.operand.source.Tie as tie
+use Rattle.eval.proofs.OperandLaws.{load-constant, load-register, cell-inside, load-cell, load-none}
+use Rattle.eval.proofs.operand.load.Statement.{statement}
+use Rattle.eval.proofs.operand.load.Tie as tie
 
 operand-behind-requires : tie.Need-operand-behind-requires
 operand-behind-requires c κs = search needs
@@ -75,7 +75,7 @@ returns c =
     let constant = c .before .form in
     λ fill flags xmms.
     rw (next .ensures)
-    (source-constant _ _ _ _ _ _ fill flags xmms _ (constant-is _ _ (sym (form .ensures) ∙ constant .given .1)))
+    (load-constant _ _ _ _ _ _ fill flags xmms _ (constant-is _ _ (sym (form .ensures) ∙ constant .given .1)))
 
 returns-2 : tie.Need-returns-2
 returns-2 c =
@@ -84,7 +84,7 @@ returns-2 c =
     let register = c .before .before .before .form2 in
     λ fill flags xmms.
     rw (next .ensures)
-    (source-register _ _ _ _ _ _ fill flags xmms _ (register-is _ _ (sym (form .ensures) ∙ register .given .1)))
+    (load-register _ _ _ _ _ _ fill flags xmms _ (register-is _ _ (sym (form .ensures) ∙ register .given .1)))
 
 returns-3 : tie.Need-returns-3
 returns-3 c =
@@ -95,7 +95,7 @@ returns-3 c =
     let found = c .before .before .index in
     λ fill flags xmms.
     rw (next .ensures)
-    (source-cell _ _ _ _ _ _ fill flags xmms _ (form .ensures) (memory .given .1) (cell .result) (cell .ensures) _ (found .given .1))
+    (load-cell _ _ _ _ _ _ fill flags xmms _ (form .ensures) (memory .given .1) (cell .result) (cell .ensures) _ (found .given .1))
 
 returns-4 : tie.Need-returns-4
 returns-4 c =
@@ -106,10 +106,10 @@ returns-4 c =
     let none = c .enum-told2 in
     λ fill flags xmms.
     rw (next .ensures)
-    (source-none _ _ _ _ _ _ fill flags xmms _ (form .ensures) (memory .given .1) (cell .result) (cell .ensures) (none .given .1))
+    (load-none _ _ _ _ _ _ fill flags xmms _ (form .ensures) (memory .given .1) (cell .result) (cell .ensures) (none .given .1))
 
-pub source-spec : {M : Type 1} → statement M
-source-spec =
+pub load-spec : {M : Type 1} → statement M
+load-spec =
     tie.close
     (tie.spec
     operand-behind-requires

@@ -5,9 +5,9 @@ use mathlib.Core.List.{[]}
 use native.Mathlib.Omega.{arith}
 use borrow.Author.Needs.{needs}
 use Rattle.code.proofs.Forms.{constant-is, register-is, register-below}
-use Rattle.eval.proofs.OperandLaws.{target-constant, target-rsp, target-register, cell-inside, target-cell, target-none}
-use Rattle.eval.proofs.operand.target.Statement.{statement}
-use Rattle.eval.proofs.operand.target.Tie as tie
+use Rattle.eval.proofs.OperandLaws.{resolve-constant, resolve-rsp, resolve-register, cell-inside, resolve-cell, resolve-none}
+use Rattle.eval.proofs.operand.resolve.Statement.{statement}
+use Rattle.eval.proofs.operand.resolve.Tie as tie
 
 operand-behind-requires : tie.Need-operand-behind-requires
 operand-behind-requires c κs = search needs
@@ -41,7 +41,7 @@ returns c =
     λ fill flags xmms.
     let q = register-is _ _ (sym (form .ensures) ∙ register .given .1) in
     rw (← next .ensures)
-    (target-rsp _ _ _ _ _ _ fill flags xmms _ q (is-rsp .result) (is-rsp .ensures) (if1 .taken) (nowhere .result) (nowhere .ensures))
+    (resolve-rsp _ _ _ _ _ _ fill flags xmms _ q (is-rsp .result) (is-rsp .ensures) (if1 .taken) (nowhere .result) (nowhere .ensures))
 
 cast-index : tie.Need-cast-index
 cast-index c = search needs
@@ -102,7 +102,7 @@ returns-2 c =
     let nowhere = c .nowhere in
     λ fill flags xmms.
     rw (← next .ensures)
-    (target-constant _ _ _ _ _ _ fill flags xmms _ (constant-is _ _ (sym (form .ensures) ∙ constant .given .1)) (nowhere .result) (nowhere .ensures))
+    (resolve-constant _ _ _ _ _ _ fill flags xmms _ (constant-is _ _ (sym (form .ensures) ∙ constant .given .1)) (nowhere .result) (nowhere .ensures))
 
 returns-3 : tie.Need-returns-3
 returns-3 c =
@@ -116,7 +116,7 @@ returns-3 c =
     λ fill flags xmms.
     let q = register-is _ _ (sym (form .ensures) ∙ register .given .1) in
     rw (next .ensures)
-    (target-register _ _ _ _ _ _ fill flags xmms _ q (is-rsp .result) (is-rsp .ensures) (if1 .left) (register-below _ _ (s .pre .0) _ q))
+    (resolve-register _ _ _ _ _ _ fill flags xmms _ q (is-rsp .result) (is-rsp .ensures) (if1 .left) (register-below _ _ (s .pre .0) _ q))
 
 returns-4 : tie.Need-returns-4
 returns-4 c =
@@ -129,7 +129,7 @@ returns-4 c =
     let s = back8 .before .before .before .before .before in
     λ fill flags xmms.
     rw (next .ensures)
-    (target-cell _ _ _ _ _ _ fill flags xmms _ (form .ensures) (memory .given .1) (cell .result) (cell .ensures) _ (found .given .1) (s .pre .1))
+    (resolve-cell _ _ _ _ _ _ fill flags xmms _ (form .ensures) (memory .given .1) (cell .result) (cell .ensures) _ (found .given .1) (s .pre .1))
 
 returns-5 : tie.Need-returns-5
 returns-5 c =
@@ -141,11 +141,11 @@ returns-5 c =
     let nowhere = c .nowhere3 in
     λ fill flags xmms.
     rw (← next .ensures)
-    (target-none _ _ _ _ _ _ fill flags xmms _ (form .ensures) (memory .given .1) (cell .result) (cell .ensures) (none .given .1)
+    (resolve-none _ _ _ _ _ _ fill flags xmms _ (form .ensures) (memory .given .1) (cell .result) (cell .ensures) (none .given .1)
     (nowhere .result) (nowhere .ensures))
 
-pub target-spec : {M : Type 1} → statement M
-target-spec =
+pub resolve-spec : {M : Type 1} → statement M
+resolve-spec =
     tie.close
     (tie.spec
     operand-behind-requires

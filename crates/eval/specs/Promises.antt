@@ -1,0 +1,145 @@
+-- What the functions of the evaluator promise: the contracts below `run`, of an operand, a comparison, an instruction, a code and a list of codes. They are
+-- said of the parts that are lent: addresses and tags, code bytes, registers, xmm words, flags and values.
+use Prim.Native.Nat.{ℕ, _+_, _-_, _≤_, _<_}
+use mathlib.Core.Path.{_≡_}
+use mathlib.Core.Bool.{Bool, true, false, not, cond}
+use mathlib.Core.List.{List, [], _∷_}
+use lib.Dec.{eqb, ltb, leb}
+use lib.ListN.{length, getD, set}
+use Rattle.machine.specs.Cells.{Searchable}
+use Rattle.machine.specs.declared.Operand.{Operand}
+use Rattle.code.specs.declared.tree.Instruction.{Instruction}
+use Rattle.code.specs.declared.tree.Ocmp.{Ocmp}
+use Rattle.code.specs.Tree.{Code, Codes}
+use Rattle.code.specs.Records.{is-ins, is-ocmp, byte-at, ins-at, ocmp-at}
+use Rattle.code.specs.Spells.{Stands, Spells, SpellsAll}
+use Rattle.eval.specs.Config.{Env, Config, with-regs, with-values, Outcome, done, fault, spent, End}
+use Rattle.eval.specs.Config as Config
+use Rattle.eval.specs.Instructions.{valid-operand, eval-operand, valid-dst-operand, update-operand, valid-ocmp, eval-ocmp, run-ins}
+use Rattle.eval.specs.Running.{run-code, run-codes}
+use Rattle.eval.specs.declared.exit.Exit.{Exit}
+use Rattle.eval.specs.declared.operand.Loaded.{Loaded}
+use Rattle.eval.specs.declared.operand.Slot.{Slot}
+use Rattle.eval.specs.declared.comparison.Compared.{Compared}
+use Rattle.eval.specs.declared.arithmetic.Effect.{Effect}
+
+-- ---- what is lent
+-- the environment of lent addresses and tags
+abbrev pub environment : List ℕ → List ℕ → ℕ → Env
+environment addresses tags fill = record { addresses = addresses; tags = tags; fill = fill }
+
+-- the configuration of lent parts
+abbrev pub held : List ℕ → List ℕ → ℕ → List ℕ → Config
+held regs xmms flags values = record { regs = regs; xmms = xmms; flags = flags; values = values }
+
+-- cells that can be searched, each with its value
+pub record Cells (addresses tags values : List ℕ) : Type 0 where
+  pub searchable : Searchable addresses tags
+  pub long : length values ≡ length addresses
+
+-- ---- operands
+-- what a Loaded says of a source: the number of the check that fails, or 0; its word; and the place behind it
+pub record Loads (env : Env) (s : Config) (o : Operand) (end : ℕ) (r : Loaded) : Type 0 where
+  pub number : r .number ≡ cond (valid-operand env o s) 0 31
+  pub word : r .number ≡ 0 → r .word ≡ eval-operand env o s
+  pub next : r .next ≡ end
+
+-- no destination, and the place behind it
+abbrev pub no-slot : ℕ → Slot
+no-slot next = record { number = 32; register = false; index = 0; word = 0; next = next }
+
+-- the registers with a word put into a slot
+abbrev pub put-regs : Slot → ℕ → List ℕ → List ℕ
+put-regs t v regs = cond (t .register) (set regs (t .index) v) regs
+
+-- the cells' values with a word put into a slot
+abbrev pub put-values : Slot → ℕ → List ℕ → List ℕ
+put-values t v values = cond (t .register) values (set values (t .index) v)
+
+-- a slot is a register, or one of n cells
+pub record InBounds (t : Slot) (n : ℕ) : Type 0 where
+  pub register : t .register ≡ true → t .index < 16
+  pub cell : t .register ≡ false → t .index < n
+
+-- what a valid Slot says of a destination: its word, and how it is written, whatever the cells then hold
+pub record Writes (env : Env) (s : Config) (o : Operand) (t : Slot) : Type 0 where
+  pub word : t .word ≡ eval-operand env o s
+  pub update :
+      (v : ℕ) (values : List ℕ) →
+      update-operand env o v (with-values values s) ≡ with-values (put-values t v values) (with-regs (put-regs t v (s .regs)) s)
+
+-- what a Slot says of a destination: the number of the check that fails, or 0, and then where it is written
+pub record Resolves (env : Env) (s : Config) (o : Operand) (end : ℕ) (t : Slot) : Type 0 where
+  pub number : t .number ≡ cond (valid-dst-operand env o s) 0 32
+  pub writes : t .number ≡ 0 → Writes env s o t
+  pub bounds : t .number ≡ 0 → InBounds t (length (s .values))
+  pub next : t .next ≡ end
+
+-- ---- instructions
+-- a word and flags
+pub record IsEffect (word flags : ℕ) (e : Effect) : Type 0 where
+  pub word-is : e .word ≡ word
+  pub flags-is : e .flags ≡ flags
+
+-- what an Exit says: 0 is done, 1 is spent, and any other number is a fault
+abbrev pub how : Exit → Outcome
+how r = cond (eqb (r .number) 0) done (cond (eqb (r .number) 1) (spent (r .place)) (fault (r .number) (r .place)))
+
+-- an exit that leaves t ends as a run does, and goes on at the place behind
+pub record Ran (end : End) (behind : ℕ) (r : Exit) (t : Config) : Type 0 where
+  pub ends : Config.ends (how r) t ≡ end
+  pub next : r .number ≡ 0 → r .place ≡ behind
+
+-- an instruction stands at a place, inside the bytes
+abbrev pub InsAt : List ℕ → ℕ → Type 0
+InsAt bs at = (e : ℕ) × Stands is-ins bs at e × (e ≤ length bs)
+
+-- an exit from s to t is that of the instruction that stands at a place
+abbrev pub RunsIns : Env → List ℕ → ℕ → Config → Exit → Config → Type 0
+RunsIns env bs at s r t = (e : ℕ) → Stands is-ins bs at e → Ran (run-ins env at (ins-at bs at) s) e r t
+
+-- ---- comparisons
+-- OEq, ONe, OLe, OGe, OLt and OGt of two words, by the kind byte
+unfoldable pub comparison : ℕ → ℕ → ℕ → Bool
+comparison k a b =
+    getD (eqb a b ∷ not (eqb a b) ∷ leb a b ∷ leb b a ∷ ltb a b ∷ ltb b a ∷ []) (k - 0x30) false
+
+-- a comparison stands at a place, inside the bytes
+abbrev pub OcmpAt : List ℕ → ℕ → Type 0
+OcmpAt bs at = (e : ℕ) × Stands is-ocmp bs at e × (e ≤ length bs)
+
+-- what a Compared says: 1 where it holds, 0 where it does not, or the number of the check that fails; the place behind; and the flags that are left
+pub record Compares (env : Env) (s : Config) (c : Ocmp) (end : ℕ) (r : Compared) (flags : ℕ) : Type 0 where
+  pub how : r .how ≡ cond (valid-ocmp env c s) (cond (eval-ocmp env c s) 1 0) 31
+  pub flags-are : flags ≡ cond (valid-ocmp env c s) (env .fill) (s .flags)
+  pub next : r .next ≡ end
+
+-- a Compared from s is that of the comparison that stands at a place
+abbrev pub ComparesAt : Env → List ℕ → ℕ → Config → Compared → ℕ → Type 0
+ComparesAt env bs at s r flags = (e : ℕ) → Stands is-ocmp bs at e → Compares env s (ocmp-at bs at) e r flags
+
+-- ---- codes
+-- a code stands at a place, inside the bytes
+pub record CodeAt (bs : List ℕ) (at : ℕ) : Type 0 where
+  pub code : Code
+  pub end : ℕ
+  pub spelled : Spells code bs at end
+  pub inside : end ≤ length bs
+
+-- a list of codes stands between two places, inside the bytes
+pub record CodesAt (bs : List ℕ) (from end : ℕ) : Type 0 where
+  pub codes : Codes
+  pub spelled : SpellsAll codes bs from end
+  pub inside : end ≤ length bs
+
+-- where the codes of a part begin: behind the length of a Block; any other code is a list of one
+abbrev pub codes-from : List ℕ → ℕ → ℕ
+codes-from bs at = cond (eqb (byte-at bs at) 0x20) (at + 5) at
+
+-- an exit from s to t is that of the code that stands at a place, whichever it is
+abbrev pub Runs : Env → List ℕ → ℕ → ℕ → Config → Exit → Config → Type 0
+Runs env bs at fuel s r t = (c : Code) (e : ℕ) → Spells c bs at e → Ran (run-code env c fuel s) e r t
+
+-- an exit from s to t is that of the list of codes between two places, whichever it is
+abbrev pub RunsAll : Env → List ℕ → ℕ → ℕ → ℕ → Config → Exit → Config → Type 0
+RunsAll env bs from e fuel s r t = (cs : Codes) → SpellsAll cs bs from e → Ran (run-codes env cs fuel s) e r t

@@ -1,0 +1,8 @@
+// How an instruction or a code of the run ended, in two numbers: the evaluator hands them back in registers.
+
+// 0, and the place behind the code that was done; 1, and the place of a While that found no fuel; or the number of the
+// check that failed, and its place.
+pub struct Exit {
+    pub number: u8,
+    pub place: usize,
+}
