@@ -286,7 +286,12 @@ module _ (addresses tags regs xmms values : List ℕ) (fill flags p : ℕ) where
           mulx-done h regs″ values″ c d =
               finished _ n (r .next) p _
               (mulx-passes
-              ∙ rw (passes (valid-dst-operand env dst-hi (held regs′ xmms flags values)) (u .number) 32 (above .number) (λ e. omega arith) h, c, d, above .writes h .update hi values′))
+              ∙ rw (
+                passes (valid-dst-operand env dst-hi (held regs′ xmms flags values)) (u .number) 32 (above .number) (λ e. omega arith) h,
+                c,
+                d,
+                above .writes h .update hi values′,
+              ))
               (loads .next)
 
 -- what was found at a place that is another's name

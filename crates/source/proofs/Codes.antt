@@ -20,9 +20,8 @@ use Rattle.source.specs.Source as Source
 use Rattle.source.specs.Source.{State, St, choose, eval-ins}
 use Rattle.source.specs.Log.{Note, Event, passed, failed, starved, event, events, first-bad, Logged, after, if-some, returned, check, note-ocmp, log-ocmp, log-while, log-code, log-codes}
 use Rattle.source.specs.Correspondence.{IntToNat64, state-of}
-use Rattle.source.proofs.Erase.{erase-ins}
 use Rattle.source.proofs.OperandLaws.{Held, valid-ocmp-is, eval-ocmp-is}
-use Rattle.source.proofs.Instructions.{first-failed, Said, finishes, stops, says-ins}
+use Rattle.source.proofs.Instructions.{first-failed, Said, finishes, stops, says-ins, erase-ins}
 
 -- ---- ok stays clear
 abbrev pub Clear : Option State → Type 0

@@ -7,14 +7,12 @@ use mathlib.Core.List.{List}
 use mathlib.Core.Option.{Option, none, some}
 use lib.IntN.{ℤ}
 use Rattle.machine.specs.Memory.{Memory}
-use Rattle.code.specs.declared.tree.Instruction.{Instruction}
-use Rattle.code.specs.declared.tree.Instruction.the-variants.{Mov64, Add64, AddLea64, AddCarry64, Adcx64, Adox64, Sub64, Mul64, Mulx64, IMul64, Xor64, And64, Shr64, Shl64, Paddd, Pxor, Pslld, Psrld, Pshufd, Pcmpeqd, Pextrq, Pinsrd, Pinsrq, VPSLLDQ}
 use Rattle.code.specs.declared.tree.Ocmp.{Ocmp}
 use Rattle.code.specs.Tree.{Code, Ins, Block, IfElse, While, Codes, ⟨⟩, _∷ᶜ_}
-use Rattle.source.specs.Source as Source
-use Rattle.source.specs.Source.{State, choose, if-some, eval-ins, run-ocmp, eval-while, eval-code, eval-codes}
+use Rattle.source.specs.Source.{State, choose, if-some, run-ocmp, eval-while, eval-code, eval-codes}
 use Rattle.source.specs.Log as Log
-use Rattle.source.specs.Log.{Event, Logged, note-ins, note-ocmp, log-ocmp, log-while, log-code, log-codes}
+use Rattle.source.specs.Log.{Event, Logged, note-ocmp, log-ocmp, log-while, log-code, log-codes}
+use Rattle.source.proofs.Instructions.{erase-ins}
 
 erase-some : (log : List Event) (o : Option State) (k : State → Logged) (k′ : State → Option State)
     → ((s : State) → (k s) .1 ≡ k′ s) → (Log.if-some log o k) .1 ≡ if-some o k′
@@ -29,34 +27,6 @@ erase-choose true f g f′ g′ F G s = F s
 erase-choose false f g f′ g′ F G s = G s
 
 module _ (load-mem64 : ℤ → Memory → ℕ) (int-to-nat64 : ℤ → ℕ) (fill : ℕ) where
-  pub erase-ins : (i : Instruction) (s : State) → (note-ins load-mem64 int-to-nat64 fill i s) .0 ≡ eval-ins load-mem64 int-to-nat64 fill i s
-  unfolding note-ins eval-ins Log._>>=_ Source._>>=_ Log.quiet Log.check Log.check-imm
-      Log.update-operand Source.update-operand Log.update-operand-preserve-flags Source.update-operand-preserve-flags
-  erase-ins (Mov64 dst src) s = refl
-  erase-ins (Add64 dst src) s = refl
-  erase-ins (AddLea64 dst src1 src2) s = refl
-  erase-ins (AddCarry64 dst src) s = refl
-  erase-ins (Adcx64 dst src) s = refl
-  erase-ins (Adox64 dst src) s = refl
-  erase-ins (Sub64 dst src) s = refl
-  erase-ins (Mul64 src) s = refl
-  erase-ins (Mulx64 dst-hi dst-lo src) s = refl
-  erase-ins (IMul64 dst src) s = refl
-  erase-ins (Xor64 dst src) s = refl
-  erase-ins (And64 dst src) s = refl
-  erase-ins (Shr64 dst amt) s = refl
-  erase-ins (Shl64 dst amt) s = refl
-  erase-ins (Paddd dst src) s = refl
-  erase-ins (Pxor dst src) s = refl
-  erase-ins (Pslld dst amt) s = refl
-  erase-ins (Psrld dst amt) s = refl
-  erase-ins (Pshufd dst src permutation) s = refl
-  erase-ins (Pcmpeqd dst src) s = refl
-  erase-ins (Pextrq dst src index) s = refl
-  erase-ins (Pinsrd dst src index) s = refl
-  erase-ins (Pinsrq dst src index) s = refl
-  erase-ins (VPSLLDQ dst src count) s = refl
-
   erase-ocmp : (q : ℕ) (c : Ocmp) (f g : State → Logged) (f′ g′ : State → Option State)
       → ((s : State) → (f s) .1 ≡ f′ s) → ((s : State) → (g s) .1 ≡ g′ s) → (s : State)
       → (log-ocmp load-mem64 int-to-nat64 fill q c f g s) .1 ≡ (let r = run-ocmp load-mem64 int-to-nat64 fill s c in choose (r .1) f′ g′ (r .0))
@@ -78,7 +48,7 @@ module _ (load-mem64 : ℤ → Memory → ℕ) (int-to-nat64 : ℤ → ℕ) (fil
     unfolding log-code log-codes eval-code eval-codes
 
     pub erase-code : (c : Code) (f : ℕ) (s : State) → (log-code load-mem64 int-to-nat64 fill c f s) .1 ≡ eval-code load-mem64 int-to-nat64 fill c f s
-    erase-code (Ins p i) f s = ap (λ r. some (r .1)) (erase-ins i s)
+    erase-code (Ins p i) f s = ap (λ r. some (r .1)) (erase-ins load-mem64 int-to-nat64 fill i s)
     erase-code (Block p cs) f s = erase-codes cs f s
     erase-code (IfElse p q c a b) f s = erase-ocmp q c _ _ _ _ (erase-code a f) (erase-code b f) s
     erase-code (While p q c b) f s = erase-while p q c _ _ (erase-code b) f s

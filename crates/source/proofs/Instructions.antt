@@ -371,3 +371,33 @@ module _ (env : Env) where
       says-ins (Pinsrq dst src index) fits = says-get _ _ (says-insert dst src (fits .1 .1) (λ a. insert-nat64 (xmm-at (s .xmms) dst) a (index % 2)))
       says-ins (VPSLLDQ dst src count) fits =
           says-get _ _ (says-then p s _ _ s s _ 35 _ (check-gate 35 (λ _. eqb count 4) s _ h refl) (λ _. says-xmm dst _ _ refl))
+
+-- without its notes an instruction is the source's
+module _ (load-mem64 : ℤ → Memory → ℕ) (int-to-nat64 : ℤ → ℕ) (fill : ℕ) where
+  pub erase-ins : (i : Instruction) (s : State) → note-ins load-mem64 int-to-nat64 fill i s .0 ≡ Source.eval-ins load-mem64 int-to-nat64 fill i s
+  unfolding note-ins Source.eval-ins _>>=_ Source._>>=_ quiet check check-imm
+      update-operand Source.update-operand update-operand-preserve-flags Source.update-operand-preserve-flags
+  erase-ins (Mov64 dst src) s = refl
+  erase-ins (Add64 dst src) s = refl
+  erase-ins (AddLea64 dst src1 src2) s = refl
+  erase-ins (AddCarry64 dst src) s = refl
+  erase-ins (Adcx64 dst src) s = refl
+  erase-ins (Adox64 dst src) s = refl
+  erase-ins (Sub64 dst src) s = refl
+  erase-ins (Mul64 src) s = refl
+  erase-ins (Mulx64 dst-hi dst-lo src) s = refl
+  erase-ins (IMul64 dst src) s = refl
+  erase-ins (Xor64 dst src) s = refl
+  erase-ins (And64 dst src) s = refl
+  erase-ins (Shr64 dst amt) s = refl
+  erase-ins (Shl64 dst amt) s = refl
+  erase-ins (Paddd dst src) s = refl
+  erase-ins (Pxor dst src) s = refl
+  erase-ins (Pslld dst amt) s = refl
+  erase-ins (Psrld dst amt) s = refl
+  erase-ins (Pshufd dst src permutation) s = refl
+  erase-ins (Pcmpeqd dst src) s = refl
+  erase-ins (Pextrq dst src index) s = refl
+  erase-ins (Pinsrd dst src index) s = refl
+  erase-ins (Pinsrq dst src index) s = refl
+  erase-ins (VPSLLDQ dst src count) s = refl

@@ -1,6 +1,6 @@
 pub mod Upstream
-pub mod Erase
 pub mod OperandLaws
 pub mod Instructions
+pub mod Erase
 pub mod Codes
 pub mod Correspondence
