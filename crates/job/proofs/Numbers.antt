@@ -36,19 +36,19 @@ numbers-snoc size step (suc i) bs at =
     ∙ ap (λ (k : ℕ). numbers size step i bs (at + step) ++ (number-at size bs k ∷ [])) e)
 
 -- a loop that reads numbers into the list `to`, which was to₀: the first i are read
-pub record Reading (size step : ℕ) (bs : List ℕ) (from : ℕ) (to₀ : List ℕ) (i : ℕ) (to : List ℕ) : Type 0 where
+pub record Taken (size step : ℕ) (bs : List ℕ) (from : ℕ) (to₀ : List ℕ) (i : ℕ) (to : List ℕ) : Type 0 where
   pub within : i ≤ length to₀
   pub long : length to ≡ length to₀
   pub got : take i to ≡ numbers size step i bs from
 
-pub reading-none : (size step : ℕ) (bs : List ℕ) (from : ℕ) (to : List ℕ) → Reading size step bs from to 0 to
+pub taken-none : (size step : ℕ) (bs : List ℕ) (from : ℕ) (to : List ℕ) → Taken size step bs from to 0 to
 unfolding numbers
-reading-none size step bs from to = record { within = omega arith; long = refl; got = refl }
+taken-none size step bs from to = record { within = omega arith; long = refl; got = refl }
 
-pub reading-more :
-    {size step from i v : ℕ} {bs to₀ to : List ℕ} → Reading size step bs from to₀ i to
-    → i < length to₀ → v ≡ number-at size bs (from + step * i) → Reading size step bs from to₀ (i + 1) (set to i v)
-reading-more {size} {step} {from} {i} {v} {bs} {to} r h e =
+pub taken-more :
+    {size step from i v : ℕ} {bs to₀ to : List ℕ} → Taken size step bs from to₀ i to
+    → i < length to₀ → v ≡ number-at size bs (from + step * i) → Taken size step bs from to₀ (i + 1) (set to i v)
+taken-more {size} {step} {from} {i} {v} {bs} {to} r h e =
     record {
       within = omega arith;
       long = length-set to i v ∙ r .long;
@@ -61,9 +61,9 @@ reading-more {size} {step} {from} {i} {v} {bs} {to} r h e =
           ∙ ap (λ (k : ℕ). numbers size step k bs from) (sym (add-one i));
     }
 
-pub reading-all :
-    {size step from i : ℕ} {bs to₀ to : List ℕ} → Reading size step bs from to₀ i to
+pub taken-all :
+    {size step from i : ℕ} {bs to₀ to : List ℕ} → Taken size step bs from to₀ i to
     → length to₀ ≤ i → to ≡ numbers size step (length to₀) bs from
-reading-all {size} {step} {from} {i} {bs} {to₀} {to} r h =
+taken-all {size} {step} {from} {i} {bs} {to₀} {to} r h =
     let all : i ≡ length to₀ = omega (arith, r .within) in
     sym (take-all i to (omega (arith, r .long))) ∙ r .got ∙ ap (λ (k : ℕ). numbers size step k bs from) all

@@ -4,14 +4,14 @@ use mathlib.Core.Path.{_≡_, ap, _∙_}
 use native.Mathlib.Omega.{arith}
 use borrow.Author.Needs.{needs}
 use lib.ListN.{length}
-use Rattle.job.proofs.Numbers.{Reading, reading-none, reading-more, reading-all, steps-more, steps-within}
+use Rattle.job.proofs.Numbers.{Taken, taken-none, taken-more, taken-all, steps-more, steps-within}
 use Rattle.code.specs.Records.{number-at}
 use Rattle.job.proofs.read.read_words.Statement.{statement}
 use Rattle.job.proofs.read.read_words.Tie as tie
 
 abbrev Inv-loop : tie.InvT-loop
 Inv-loop input from step to₀ at₀ i₀ to at i =
-    (at ≡ from + step * i) × Reading 8 step input from to₀ i to
+    (at ≡ from + step * i) × Taken 8 step input from to₀ i to
 
 abbrev μ-loop : tie.MeasureT-loop
 μ-loop input from step to₀ at₀ i₀ to at i = length to₀ - i
@@ -19,7 +19,7 @@ abbrev μ-loop : tie.MeasureT-loop
 loop-holds : tie.Need-loop-holds Inv-loop μ-loop
 loop-holds c =
     let args = c .before .before .args in
-    (omega arith, reading-none 8 (args .step) (args .input .now) (args .from) (args .to .now))
+    (omega arith, taken-none 8 (args .step) (args .input .now) (args .from) (args .to .now))
 
 number8-requires : tie.Need-number8-requires Inv-loop μ-loop
 number8-requires c κs =
@@ -53,13 +53,13 @@ loop-again c =
     let loop = c .before .before .loop in
     let more = steps-more (args .step) (loop .i) in
     let value = c .number8 .ensures ∙ ap (number-at 8 (args .input .now)) (loop .inv .0) in
-    (omega arith, reading-more (loop .inv .1) (omega arith) value)
+    (omega arith, taken-more (loop .inv .1) (omega arith) value)
 
 same-length : tie.Need-same-length Inv-loop μ-loop
 same-length c = c .before .loop .inv .1 .long
 
 returns : tie.Need-returns Inv-loop μ-loop
-returns c = reading-all (c .before .loop .inv .1) (omega arith)
+returns c = taken-all (c .before .loop .inv .1) (omega arith)
 
 pub read-words-spec : {M : Type 1} → statement M
 read-words-spec =
