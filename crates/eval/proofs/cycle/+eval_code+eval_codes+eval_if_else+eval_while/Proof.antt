@@ -3,15 +3,16 @@
 -- length: a list is measured from its first code on, a structure behind its kind byte, an IfElse and a While behind their first length.
 -- Assumes nothing.
 use Prim.Native.Nat.{ℕ, _+_, _-_, _<_}
-use mathlib.Core.Path.{refl, sym, ap, _∙_}
+use mathlib.Core.Path.{ap}
+use mathlib.Core.List.{List}
 use mathlib.Core.Logic.{inl, inr, ⊎-elim}
-use native.Mathlib.Omega.{arith}
 use lib.ListN.{length}
-use Rattle.eval.specs.Promises.{environment, held}
-use Rattle.eval.proofs.CycleLaws.{code-frame, starts, has-length, block-inside, choice-inside, loop-inside, still-cells, how-done, ins-ran, Going, going-starts, next-there, next-past, codes-go, codes-stop, codes-done, codes-past, block-codes, block-ran, both-ways, if-unread, Chosen, chosen-there, chosen-ran, Looping, loop-ran, loop-spent, loop-unread, loop-done, Round, round-ends, round-there, round-goes, round-stops}
 use borrow.Author.Needs.{needs}
-use borrow.Fn.Kinds.{In}
+use borrow.Fn.Kinds.{In, PK}
 use borrow.Fn.PlainCycle.{Measures, is, falls, and}
+use Rattle.eval.specs.Promises.{environment, held}
+use Rattle.eval.proofs.CycleLaws.{starts, ins-ran, Going, going-starts, codes-go, codes-stop, codes-done, both-ways, Looping}
+use Rattle.eval.proofs.Asked.{length-inside, length-fits, behind-fits, behind-less, while-kind, block-fits, codes-of-block, block-done, next-code, next-ins, next-less, rest-less, rest-less-ins, goes-on, choice-structure, choice-test, other-length-inside, test-fits, second-fits, choice-fits, choice-unread, Branch, branch-code, branch-codes, branch-less, branch-stops, branch-done, loop-structure, loop-test, loop-starts, loop-is-spent, loop-is-unread, Turn, turn-fits, body-code, body-codes, body-less, turn-stops, turn-goes, turn-done}
 use Rattle.eval.proofs.cycle.eval_code.Reads as eval-code
 use Rattle.eval.proofs.cycle.eval_code.Kinds as eval-code-kinds
 use Rattle.eval.proofs.cycle.+eval_code+eval_codes+eval_if_else+eval_while.Lts-eval_code as eval-code-lts
@@ -19,825 +20,220 @@ use Rattle.eval.proofs.cycle.eval_codes.Reads as eval-codes
 use Rattle.eval.proofs.cycle.eval_codes.Kinds as eval-codes-kinds
 use Rattle.eval.proofs.cycle.+eval_code+eval_codes+eval_if_else+eval_while.Lts-eval_codes as eval-codes-lts
 use Rattle.eval.proofs.cycle.eval_if_else.Reads as eval-if-else
-use Rattle.eval.proofs.cycle.eval_if_else.Kinds as eval-if-else-kinds
 use Rattle.eval.proofs.cycle.+eval_code+eval_codes+eval_if_else+eval_while.Lts-eval_if_else as eval-if-else-lts
 use Rattle.eval.proofs.cycle.eval_while.Reads as eval-while
-use Rattle.eval.proofs.cycle.eval_while.Kinds as eval-while-kinds
 use Rattle.eval.proofs.cycle.+eval_code+eval_codes+eval_if_else+eval_while.Lts-eval_while as eval-while-lts
-use Rattle.code.proofs.number4.Reads as number4-reads
-use Rattle.eval.proofs.comparison.compare.Reads as compare-reads
-use Rattle.eval.proofs.cycle.first_code.Reads as first-code-reads
-use Rattle.eval.proofs.instruction.instruction.Reads as instruction-reads
+use Rattle.code.proofs.number4.Reads as number4
+use Rattle.eval.proofs.comparison.compare.Reads as compare
+use Rattle.eval.proofs.cycle.first_code.Reads as first-code
+use Rattle.eval.proofs.instruction.instruction.Reads as instruction
 use Rattle.eval.proofs.cycle.+eval_code+eval_codes+eval_if_else+eval_while.{statement}
 use Rattle.eval.proofs.cycle.+eval_code+eval_codes+eval_if_else+eval_while.Tie.{close}
 
-abbrev μ-eval-code : Measures 7 eval-code-kinds.ps ℕ
-μ-eval-code κs a = a .1 .1 .0 + (length (a .0 .now) - a .1 .0 - 1)
+-- what a code and a structure take: the bytes, the place, the fuel and the rest; a list of codes takes its end behind its place
+abbrev one : List (PK 7)
+one = eval-code-kinds.ps
 
-abbrev μ-eval-codes : Measures 7 eval-codes-kinds.ps ℕ
-μ-eval-codes κs a = a .1 .1 .1 .0 + (length (a .0 .now) - a .1 .0)
+abbrev list : List (PK 7)
+list = eval-codes-kinds.ps
 
-abbrev μ-eval-if-else : Measures 7 eval-if-else-kinds.ps ℕ
-μ-eval-if-else κs a = a .1 .1 .0 + (length (a .0 .now) - a .1 .0 - 5)
+-- the measure of a code, of what stands behind a structure's first length, and of a list
+abbrev of-code : Measures 7 one ℕ
+of-code κs a = a .1 .1 .0 + (length (a .0 .now) - (a .1 .0 + 1))
 
-abbrev μ-eval-while : Measures 7 eval-while-kinds.ps ℕ
-μ-eval-while κs a = a .1 .1 .0 + (length (a .0 .now) - a .1 .0 - 5)
+abbrev of-parts : Measures 7 one ℕ
+of-parts κs a = a .1 .1 .0 + (length (a .0 .now) - (a .1 .0 + 5))
 
-abbrev eval-code-at : ℕ → In 7 eval-code-kinds.ps
-eval-code-at t = and 7 eval-code-kinds.ps (is 7 eval-code-kinds.ps μ-eval-code t) eval-code.Pre
+abbrev of-codes : Measures 7 list ℕ
+of-codes κs a = a .1 .1 .1 .0 + (length (a .0 .now) - a .1 .0)
 
-abbrev eval-code-below : ℕ → In 7 eval-code-kinds.ps
-eval-code-below t =
-    and 7 eval-code-kinds.ps (falls 7 eval-code-kinds.ps _<_ μ-eval-code t) eval-code.Pre
+-- what a function asks where its measure is t, and what a caller of measure t has to show
+abbrev at : (ps : List (PK 7)) → Measures 7 ps ℕ → In 7 ps → ℕ → In 7 ps
+at ps μ pre t = and 7 ps (is 7 ps μ t) pre
 
-abbrev eval-codes-at : ℕ → In 7 eval-codes-kinds.ps
-eval-codes-at t =
-    and 7 eval-codes-kinds.ps (is 7 eval-codes-kinds.ps μ-eval-codes t) eval-codes.Pre
+abbrev below : (ps : List (PK 7)) → Measures 7 ps ℕ → In 7 ps → ℕ → In 7 ps
+below ps μ pre t = and 7 ps (falls 7 ps _<_ μ t) pre
 
-abbrev eval-codes-below : ℕ → In 7 eval-codes-kinds.ps
-eval-codes-below t =
-    and 7 eval-codes-kinds.ps (falls 7 eval-codes-kinds.ps _<_ μ-eval-codes t) eval-codes.Pre
-
-abbrev eval-if-else-at : ℕ → In 7 eval-if-else-kinds.ps
-eval-if-else-at t =
-    and 7 eval-if-else-kinds.ps (is 7 eval-if-else-kinds.ps μ-eval-if-else t) eval-if-else.Pre
-
-abbrev eval-if-else-below : ℕ → In 7 eval-if-else-kinds.ps
-eval-if-else-below t =
-    and
-    7
-    eval-if-else-kinds.ps
-    (falls 7 eval-if-else-kinds.ps _<_ μ-eval-if-else t)
-    eval-if-else.Pre
-
-abbrev eval-while-at : ℕ → In 7 eval-while-kinds.ps
-eval-while-at t =
-    and 7 eval-while-kinds.ps (is 7 eval-while-kinds.ps μ-eval-while t) eval-while.Pre
-
-abbrev eval-while-below : ℕ → In 7 eval-while-kinds.ps
-eval-while-below t =
-    and 7 eval-while-kinds.ps (falls 7 eval-while-kinds.ps _<_ μ-eval-while t) eval-while.Pre
-
-abbrev eval-code-claims : ℕ → eval-code-lts.Claims
-eval-code-claims t = (
-  number4-reads.Asked,
-  number4-reads.Learnt,
-  eval-codes-below t,
+-- each function: its callees' claims, and what it leaves to show, in the order of its code and a line a statement
+abbrev code-claims : ℕ → eval-code-lts.Claims
+code-claims t = (
+  number4.Asked,
+  number4.Learnt,
+  below list of-codes eval-codes.Pre t,
   eval-codes.Post,
-  eval-if-else-below t,
+  below one of-parts eval-if-else.Pre t,
   eval-if-else.Post,
-  eval-while-below t,
+  below one of-parts eval-while.Pre t,
   eval-while.Post,
 )
 
-abbrev eval-codes-claims : ℕ → eval-codes-lts.Claims
-eval-codes-claims t = (instruction-reads.Asked, instruction-reads.Learnt, eval-code-below t, eval-code.Post)
+code-meets : {M : Type 1} (t : ℕ) → eval-code-lts.Closed (code-claims t) (at one of-code eval-code.Pre t) eval-code.Post M
+code-meets t =
+    eval-code-lts.spec (code-claims t) (at one of-code eval-code.Pre t) eval-code.Post
+    (λ c. search starts)
+    (λ c. search behind-fits)
+    (λ c. search length-fits) (λ c κs. search length-inside) (λ c. search block-fits)
+    (λ c κs. (search behind-less, (search codes-of-block, search))) (λ c. search) (λ c. search block-done)
+    (λ c κs. (search behind-less, (search, (search, search)))) (λ c. search) (λ c. search)
+    (λ c κs. (search behind-less, (search, (search while-kind, search)))) (λ c. search) (λ c. search)
 
-abbrev eval-if-else-claims : ℕ → eval-if-else-lts.Claims
-eval-if-else-claims t = (
-  compare-reads.Asked,
-  compare-reads.Learnt,
-  number4-reads.Asked,
-  number4-reads.Learnt,
-  first-code-reads.Asked,
-  first-code-reads.Learnt,
-  eval-codes-below t,
-  eval-codes.Post,
-)
+abbrev codes-claims : ℕ → eval-codes-lts.Claims
+codes-claims t = (instruction.Asked, instruction.Learnt, below one of-code eval-code.Pre t, eval-code.Post)
 
-abbrev eval-while-claims : ℕ → eval-while-lts.Claims
-eval-while-claims t = (
-  compare-reads.Asked,
-  compare-reads.Learnt,
-  number4-reads.Asked,
-  number4-reads.Learnt,
-  first-code-reads.Asked,
-  first-code-reads.Learnt,
-  eval-codes-below t,
-  eval-codes.Post,
-)
-
-eval-code-shared-slice-read-kind : (t : ℕ) → eval-code-lts.Need-shared-slice-read-kind (eval-code-claims t) (eval-code-at t) eval-code.Post
-eval-code-shared-slice-read-kind t c =
-    let s = c .before .before .before .before .before in
-    starts _ _ (s .pre .1 .0)
-
-eval-code-add-from : (t : ℕ) → eval-code-lts.Need-add-from (eval-code-claims t) (eval-code-at t) eval-code.Post
-eval-code-add-from t c =
-    let s = c .before .before .before .before .before .before in
-    omega (arith, has-length _ _ (s .pre .1 .0) (s .pre .1 .1 .0))
-
-eval-code-add-number4 : (t : ℕ) → eval-code-lts.Need-add-number4 (eval-code-claims t) (eval-code-at t) eval-code.Post
-eval-code-add-number4 t c =
-    let s = c .before .before .before .before .before .before in
-    omega (arith, has-length _ _ (s .pre .1 .0) (s .pre .1 .1 .0))
-
-eval-code-number4-requires : (t : ℕ) → eval-code-lts.Need-number4-requires (eval-code-claims t) (eval-code-at t) eval-code.Post
-eval-code-number4-requires t c κs =
-    let s = c .before .before .before .before .before .before in
-    omega (arith, has-length _ _ (s .pre .1 .0) (s .pre .1 .1 .0))
-
-eval-code-add-end : (t : ℕ) → eval-code-lts.Need-add-end (eval-code-claims t) (eval-code-at t) eval-code.Post
-eval-code-add-end t c =
-    let s = c .before .before .before .before .before .before .before in
-    let if1 = c .before .if1 in
-    let size = c .number4 in
-    omega (arith, block-inside _ _ (s .pre .1 .0) (if1 .taken), size .ensures .0)
-
-eval-code-eval-codes-requires : (t : ℕ) → eval-code-lts.Need-eval-codes-requires (eval-code-claims t) (eval-code-at t) eval-code.Post
-eval-code-eval-codes-requires t c κs =
-    let back8 = c .before .before .before .before .before .before .before .before in
-    let s = back8 .before .before .before in
-    let size = c .before .before .before .before .number4 in
-    let if1 = c .before .before .before .before .before .if1 in
-    let end = ap (λ (n : ℕ). s .args .at + 5 + n) (size .ensures .0) in
-    let w = has-length _ _ (s .pre .1 .0) (s .pre .1 .1 .0) in
-    (omega (arith, s .pre .0, w), (block-codes _ _ _ (if1 .taken) end (s .pre .1 .0), s .pre .1 .1 .1))
-
-eval-code-same-length : (t : ℕ) → eval-code-lts.Need-same-length (eval-code-claims t) (eval-code-at t) eval-code.Post
-eval-code-same-length t c =
-    let ran = c .before .before .eval-codes in
-    ran .kept .1 .1 .1 .1 .1 .1 .1 .1 .1 .1 .0
-
-eval-code-returns : (t : ℕ) → eval-code-lts.Need-returns (eval-code-claims t) (eval-code-at t) eval-code.Post
-eval-code-returns t c =
-    let back8 = c .before .before .before .before .before .before .before .before in
-    let s = back8 .before .before .before .before .before .before in
-    let size = c .before .before .before .before .before .before .before .number4 in
-    let if1 = c .before .before .before .before .before .before .before .before .if1 in
-    let ran = c .before .before .eval-codes in
-    let end = ap (λ (n : ℕ). s .args .at + 5 + n) (size .ensures .0) in
-    block-ran _ _ _ _ _ _ (if1 .taken) end (ran .result) _ (ran .ensures)
-
-eval-code-eval-if-else-requires : (t : ℕ) → eval-code-lts.Need-eval-if-else-requires (eval-code-claims t) (eval-code-at t) eval-code.Post
-eval-code-eval-if-else-requires t c κs =
-    let back8 = c .before .before .before .before .before .before .before .before in
-    let s = back8 .before .before .before in
-    let if2 = c .before .before .before .before .if2 in
-    let w = has-length _ _ (s .pre .1 .0) (s .pre .1 .1 .0) in
-    (omega (arith, s .pre .0, w), (s .pre .1 .0, (if2 .taken, s .pre .1 .1 .1)))
-
-eval-code-same-length-2 : (t : ℕ) → eval-code-lts.Need-same-length-2 (eval-code-claims t) (eval-code-at t) eval-code.Post
-eval-code-same-length-2 t c =
-    let ran = c .before .before .eval-if-else in
-    ran .kept .1 .1 .1 .1 .1 .1 .1 .1 .1 .0
-
-eval-code-returns-2 : (t : ℕ) → eval-code-lts.Need-returns-2 (eval-code-claims t) (eval-code-at t) eval-code.Post
-eval-code-returns-2 t c =
-    let ran = c .before .before .eval-if-else in
-    ran .ensures
-
-eval-code-eval-while-requires : (t : ℕ) → eval-code-lts.Need-eval-while-requires (eval-code-claims t) (eval-code-at t) eval-code.Post
-eval-code-eval-while-requires t c κs =
-    let back8 = c .before .before .before .before .before .before .before .before in
-    let s = back8 .before .before .before in
-    let if1 = c .before .before .before .before .before .if1 in
-    let if2 = c .before .before .before .before .if2 in
-    let w = has-length _ _ (s .pre .1 .0) (s .pre .1 .1 .0) in
-    let kind = code-frame _ _ (s .pre .1 .0) .kinds (s .pre .1 .1 .0) (if1 .left) (if2 .left) in
-    (omega (arith, s .pre .0, w), (s .pre .1 .0, (kind, s .pre .1 .1 .1)))
-
-eval-code-same-length-3 : (t : ℕ) → eval-code-lts.Need-same-length-3 (eval-code-claims t) (eval-code-at t) eval-code.Post
-eval-code-same-length-3 t c =
-    let ran = c .before .before .eval-while in
-    ran .kept .1 .1 .1 .1 .1 .1 .1 .1 .1 .0
-
-eval-code-returns-3 : (t : ℕ) → eval-code-lts.Need-returns-3 (eval-code-claims t) (eval-code-at t) eval-code.Post
-eval-code-returns-3 t c =
-    let ran = c .before .before .eval-while in
-    ran .ensures
-
-abbrev eval-codes-Inv-loop : eval-codes-lts.InvT-loop
-eval-codes-Inv-loop code from end fuel fill regs₀ xmms₀ flags₀ addresses tags values₀ next₀ regs xmms flags values next =
+abbrev Inv-codes : eval-codes-lts.InvT-loop
+Inv-codes code from end fuel fill regs₀ xmms₀ flags₀ addresses tags values₀ next₀ regs xmms flags values next =
     Going (environment addresses tags fill) code from end fuel (held regs₀ xmms₀ flags₀ values₀) next (held regs xmms flags values)
 
-abbrev eval-codes-μ-loop : eval-codes-lts.MeasureT-loop
-eval-codes-μ-loop code from end fuel fill regs₀ xmms₀ flags₀ addresses tags values₀ next₀ regs xmms flags values next = end - next
+abbrev μ-codes : eval-codes-lts.MeasureT-loop
+μ-codes code from end fuel fill regs₀ xmms₀ flags₀ addresses tags values₀ next₀ regs xmms flags values next = end - next
 
-eval-codes-loop-holds :
-    (t : ℕ) → eval-codes-lts.Need-loop-holds (eval-codes-claims t) (eval-codes-at t) eval-codes.Post eval-codes-Inv-loop eval-codes-μ-loop
-eval-codes-loop-holds t c =
-    let s = c .before .before .before .before in
-    going-starts _ _ _ _ _ _ (s .pre .1 .0)
+codes-meets : {M : Type 1} (t : ℕ) → eval-codes-lts.Closed (codes-claims t) (at list of-codes eval-codes.Pre t) eval-codes.Post M
+codes-meets t =
+    eval-codes-lts.spec (codes-claims t) (at list of-codes eval-codes.Pre t) eval-codes.Post Inv-codes μ-codes
+    (λ c. search going-starts)
+    (λ c. search needs)
+    (λ c κs. search next-ins)
+    (λ c. search) (λ c. search (codes-stop, ins-ran))
+    (λ c. search rest-less-ins) (λ c. search (codes-go, ins-ran))
+    (λ c κs. (search next-less, (search next-code, (search, search))))
+    (λ c. search) (λ c. search codes-stop)
+    (λ c. search rest-less) (λ c. search codes-go)
+    (λ c. search) (λ c. search codes-done)
 
-eval-codes-shared-slice-read-if1 :
-    (t : ℕ) → eval-codes-lts.Need-shared-slice-read-if1 (eval-codes-claims t) (eval-codes-at t) eval-codes.Post eval-codes-Inv-loop eval-codes-μ-loop
-eval-codes-shared-slice-read-if1 t c =
-    let test = c .before .loop-test in
-    let s = c .before .before .before .before .before .before .before in
-    omega (arith, test .taken, s .pre .1 .0 .inside)
-
-eval-codes-instruction-requires :
-    (t : ℕ) → eval-codes-lts.Need-instruction-requires (eval-codes-claims t) (eval-codes-at t) eval-codes.Post eval-codes-Inv-loop eval-codes-μ-loop
-eval-codes-instruction-requires t c κs =
-    let back8 = c .before .before .before .before .before .before .before .before in
-    let l = c .before .before .before .before .before .before .before .loop in
-    let test = c .before .before .before .before .before .before .loop-test in
-    let s = back8 .before .before .before .before in
-    let if1 = c .before .before .before .before .if1 in
-    let w = next-there _ _ _ _ _ _ _ _ (l .inv) (test .taken) (s .pre .1 .0 .inside) in
-    ((w .end, code-frame _ _ w .ins (if1 .taken), w .inside), still-cells _ _ _ _ (s .pre .1 .1) (l .inv .long))
-
-eval-codes-same-length :
-    (t : ℕ) → eval-codes-lts.Need-same-length (eval-codes-claims t) (eval-codes-at t) eval-codes.Post eval-codes-Inv-loop eval-codes-μ-loop
-eval-codes-same-length t c =
-    let back8 = c .before .before .before .before .before .before .before .before in
-    let ran = c .before .before .before .before .instruction in
-    let l = back8 .before .before .before .before .loop in
-    ran .kept .1 .1 .1 .1 .1 .1 .1 .1 .0 ∙ l .inv .long
-
-eval-codes-returns :
-    (t : ℕ) → eval-codes-lts.Need-returns (eval-codes-claims t) (eval-codes-at t) eval-codes.Post eval-codes-Inv-loop eval-codes-μ-loop
-eval-codes-returns t c =
-    let back8 = c .before .before .before .before .before .before .before .before in
-    let if1 = back8 .before .if1 in
-    let ran = c .before .before .before .before .instruction in
-    let l = back8 .before .before .before .before .loop in
-    let test = back8 .before .before .before .loop-test in
-    let if2 = c .if2 in
-    let went = ins-ran _ _ _ _ _ _ _ (if1 .taken) (ran .ensures) in
-    codes-stop _ _ _ _ _ _ _ _ (l .inv) (ran .result) _ went (test .taken) (if2 .taken)
-
-eval-codes-loop-less :
-    (t : ℕ) → eval-codes-lts.Need-loop-less (eval-codes-claims t) (eval-codes-at t) eval-codes.Post eval-codes-Inv-loop eval-codes-μ-loop
-eval-codes-loop-less t c =
-    let back8 = c .before .before .before .before .before .before .before .before in
-    let l = back8 .before .before .before .before .loop in
-    let ran = c .before .before .before .before .instruction in
-    let if1 = back8 .before .if1 in
-    let test = back8 .before .before .before .loop-test in
-    let if2 = c .if2 in
-    let p =
-    next-past _ _ _ _ _ _ _ _ (l .inv) (ran .result) _ (ins-ran _ _ _ _ _ _ _ (if1 .taken) (ran .ensures))
-    (test .taken) (if2 .left)
-    in
-    omega (arith, p .0, p .1)
-
-eval-codes-loop-again :
-    (t : ℕ) → eval-codes-lts.Need-loop-again (eval-codes-claims t) (eval-codes-at t) eval-codes.Post eval-codes-Inv-loop eval-codes-μ-loop
-eval-codes-loop-again t c =
-    let back8 = c .before .before .before .before .before .before .before .before in
-    let if1 = back8 .before .if1 in
-    let ran = c .before .before .before .before .instruction in
-    let l = back8 .before .before .before .before .loop in
-    let test = back8 .before .before .before .loop-test in
-    let if2 = c .if2 in
-    let went = ins-ran _ _ _ _ _ _ _ (if1 .taken) (ran .ensures) in
-    codes-go _ _ _ _ _ _ _ _ (l .inv) (ran .result) _ went (test .taken) (if2 .left)
-    (ran .kept .1 .1 .1 .1 .1 .1 .1 .1 .0)
-
-eval-codes-eval-code-requires :
-    (t : ℕ) → eval-codes-lts.Need-eval-code-requires (eval-codes-claims t) (eval-codes-at t) eval-codes.Post eval-codes-Inv-loop eval-codes-μ-loop
-eval-codes-eval-code-requires t c κs =
-    let back8 = c .before .before .before .before .before .before .before .before in
-    let l = c .before .before .before .before .before .before .before .loop in
-    let test = c .before .before .before .before .before .before .loop-test in
-    let s = back8 .before .before .before .before in
-    let if1 = c .before .before .before .before .if1 in
-    let w = next-there _ _ _ _ _ _ _ _ (l .inv) (test .taken) (s .pre .1 .0 .inside) in (
-      omega (arith, s .pre .0, starts _ _ w, l .inv .past),
-      (w, (if1 .left, still-cells _ _ _ _ (s .pre .1 .1) (l .inv .long))),
-    )
-
-eval-codes-same-length-2 :
-    (t : ℕ) → eval-codes-lts.Need-same-length-2 (eval-codes-claims t) (eval-codes-at t) eval-codes.Post eval-codes-Inv-loop eval-codes-μ-loop
-eval-codes-same-length-2 t c =
-    let back8 = c .before .before .before .before .before .before .before .before in
-    let ran = c .before .before .before .before .eval-code in
-    let l = back8 .before .before .before .before .loop in
-    ran .kept .1 .1 .1 .1 .1 .1 .1 .1 .1 .0 ∙ l .inv .long
-
-eval-codes-returns-2 :
-    (t : ℕ) → eval-codes-lts.Need-returns-2 (eval-codes-claims t) (eval-codes-at t) eval-codes.Post eval-codes-Inv-loop eval-codes-μ-loop
-eval-codes-returns-2 t c =
-    let back8 = c .before .before .before .before .before .before .before .before in
-    let l = back8 .before .before .before .before .loop in
-    let ran = c .before .before .before .before .eval-code in
-    let test = back8 .before .before .before .loop-test in
-    let if3 = c .if3 in
-    codes-stop _ _ _ _ _ _ _ _ (l .inv) (ran .result) _ (ran .ensures) (test .taken) (if3 .taken)
-
-eval-codes-loop-less-2 :
-    (t : ℕ) → eval-codes-lts.Need-loop-less-2 (eval-codes-claims t) (eval-codes-at t) eval-codes.Post eval-codes-Inv-loop eval-codes-μ-loop
-eval-codes-loop-less-2 t c =
-    let back8 = c .before .before .before .before .before .before .before .before in
-    let l = back8 .before .before .before .before .loop in
-    let ran = c .before .before .before .before .eval-code in
-    let test = back8 .before .before .before .loop-test in
-    let if3 = c .if3 in
-    let p = next-past _ _ _ _ _ _ _ _ (l .inv) (ran .result) _ (ran .ensures) (test .taken) (if3 .left) in
-    omega (arith, p .0, p .1)
-
-eval-codes-loop-again-2 :
-    (t : ℕ) → eval-codes-lts.Need-loop-again-2 (eval-codes-claims t) (eval-codes-at t) eval-codes.Post eval-codes-Inv-loop eval-codes-μ-loop
-eval-codes-loop-again-2 t c =
-    let back8 = c .before .before .before .before .before .before .before .before in
-    let l = back8 .before .before .before .before .loop in
-    let ran = c .before .before .before .before .eval-code in
-    let test = back8 .before .before .before .loop-test in
-    let if3 = c .if3 in
-    codes-go _ _ _ _ _ _ _ _ (l .inv) (ran .result) _ (ran .ensures) (test .taken) (if3 .left)
-    (ran .kept .1 .1 .1 .1 .1 .1 .1 .1 .1 .0)
-
-eval-codes-same-length-3 :
-    (t : ℕ) → eval-codes-lts.Need-same-length-3 (eval-codes-claims t) (eval-codes-at t) eval-codes.Post eval-codes-Inv-loop eval-codes-μ-loop
-eval-codes-same-length-3 t c =
-    let l = c .before .loop in
-    l .inv .long
-
-eval-codes-returns-3 :
-    (t : ℕ) → eval-codes-lts.Need-returns-3 (eval-codes-claims t) (eval-codes-at t) eval-codes.Post eval-codes-Inv-loop eval-codes-μ-loop
-eval-codes-returns-3 t c =
-    let l = c .before .loop in
-    let test = c .loop-test in
-    codes-done _ _ _ _ _ _ _ _ (l .inv) (test .left)
-
-eval-if-else-add-test : (t : ℕ) → eval-if-else-lts.Need-add-test (eval-if-else-claims t) (eval-if-else-at t) eval-if-else.Post
-eval-if-else-add-test t c =
-    let s = c .before .before .before .before in
-    let w = choice-inside _ _ (s .pre .1 .0) (s .pre .1 .1 .0) in
-    omega arith
-
-eval-if-else-compare-requires : (t : ℕ) → eval-if-else-lts.Need-compare-requires (eval-if-else-claims t) (eval-if-else-at t) eval-if-else.Post
-eval-if-else-compare-requires t c κs =
-    let s = c .before .before .before .before .before .before .before in
-    let w = choice-inside _ _ (s .pre .1 .0) (s .pre .1 .1 .0) in
-    ((w .mid, w .stands, omega (arith, w .within)), s .pre .1 .1 .1)
-
-eval-if-else-same-length : (t : ℕ) → eval-if-else-lts.Need-same-length (eval-if-else-claims t) (eval-if-else-at t) eval-if-else.Post
-eval-if-else-same-length t c = refl
-
-eval-if-else-returns : (t : ℕ) → eval-if-else-lts.Need-returns (eval-if-else-claims t) (eval-if-else-at t) eval-if-else.Post
-eval-if-else-returns t c =
-    let back8 = c .before .before .before .before .before .before .before .before in
-    let x = c .before .before .compare in
-    let s = back8 .before .before in
-    let if1 = c .if1 in
-    if-unread _ _ _ _ _ (s .pre .1 .1 .0) (x .result) _ (x .ensures (s .args .xmms .now)) (if1 .taken)
-
-eval-if-else-add-number4 : (t : ℕ) → eval-if-else-lts.Need-add-number4 (eval-if-else-claims t) (eval-if-else-at t) eval-if-else.Post
-eval-if-else-add-number4 t c =
-    let back8 = c .before .before .before .before .before .before .before .before in
-    let s = back8 .before .before in
-    let w = choice-inside _ _ (s .pre .1 .0) (s .pre .1 .1 .0) in
-    omega arith
-
-eval-if-else-number4-requires : (t : ℕ) → eval-if-else-lts.Need-number4-requires (eval-if-else-claims t) (eval-if-else-at t) eval-if-else.Post
-eval-if-else-number4-requires t c κs =
-    let back8 = c .before .before .before .before .before .before .before .before in
-    let s = back8 .before .before in
-    let w = choice-inside _ _ (s .pre .1 .0) (s .pre .1 .1 .0) in
-    omega arith
-
-eval-if-else-add-second : (t : ℕ) → eval-if-else-lts.Need-add-second (eval-if-else-claims t) (eval-if-else-at t) eval-if-else.Post
-eval-if-else-add-second t c =
-    let back8 = c .before .before .before .before .before .before .before .before in
-    let s = back8 .before .before .before in
-    let x = c .before .before .before .compare in
-    let size = c .number4 in
-    let w = choice-inside _ _ (s .pre .1 .0) (s .pre .1 .1 .0) in
-    let next = x .ensures (s .args .xmms .now) (w .mid) (w .stands) .next in
-    omega (arith, w .within, next, size .ensures .0)
-
-eval-if-else-add-number4-2 : (t : ℕ) → eval-if-else-lts.Need-add-number4-2 (eval-if-else-claims t) (eval-if-else-at t) eval-if-else.Post
-eval-if-else-add-number4-2 t c =
-    let back8 = c .before .before .before .before .before .before .before .before in
-    let s = back8 .before .before .before in
-    let w = choice-inside _ _ (s .pre .1 .0) (s .pre .1 .1 .0) in
-    omega arith
-
-eval-if-else-number4-requires-2 : (t : ℕ) → eval-if-else-lts.Need-number4-requires-2 (eval-if-else-claims t) (eval-if-else-at t) eval-if-else.Post
-eval-if-else-number4-requires-2 t c κs =
-    let back8 = c .before .before .before .before .before .before .before .before in
-    let s = back8 .before .before .before in
-    let w = choice-inside _ _ (s .pre .1 .0) (s .pre .1 .1 .0) in
-    omega arith
-
-eval-if-else-add-end : (t : ℕ) → eval-if-else-lts.Need-add-end (eval-if-else-claims t) (eval-if-else-at t) eval-if-else.Post
-eval-if-else-add-end t c =
-    let back8 = c .before .before .before .before .before .before .before .before in
-    let s = back8 .before .before .before .before in
-    let x = c .before .before .before .before .compare in
-    let size = c .before .number4 in
-    let other = c .number42 in
-    let w = choice-inside _ _ (s .pre .1 .0) (s .pre .1 .1 .0) in
-    let next = x .ensures (s .args .xmms .now) (w .mid) (w .stands) .next in
-    omega (arith, w .within, next, size .ensures .0, other .ensures .0)
+abbrev if-else-claims : ℕ → eval-if-else-lts.Claims
+if-else-claims t = (
+  compare.Asked,
+  compare.Learnt,
+  number4.Asked,
+  number4.Learnt,
+  first-code.Asked,
+  first-code.Learnt,
+  below list of-codes eval-codes.Pre t,
+  eval-codes.Post,
+)
 
 -- the part that the comparison chose
-eval-if-else-chosen :
-    (t : ℕ) (c : eval-if-else-lts.Joined3 (eval-if-else-claims t) (eval-if-else-at t) eval-if-else.Post) →
-    let back8 = c .before .before .before .before .before .before .before .before in
-    let back16 = back8 .before .before .before .before .before .before .before .before in
-    let s = back16 in
-    let x = c .before .before .before .before .before .before .before .before .compare in
+branch :
+    (t : ℕ) (c : eval-if-else-lts.Joined3 (if-else-claims t) (at one of-parts eval-if-else.Pre t) eval-if-else.Post) →
+    let answer = c .before .before .before .before .before .before .before .before in
+    let a = answer .before .before .before .before .before .before .before .before .args in
+    let x = answer .compare in
     let size = c .before .before .before .before .before .number4 in
     let other = c .before .before .before .before .number42 in
-    let if2 = c .before .before .if2 in
-    Chosen (environment (s .args .addresses .now) (s .args .tags .now) (s .args .fill)) (s .args .code .now) (s .args .at)
-    (held (s .args .regs .now) (s .args .xmms .now) (s .args .flags .now) (s .args .values .now)) (x .result) (x .last .1 .1 .1 .1 .0)
-    (if2 .part) (c .if3 .behind) (x .result .next + size .result + other .result)
-eval-if-else-chosen t c =
-    let back8 = c .before .before .before .before .before .before .before .before in
-    let back16 = back8 .before .before .before .before .before .before .before .before in
-    let s = back16 in
-    let x = c .before .before .before .before .before .before .before .before .compare in
+    Branch (environment (a .addresses .now) (a .tags .now) (a .fill)) (a .code .now) (a .at) (a .fuel) t
+    (held (a .regs .now) (a .xmms .now) (a .flags .now) (a .values .now)) (x .result) (x .last .1 .1 .1 .1 .0)
+    (c .before .before .if2 .part) (c .if3 .behind) (x .result .next + size .result + other .result)
+branch t c =
+    let answer = c .before .before .before .before .before .before .before .before in
+    let start = answer .before .before .before .before .before .before .before .before in
+    let x = answer .compare in
     let size = c .before .before .before .before .before .number4 in
     let other = c .before .before .before .before .number42 in
-    let if2 = c .before .before .if2 in
     record {
-      kind = s .pre .1 .1 .0;
-      compared = x .ensures (s .args .xmms .now);
-      mid = x .result .next + size .result;
-      mid-is = ap (λ (n : ℕ). x .result .next + n) (size .ensures .0);
-      end-is = ap (λ (n : ℕ). x .result .next + size .result + n) (other .ensures .0);
-      way =
-          both-ways
-          (⊎-elim (λ h. inl (h .0 .taken, h .1)) (λ h. inr (h .0 .left, h .1)) (if2 .came))
-          (⊎-elim (λ h. inl (h .0 .taken, h .1)) (λ h. inr (h .0 .left, h .1)) (c .if3 .came));
+      chosen =
+          record {
+            kind = start .pre .1 .1 .0;
+            compared = x .ensures (start .args .xmms .now);
+            mid = x .result .next + size .result;
+            mid-is = ap (λ (n : ℕ). x .result .next + n) (size .ensures .0);
+            end-is = ap (λ (n : ℕ). x .result .next + size .result + n) (other .ensures .0);
+            way =
+                both-ways
+                (⊎-elim (λ h. inl (h .0 .taken, h .1)) (λ h. inr (h .0 .left, h .1)) (c .before .before .if2 .came))
+                (⊎-elim (λ h. inl (h .0 .taken, h .1)) (λ h. inr (h .0 .left, h .1)) (c .if3 .came));
+          };
+      code = start .pre .1 .0;
+      cells = start .pre .1 .1 .1;
+      measured = start .pre .0;
     }
 
-eval-if-else-first-code-requires : (t : ℕ) → eval-if-else-lts.Need-first-code-requires (eval-if-else-claims t) (eval-if-else-at t) eval-if-else.Post
-eval-if-else-first-code-requires t c κs =
-    let back8 = c .before .before .before .before .before .before .before .before in
-    let back16 = back8 .before .before .before .before .before .before .before .before in
-    let s = back16 in
-    chosen-there _ _ _ (s .args .fuel) _ _ _ _ _ _ (eval-if-else-chosen t c) (s .pre .1 .0) .0
+if-else-meets : {M : Type 1} (t : ℕ) → eval-if-else-lts.Closed (if-else-claims t) (at one of-parts eval-if-else.Pre t) eval-if-else.Post M
+if-else-meets t =
+    eval-if-else-lts.spec (if-else-claims t) (at one of-parts eval-if-else.Pre t) eval-if-else.Post
+    (λ c. search test-fits)
+    (λ c κs. search choice-test)
+    (λ c. search) (λ c. search choice-unread)
+    (λ c. search (length-fits, choice-structure)) (λ c κs. search (length-inside, choice-structure))
+    (λ c. let next = goes-on (c .before .before .before .compare .ensures) in search second-fits)
+    (λ c. search (behind-fits, choice-structure)) (λ c κs. search other-length-inside)
+    (λ c. let next = goes-on (c .before .before .before .before .compare .ensures) in search choice-fits)
+    (λ c κs. let w = branch t c in search branch-code)
+    (λ c κs. let w = branch t (c .before .before .before .before .before) in (search branch-less, (search branch-codes, search)))
+    (λ c. search)
+    (λ c. let w = branch t (c .before .before .before .before .before .before .before .before .before .before) in search branch-stops)
+    (λ c. search)
+    (λ c. let w = branch t (c .before .before .before .before .before .before .before .before .before .before) in search branch-done)
 
-eval-if-else-eval-codes-requires : (t : ℕ) → eval-if-else-lts.Need-eval-codes-requires (eval-if-else-claims t) (eval-if-else-at t) eval-if-else.Post
-eval-if-else-eval-codes-requires t c κs =
-    let back8 = c .before .before .before .before .before .before .before .before in
-    let back16 = back8 .before .before .before .before .before .before .before .before in
-    let s = back16 .before .before .before .before .before in
-    let joined = c .before .before .before .before .before in
-    let if2 = c .before .before .before .before .before .before .before .if2 in
-    let first = c .before .before .before .before .first-code in
-    let p = chosen-there _ _ _ (s .args .fuel) _ _ _ _ _ _ (eval-if-else-chosen t joined) (s .pre .1 .0) in (
-      omega (arith, s .pre .0, starts _ _ (p .0), p .2, codes-past (s .args .code .now) (if2 .part), first .ensures),
-      (rw (first .ensures) (p .1), s .pre .1 .1 .1),
-    )
+abbrev while-claims : ℕ → eval-while-lts.Claims
+while-claims t = (
+  compare.Asked,
+  compare.Learnt,
+  number4.Asked,
+  number4.Learnt,
+  first-code.Asked,
+  first-code.Learnt,
+  below list of-codes eval-codes.Pre t,
+  eval-codes.Post,
+)
 
-eval-if-else-same-length-2 : (t : ℕ) → eval-if-else-lts.Need-same-length-2 (eval-if-else-claims t) (eval-if-else-at t) eval-if-else.Post
-eval-if-else-same-length-2 t c =
-    let ran = c .before .before .before .before .eval-codes in
-    ran .kept .1 .1 .1 .1 .1 .1 .1 .1 .1 .1 .0
-
-eval-if-else-returns-2 : (t : ℕ) → eval-if-else-lts.Need-returns-2 (eval-if-else-claims t) (eval-if-else-at t) eval-if-else.Post
-eval-if-else-returns-2 t c =
-    let back8 = c .before .before .before .before .before .before .before .before in
-    let back16 = back8 .before .before .before .before .before .before .before .before in
-    let joined = back8 .before .before in
-    let if1 = back16 .if1 in
-    let ran = c .before .before .before .before .eval-codes in
-    let first = back8 .before .first-code in
-    let if4 = c .if4 in
-    chosen-ran _ _ _ _ _ _ _ _ _ _ (eval-if-else-chosen t joined) (if1 .left) (ran .result) _ (rw (first .ensures) at (ran .ensures))
-    (ran .result) refl (λ z. absurd (if4 .taken z))
-
-eval-if-else-same-length-3 : (t : ℕ) → eval-if-else-lts.Need-same-length-3 (eval-if-else-claims t) (eval-if-else-at t) eval-if-else.Post
-eval-if-else-same-length-3 t c =
-    let ran = c .before .before .before .before .eval-codes in
-    ran .kept .1 .1 .1 .1 .1 .1 .1 .1 .1 .1 .0
-
-eval-if-else-returns-3 : (t : ℕ) → eval-if-else-lts.Need-returns-3 (eval-if-else-claims t) (eval-if-else-at t) eval-if-else.Post
-eval-if-else-returns-3 t c =
-    let back8 = c .before .before .before .before .before .before .before .before in
-    let back16 = back8 .before .before .before .before .before .before .before .before in
-    let joined = back8 .before .before in
-    let if1 = back16 .if1 in
-    let ran = c .before .before .before .before .eval-codes in
-    let first = back8 .before .first-code in
-    let if4 = c .if4 in
-    chosen-ran _ _ _ _ _ _ _ _ _ _ (eval-if-else-chosen t joined) (if1 .left) (ran .result) _ (rw (first .ensures) at (ran .ensures))
-    _ (sym (how-done (ran .result) (if4 .left))) (λ _. refl)
-
-abbrev eval-while-Inv-loop : eval-while-lts.InvT-loop
-eval-while-Inv-loop code at fuel fill regs₀ xmms₀ flags₀ addresses tags values₀ left₀ regs xmms flags values left =
+abbrev Inv-while : eval-while-lts.InvT-loop
+Inv-while code at fuel fill regs₀ xmms₀ flags₀ addresses tags values₀ left₀ regs xmms flags values left =
     Looping (environment addresses tags fill) code at fuel (held regs₀ xmms₀ flags₀ values₀) left (held regs xmms flags values)
 
-abbrev eval-while-μ-loop : eval-while-lts.MeasureT-loop
-eval-while-μ-loop code at fuel fill regs₀ xmms₀ flags₀ addresses tags values₀ left₀ regs xmms flags values left = left
-
-eval-while-loop-holds :
-    (t : ℕ) → eval-while-lts.Need-loop-holds (eval-while-claims t) (eval-while-at t) eval-while.Post eval-while-Inv-loop eval-while-μ-loop
-eval-while-loop-holds t c = record { same = λ _ _ _. refl; long = refl; less = omega arith }
-
-eval-while-add-test :
-    (t : ℕ) → eval-while-lts.Need-add-test (eval-while-claims t) (eval-while-at t) eval-while.Post eval-while-Inv-loop eval-while-μ-loop
-eval-while-add-test t c =
-    let s = c .before .before .before .before .before .before in
-    let w = loop-inside _ _ (s .pre .1 .0) (s .pre .1 .1 .0) in
-    omega arith
-
-eval-while-compare-requires :
-    (t : ℕ) → eval-while-lts.Need-compare-requires (eval-while-claims t) (eval-while-at t) eval-while.Post eval-while-Inv-loop eval-while-μ-loop
-eval-while-compare-requires t c κs =
-    let back8 = c .before .before .before .before .before .before .before .before in
-    let s = back8 .before in
-    let l = c .before .before .before .before .loop in
-    let w = loop-inside _ _ (s .pre .1 .0) (s .pre .1 .1 .0) in
-    ((w .mid, w .stands, omega (arith, w .within)), still-cells _ _ _ _ (s .pre .1 .1 .1) (l .inv .long))
-
-eval-while-same-length :
-    (t : ℕ) → eval-while-lts.Need-same-length (eval-while-claims t) (eval-while-at t) eval-while.Post eval-while-Inv-loop eval-while-μ-loop
-eval-while-same-length t c =
-    let l = c .before .before .before .before .before .before .before .loop in
-    l .inv .long
-
-eval-while-returns :
-    (t : ℕ) → eval-while-lts.Need-returns (eval-while-claims t) (eval-while-at t) eval-while.Post eval-while-Inv-loop eval-while-μ-loop
-eval-while-returns t c =
-    let back8 = c .before .before .before .before .before .before .before .before in
-    let x = c .before .before .compare in
-    let s = back8 .before .before .before .before in
-    let l = c .before .before .before .before .before .before .before .loop in
-    let test = c .before .before .before .before .before .before .loop-test in
-    let if1 = c .if1 in
-    loop-ran _ _ _ _ _ _ _ (l .inv) _ _
-    (loop-unread _ _ _ (l .left) _ (s .pre .1 .1 .0) (test .taken) (x .result) _ (x .ensures (l .xmms)) (if1 .taken))
-    (λ _ _ _ z. absurd (omega (arith, z, if1 .taken)))
-
-eval-while-add-number4 :
-    (t : ℕ) → eval-while-lts.Need-add-number4 (eval-while-claims t) (eval-while-at t) eval-while.Post eval-while-Inv-loop eval-while-μ-loop
-eval-while-add-number4 t c =
-    let back8 = c .before .before .before .before .before .before .before .before in
-    let s = back8 .before .before .before .before in
-    let w = loop-inside _ _ (s .pre .1 .0) (s .pre .1 .1 .0) in
-    omega arith
-
-eval-while-number4-requires :
-    (t : ℕ) → eval-while-lts.Need-number4-requires (eval-while-claims t) (eval-while-at t) eval-while.Post eval-while-Inv-loop eval-while-μ-loop
-eval-while-number4-requires t c κs =
-    let back8 = c .before .before .before .before .before .before .before .before in
-    let s = back8 .before .before .before .before in
-    let w = loop-inside _ _ (s .pre .1 .0) (s .pre .1 .1 .0) in
-    omega arith
-
-eval-while-add-end :
-    (t : ℕ) → eval-while-lts.Need-add-end (eval-while-claims t) (eval-while-at t) eval-while.Post eval-while-Inv-loop eval-while-μ-loop
-eval-while-add-end t c =
-    let back8 = c .before .before .before .before .before .before .before .before in
-    let s = back8 .before .before .before .before .before in
-    let x = c .before .before .before .compare in
-    let l = c .before .before .before .before .before .before .before .before .loop in
-    let size = c .number4 in
-    let w = loop-inside _ _ (s .pre .1 .0) (s .pre .1 .1 .0) in
-    let next = x .ensures (l .xmms) (w .mid) (w .stands) .next in
-    omega (arith, w .within, next, size .ensures .0)
-
-eval-while-same-length-2 :
-    (t : ℕ) → eval-while-lts.Need-same-length-2 (eval-while-claims t) (eval-while-at t) eval-while.Post eval-while-Inv-loop eval-while-μ-loop
-eval-while-same-length-2 t c =
-    let back8 = c .before .before .before .before .before .before .before .before in
-    let l = back8 .before .before .loop in
-    l .inv .long
+abbrev μ-while : eval-while-lts.MeasureT-loop
+μ-while code at fuel fill regs₀ xmms₀ flags₀ addresses tags values₀ left₀ regs xmms flags values left = left
 
 -- the round that the comparison began
-eval-while-round :
-    (t : ℕ) (c : eval-while-lts.After-number4 (eval-while-claims t) (eval-while-at t) eval-while.Post eval-while-Inv-loop eval-while-μ-loop) →
-    let back8 = c .before .before .before .before .before .before .before .before in
-    let s = back8 .before .before .before .before .before in
-    let x = c .before .before .before .compare in
-    let l = c .before .before .before .before .before .before .before .before .loop in
-    Round (environment (s .args .addresses .now) (s .args .tags .now) (s .args .fill)) (s .args .code .now) (s .args .at) (l .left)
+turn :
+    (t : ℕ) (c : eval-while-lts.After-number4 (while-claims t) (at one of-parts eval-while.Pre t) eval-while.Post Inv-while μ-while) →
+    let answer = c .before .before .before in
+    let head = answer .before .before .before .before .before in
+    let a = head .before .before .before .before .before .args in
+    let x = answer .compare in
+    let l = head .loop in
+    Turn (environment (a .addresses .now) (a .tags .now) (a .fill)) (a .code .now) (a .at) (a .fuel) t
+    (held (a .regs .now) (a .xmms .now) (a .flags .now) (a .values .now)) (l .left)
     (held (l .regs) (l .xmms) (l .flags) (l .values)) (x .result) (x .last .1 .1 .1 .1 .0) (x .result .next + c .number4 .result)
-eval-while-round t c =
-    let back8 = c .before .before .before .before .before .before .before .before in
-    let s = back8 .before .before .before .before .before in
-    let x = c .before .before .before .compare in
-    let l = c .before .before .before .before .before .before .before .before .loop in
-    let test = c .before .before .before .before .before .before .before .loop-test in
+turn t c =
+    let answer = c .before .before .before in
+    let head = answer .before .before .before .before .before in
+    let start = head .before .before .before .before .before in
+    let x = answer .compare in
     record {
-      kind = s .pre .1 .1 .0;
-      some-fuel = test .taken;
-      compared = x .ensures (l .xmms);
-      end-is = ap (λ (n : ℕ). x .result .next + n) (c .number4 .ensures .0);
+      round =
+          record {
+            kind = start .pre .1 .1 .0;
+            some-fuel = answer .before .before .before .before .loop-test .taken;
+            compared = x .ensures (head .loop .xmms);
+            end-is = ap (λ (n : ℕ). x .result .next + n) (c .number4 .ensures .0);
+          };
+      looping = head .loop .inv;
+      code = start .pre .1 .0;
+      cells = start .pre .1 .1 .1;
+      measured = start .pre .0;
     }
 
-eval-while-returns-2 :
-    (t : ℕ) → eval-while-lts.Need-returns-2 (eval-while-claims t) (eval-while-at t) eval-while.Post eval-while-Inv-loop eval-while-μ-loop
-eval-while-returns-2 t c =
-    let back8 = c .before .before .before .before .before .before .before .before in
-    let x = c .before .before .before .before .before .compare in
-    let s = back8 .before .before .before .before .before .before .before in
-    let l = back8 .before .before .loop in
-    let test = back8 .before .loop-test in
-    let if2 = c .if2 in
-    let round = c .before .before in
-    loop-ran _ _ _ _ _ _ _ (l .inv) _ _
-    (loop-done _ _ _ (l .left) _ (s .pre .1 .1 .0) (test .taken) (x .result) _ (x .ensures (l .xmms)) (if2 .taken))
-    (λ d e h _. round-ends _ _ _ _ _ _ _ _ (eval-while-round t round) d e h)
-
-eval-while-sub-left :
-    (t : ℕ) → eval-while-lts.Need-sub-left (eval-while-claims t) (eval-while-at t) eval-while.Post eval-while-Inv-loop eval-while-μ-loop
-eval-while-sub-left t c =
-    let back8 = c .before .before .before .before .before .before .before .before in
-    let test = back8 .before .loop-test in
-    omega (arith, test .taken)
-
-eval-while-first-code-requires :
-    (t : ℕ) → eval-while-lts.Need-first-code-requires (eval-while-claims t) (eval-while-at t) eval-while.Post eval-while-Inv-loop eval-while-μ-loop
-eval-while-first-code-requires t c κs =
-    let back8 = c .before .before .before .before .before .before .before .before in
-    let s = back8 .before .before .before .before .before .before .before in
-    let round = c .before .before in
-    round-there _ _ _ _ _ _ _ _ (eval-while-round t round) (s .pre .1 .0) .0
-
-eval-while-eval-codes-requires :
-    (t : ℕ) → eval-while-lts.Need-eval-codes-requires (eval-while-claims t) (eval-while-at t) eval-while.Post eval-while-Inv-loop eval-while-μ-loop
-eval-while-eval-codes-requires t c κs =
-    let back8 = c .before .before .before .before .before .before .before .before in
-    let back16 = back8 .before .before .before .before .before .before .before .before in
-    let s = back16 .before .before .before .before in
-    let x = back8 .before .before .compare in
-    let l = back8 .before .before .before .before .before .before .before .loop in
-    let round = c .before .before .before .before .before .before .before in
-    let first = c .before .before .before .before .first-code in
-    let p = round-there _ _ _ _ _ _ _ _ (eval-while-round t round) (s .pre .1 .0) in
-    let later = codes-past (s .args .code .now) (x .result .next) in (
-      omega (arith, s .pre .0, starts _ _ (p .0), p .2, later, first .ensures, l .inv .less),
-      (rw (first .ensures) (p .1), still-cells _ _ _ _ (s .pre .1 .1 .1) (l .inv .long)),
-    )
-
-eval-while-same-length-3 :
-    (t : ℕ) → eval-while-lts.Need-same-length-3 (eval-while-claims t) (eval-while-at t) eval-while.Post eval-while-Inv-loop eval-while-μ-loop
-eval-while-same-length-3 t c =
-    let back8 = c .before .before .before .before .before .before .before .before in
-    let back16 = back8 .before .before .before .before .before .before .before .before in
-    let ran = c .before .before .before .before .eval-codes in
-    let l = back16 .before .before .before .before .loop in
-    ran .kept .1 .1 .1 .1 .1 .1 .1 .1 .1 .1 .0 ∙ l .inv .long
-
-eval-while-returns-3 :
-    (t : ℕ) → eval-while-lts.Need-returns-3 (eval-while-claims t) (eval-while-at t) eval-while.Post eval-while-Inv-loop eval-while-μ-loop
-eval-while-returns-3 t c =
-    let back8 = c .before .before .before .before .before .before .before .before in
-    let back16 = back8 .before .before .before .before .before .before .before .before in
-    let l = back16 .before .before .before .before .loop in
-    let round = back8 .before .before .before .before in
-    let if1 = back8 .before .before .before .before .before .if1 in
-    let if2 = back8 .before .before .if2 in
-    let ran = c .before .before .before .before .eval-codes in
-    let first = back8 .before .first-code in
-    let if3 = c .if3 in
-    loop-ran _ _ _ _ _ _ _ (l .inv) (ran .result) _
-    (round-stops _ _ _ _ _ _ _ _ (eval-while-round t round) (if1 .left) (if2 .left) (ran .result) _
-    (rw (first .ensures) at (ran .ensures)) (if3 .taken))
-    (λ _ _ _ z. absurd (if3 .taken z))
-
-eval-while-loop-less :
-    (t : ℕ) → eval-while-lts.Need-loop-less (eval-while-claims t) (eval-while-at t) eval-while.Post eval-while-Inv-loop eval-while-μ-loop
-eval-while-loop-less t c =
-    let back8 = c .before .before .before .before .before .before .before .before in
-    let back16 = back8 .before .before .before .before .before .before .before .before in
-    let test = back16 .before .before .before .loop-test in
-    omega (arith, test .taken)
-
-eval-while-loop-again :
-    (t : ℕ) → eval-while-lts.Need-loop-again (eval-while-claims t) (eval-while-at t) eval-while.Post eval-while-Inv-loop eval-while-μ-loop
-eval-while-loop-again t c =
-    let back8 = c .before .before .before .before .before .before .before .before in
-    let back16 = back8 .before .before .before .before .before .before .before .before in
-    let l = back16 .before .before .before .before .loop in
-    let round = back8 .before .before .before .before in
-    let if1 = back8 .before .before .before .before .before .if1 in
-    let if2 = back8 .before .before .if2 in
-    let ran = c .before .before .before .before .eval-codes in
-    let first = back8 .before .first-code in
-    let if3 = c .if3 in
-    record {
-      same = λ d e h.
-          l .inv .same d e h
-          ∙ round-goes _ _ _ _ _ _ _ _ (eval-while-round t round) (if1 .left) (if2 .left) (ran .result) _
-          (rw (first .ensures) at (ran .ensures)) (if3 .left) d e h;
-      long = ran .kept .1 .1 .1 .1 .1 .1 .1 .1 .1 .1 .0 ∙ l .inv .long;
-      less = omega (arith, l .inv .less);
-    }
-
-eval-while-same-length-4 :
-    (t : ℕ) → eval-while-lts.Need-same-length-4 (eval-while-claims t) (eval-while-at t) eval-while.Post eval-while-Inv-loop eval-while-μ-loop
-eval-while-same-length-4 t c =
-    let l = c .before .loop in
-    l .inv .long
-
-eval-while-returns-4 :
-    (t : ℕ) → eval-while-lts.Need-returns-4 (eval-while-claims t) (eval-while-at t) eval-while.Post eval-while-Inv-loop eval-while-μ-loop
-eval-while-returns-4 t c =
-    let l = c .before .loop in
-    let s = c .before .before .before .before .before .before in
-    let test = c .loop-test in
-    loop-ran _ _ _ _ _ _ _ (l .inv) _ _ (loop-spent _ _ _ (l .left) _ (s .pre .1 .1 .0) (test .left)) (λ _ _ _ z. absurd (omega arith))
+while-meets : {M : Type 1} (t : ℕ) → eval-while-lts.Closed (while-claims t) (at one of-parts eval-while.Pre t) eval-while.Post M
+while-meets t =
+    eval-while-lts.spec (while-claims t) (at one of-parts eval-while.Pre t) eval-while.Post Inv-while μ-while
+    (λ c. search loop-starts)
+    (λ c. search (behind-fits, loop-structure))
+    (λ c κs. search loop-test)
+    (λ c. search) (λ c. search loop-is-unread)
+    (λ c. search (length-fits, loop-structure)) (λ c κs. search (length-inside, loop-structure))
+    (λ c. let w = turn t c in search turn-fits)
+    (λ c. search) (λ c. let w = turn t (c .before .before) in search turn-done)
+    (λ c. search needs)
+    (λ c κs. let w = turn t (c .before .before) in search body-code)
+    (λ c κs.
+    let w = turn t (c .before .before .before .before .before .before .before) in
+    (search body-less, (search body-codes, search)))
+    (λ c. let w = turn t (c .before .before .before .before .before .before .before .before .before .before .before .before) in search)
+    (λ c. let w = turn t (c .before .before .before .before .before .before .before .before .before .before .before .before) in search turn-stops)
+    (λ c. search needs)
+    (λ c. let w = turn t (c .before .before .before .before .before .before .before .before .before .before .before .before) in search turn-goes)
+    (λ c. search) (λ c. search loop-is-spent)
 
 pub +eval-code+eval-codes+eval-if-else+eval-while-spec : {M : Type 1} → statement M
 +eval-code+eval-codes+eval-if-else+eval-while-spec =
-    close μ-eval-code μ-eval-codes μ-eval-if-else μ-eval-while (λ t. eval-code-lts.spec (
-      number4-reads.Asked,
-      number4-reads.Learnt,
-      eval-codes-below t,
-      eval-codes.Post,
-      eval-if-else-below t,
-      eval-if-else.Post,
-      eval-while-below t,
-      eval-while.Post,
-    )
-    (eval-code-at t)
-    eval-code.Post
-    (eval-code-shared-slice-read-kind t)
-    (eval-code-add-from t)
-    (eval-code-add-number4 t)
-    (eval-code-number4-requires t)
-    (eval-code-add-end t)
-    (eval-code-eval-codes-requires t)
-    (eval-code-same-length t)
-    (eval-code-returns t)
-    (eval-code-eval-if-else-requires t)
-    (eval-code-same-length-2 t)
-    (eval-code-returns-2 t)
-    (eval-code-eval-while-requires t)
-    (eval-code-same-length-3 t)
-    (eval-code-returns-3 t))
-    (λ t. eval-codes-lts.spec (
-      instruction-reads.Asked,
-      instruction-reads.Learnt,
-      eval-code-below t,
-      eval-code.Post,
-    )
-    (eval-codes-at t)
-    eval-codes.Post
-    eval-codes-Inv-loop
-    eval-codes-μ-loop
-    (eval-codes-loop-holds t)
-    (eval-codes-shared-slice-read-if1 t)
-    (eval-codes-instruction-requires t)
-    (eval-codes-same-length t)
-    (eval-codes-returns t)
-    (eval-codes-loop-less t)
-    (eval-codes-loop-again t)
-    (eval-codes-eval-code-requires t)
-    (eval-codes-same-length-2 t)
-    (eval-codes-returns-2 t)
-    (eval-codes-loop-less-2 t)
-    (eval-codes-loop-again-2 t)
-    (eval-codes-same-length-3 t)
-    (eval-codes-returns-3 t))
-    (λ t. eval-if-else-lts.spec (
-      compare-reads.Asked,
-      compare-reads.Learnt,
-      number4-reads.Asked,
-      number4-reads.Learnt,
-      first-code-reads.Asked,
-      first-code-reads.Learnt,
-      eval-codes-below t,
-      eval-codes.Post,
-    )
-    (eval-if-else-at t)
-    eval-if-else.Post
-    (eval-if-else-add-test t)
-    (eval-if-else-compare-requires t)
-    (eval-if-else-same-length t)
-    (eval-if-else-returns t)
-    (eval-if-else-add-number4 t)
-    (eval-if-else-number4-requires t)
-    (eval-if-else-add-second t)
-    (eval-if-else-add-number4-2 t)
-    (eval-if-else-number4-requires-2 t)
-    (eval-if-else-add-end t)
-    (eval-if-else-first-code-requires t)
-    (eval-if-else-eval-codes-requires t)
-    (eval-if-else-same-length-2 t)
-    (eval-if-else-returns-2 t)
-    (eval-if-else-same-length-3 t)
-    (eval-if-else-returns-3 t))
-    λ t. eval-while-lts.spec (
-      compare-reads.Asked,
-      compare-reads.Learnt,
-      number4-reads.Asked,
-      number4-reads.Learnt,
-      first-code-reads.Asked,
-      first-code-reads.Learnt,
-      eval-codes-below t,
-      eval-codes.Post,
-    )
-    (eval-while-at t)
-    eval-while.Post
-    eval-while-Inv-loop
-    eval-while-μ-loop
-    (eval-while-loop-holds t)
-    (eval-while-add-test t)
-    (eval-while-compare-requires t)
-    (eval-while-same-length t)
-    (eval-while-returns t)
-    (eval-while-add-number4 t)
-    (eval-while-number4-requires t)
-    (eval-while-add-end t)
-    (eval-while-same-length-2 t)
-    (eval-while-returns-2 t)
-    (eval-while-sub-left t)
-    (eval-while-first-code-requires t)
-    (eval-while-eval-codes-requires t)
-    (eval-while-same-length-3 t)
-    (eval-while-returns-3 t)
-    (eval-while-loop-less t)
-    (eval-while-loop-again t)
-    (eval-while-same-length-4 t)
-    (eval-while-returns-4 t)
+    close of-code of-codes of-parts of-parts code-meets codes-meets if-else-meets while-meets
