@@ -12,8 +12,8 @@ use lib.Dec.{eqb}
 use lib.ListN.{length}
 use Rattle.machine.specs.declared.Operand.{Operand}
 use Rattle.code.specs.declared.tree.Instruction.{Instruction}
-use Rattle.code.specs.declared.tree.Instruction.the-variants.{Mov64, Add64, AddLea64, AddCarry64, Adcx64, Adox64, Sub64, Mul64, Mulx64, IMul64, Xor64, And64, Shr64, Shl64, Paddd, Pxor, Pslld, Psrld, Pshufd, Pcmpeqd, Pextrq, Pinsrd, Pinsrq, VPSLLDQ}
-use Rattle.code.specs.Layout.{ins-of}
+use Rattle.code.specs.declared.tree.Instruction.the-variants.{AddLea64, Mul64, Mulx64, Paddd, Pxor, Pslld, Psrld, Pshufd, Pcmpeqd, Pextrq, Pinsrd, Pinsrq, VPSLLDQ}
+use Rattle.code.specs.Layout.{last-ins, ins-of}
 use Rattle.code.specs.Records.{between, is-ins, body-length, operand-count, register-fields, byte-at, operand-at, behind, bytes-at, operands-at, ins-at}
 use Rattle.code.specs.Spells.{Fields, Operands, OperandsFrom, Stands}
 use Rattle.code.specs.Families.{among, twos, is-two, two-ins, quads, is-quads, quads-ins, shifts, is-shifts, shifts-ins, inserts, is-inserts, inserts-ins}
@@ -23,15 +23,15 @@ use Rattle.code.proofs.Layouts.{Shape, shaped, shape-of}
 use Rattle.code.proofs.Frames.{inside}
 
 -- ---- which kinds are whose
-pub ins-kinds : {bs : List ℕ} {at e : ℕ} → Stands is-ins bs at e → (1 ≤ byte-at bs at) × (byte-at bs at ≤ 0x18)
-ins-kinds {bs} {at} {e} st = between-true 0x01 0x18 (byte-at bs at) (st .head .kind)
+pub ins-kinds : {bs : List ℕ} {at e : ℕ} → Stands is-ins bs at e → (1 ≤ byte-at bs at) × (byte-at bs at ≤ last-ins)
+ins-kinds {bs} {at} {e} st = between-true 0x01 last-ins (byte-at bs at) (st .head .kind)
 
 or-cases : (a b : Bool) → (a || b) ≡ true → (a ≡ true) ⊎ (b ≡ true)
 or-cases true b h = inl refl
 or-cases false b h = inr h
 
 -- what holds of each of some kinds
-abbrev EachOf : (ℕ → Type 0) → List ℕ → Type 0
+abbrev pub EachOf : (ℕ → Type 0) → List ℕ → Type 0
 EachOf P [] = Unit {0}
 EachOf P (n ∷ ns) = P n × EachOf P ns
 
@@ -52,29 +52,19 @@ among-passes f ns h k m = by-among (λ (n : ℕ). f n ≡ true) ns (all-pass ns 
     all-pass [] h = tt
     all-pass (n ∷ ns) h = let w = and-both (f n) (passes f ns) h in (w .0, all-pass ns (w .1))
 
--- the kinds of a destination and a source are those below 0F but AddLea64, Mul64 and Mulx64
-pub record TwoKind (k : ℕ) : Type 0 where
-  pub low : 1 ≤ k
-  pub high : k < 0x0f
-  pub no-lea : k ≡ 0x03 → ⊥
-  pub no-mul : k ≡ 0x08 → ⊥
-  pub no-mulx : k ≡ 0x09 → ⊥
+-- but for AddLea64, Mul64 and Mulx64, what is none of a destination and a source is a lane instruction
+two-or-lane : ℕ → Bool
+two-or-lane k = is-two k || (eqb k 0x03 || (eqb k 0x08 || (eqb k 0x09 || between 0x0f 0x18 k)))
 
-pub two-kind : (k : ℕ) → is-two k ≡ true → TwoKind k
-two-kind k h =
-    let w = between-true 0x01 0x0e k (among-passes (between 0x01 0x0e) twos refl k h) in
-    record {
-      low = w .0;
-      high = omega (arith, w .1);
-      no-lea = λ e. never (sym (subst (λ (n : ℕ). is-two n ≡ true) e h));
-      no-mul = λ e. never (sym (subst (λ (n : ℕ). is-two n ≡ true) e h));
-      no-mulx = λ e. never (sym (subst (λ (n : ℕ). is-two n ≡ true) e h));
-    }
-
-pub kind-two : (k : ℕ) → TwoKind k → is-two k ≡ true
-kind-two k w =
-    let t = within (λ (n : ℕ). eqb n 0x03 || (eqb n 0x08 || (eqb n 0x09 || is-two n))) 14 0x01 refl k (w .low) (omega (arith, w .high)) in
-    or-right _ _ (or-right _ _ (or-right _ _ t (ne-eqb k 0x03 (w .no-lea))) (ne-eqb k 0x08 (w .no-mul))) (ne-eqb k 0x09 (w .no-mulx))
+pub lane-kinds :
+    (k : ℕ) → is-ins k ≡ true → is-two k ≡ false → (k ≡ 0x03 → ⊥) → (k ≡ 0x08 → ⊥) → (k ≡ 0x09 → ⊥) → (0x0f ≤ k) × (k < 0x19)
+unfolding two-or-lane
+lane-kinds k is none lea mul mulx =
+    let w = between-true 0x01 last-ins k is in
+    let t = or-right _ _ (within two-or-lane last-ins 0x01 refl k (w .0) (omega arith)) none in
+    let l = or-right _ _ (or-right _ _ (or-right _ _ t (ne-eqb k 0x03 lea)) (ne-eqb k 0x08 mul)) (ne-eqb k 0x09 mulx) in
+    let v = between-true 0x0f 0x18 k l in
+    (v .0, omega arith)
 
 -- which kinds are those of two quads
 pub which-quads : (k : ℕ) → 0x0f ≤ k → (k < 0x11) ⊎ (k ≡ 0x14) → (k ≡ 0x0f) ⊎ ((k ≡ 0x10) ⊎ (k ≡ 0x14))
@@ -95,12 +85,8 @@ inserts-kind k l m = within is-inserts 2 0x16 refl k l m
 -- ---- what holds of each instruction of a family holds of the one of a kind
 pub by-two-ins :
     (P : ℕ → Instruction → Type 0) (a b : Operand) →
-    P 0x01 (Mov64 a b) → P 0x02 (Add64 a b) → P 0x04 (AddCarry64 a b) → P 0x05 (Adcx64 a b) → P 0x06 (Adox64 a b) → P 0x07 (Sub64 a b) →
-    P 0x0a (IMul64 a b) → P 0x0b (Xor64 a b) → P 0x0c (And64 a b) → P 0x0d (Shr64 a b) → P 0x0e (Shl64 a b) →
-    (k : ℕ) → is-two k ≡ true → P k (two-ins k a b)
-unfolding two-ins
-by-two-ins P a b p1 p2 p4 p5 p6 p7 pa pb pc pd pe k h =
-    by-among (λ (k : ℕ). P k (two-ins k a b)) twos (p1 ▹ p2 ▹ p4 ▹ p5 ▹ p6 ▹ p7 ▹ pa ▹ pb ▹ pc ▹ pd ▹ pe ▹ tt) k h
+    EachOf (λ k. P k (two-ins k a b)) twos → (k : ℕ) → is-two k ≡ true → P k (two-ins k a b)
+by-two-ins P a b each k h = by-among (λ k. P k (two-ins k a b)) twos each k h
 
 pub by-quads-ins :
     (P : ℕ → Instruction → Type 0) (dst src : ℕ) → P 0x0f (Paddd dst src) → P 0x10 (Pxor dst src) → P 0x14 (Pcmpeqd dst src) →
@@ -186,9 +172,9 @@ module _ (bs : List ℕ) (at e : ℕ) (st : Stands is-ins bs at e) (l : e ≤ le
   behind-kind : at + 1 + 0 ≡ at + 1
   behind-kind = omega arith
 
-  pub two-stood : (k : ℕ) → TwoKind k → byte-at bs at ≡ k → Stood bs at (two-ins k one two) 2 (at + 1)
+  pub two-stood : (k : ℕ) → is-two k ≡ true → byte-at bs at ≡ k → Stood bs at (two-ins k one two) 2 (at + 1)
   unfolding two-ins operands-at shaped same body-length operand-count register-fields
-  two-stood k w q = stood k 0 2 [] (shape-among twos 0 2 [] refl k (kind-two k w)) q (at + 1) behind-kind
+  two-stood k w q = stood k 0 2 [] (shape-among twos 0 2 [] refl k w) q (at + 1) behind-kind
 
   pub lea-stood : byte-at bs at ≡ 0x03 → Stood bs at (AddLea64 one two three) 3 (at + 1)
   unfolding operands-at shaped same body-length operand-count register-fields

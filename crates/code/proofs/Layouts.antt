@@ -14,7 +14,7 @@ use Rattle.code.specs.declared.tree.Instruction.{Instruction}
 use Rattle.code.specs.declared.tree.Instruction.the-variants.{Mov64, Add64, AddLea64, AddCarry64, Adcx64, Adox64, Sub64, Mul64, Mulx64, IMul64, Xor64, And64, Shr64, Shl64, Paddd, Pxor, Pslld, Psrld, Pshufd, Pcmpeqd, Pextrq, Pinsrd, Pinsrq, VPSLLDQ}
 use Rattle.code.specs.declared.tree.Ocmp.{Ocmp}
 use Rattle.code.specs.declared.tree.Ocmp.the-variants.{OEq, ONe, OLe, OGe, OLt, OGt}
-use Rattle.code.specs.Layout.{Byte, number, amount, Layout, laid, layout, ocmp-layout, values, numbers-from, ins-of, ocmp-of, shape}
+use Rattle.code.specs.Layout.{Byte, number, amount, Layout, laid, layout, ocmp-layout, values, numbers-from, ins-forms, last-ins, ins-of, ocmp-of, shape}
 use Rattle.code.specs.Records.{is-ins, is-ocmp, body-length, operand-count, register-fields}
 use Rattle.code.specs.WellFormed.{WfByte, WfOperand, All, WfLayout}
 use Rattle.code.proofs.Passing.{and-both, between-true}
@@ -49,6 +49,10 @@ unfolding agrees
 agreed allowed l h = let w = and-both _ _ h in record { right = w .0; shape = shape-of _ _ _ _ (w .1) }
 
 -- ---- what is read of a layout
+-- the list of the instructions ends at the last kind
+ins-listed : (b : ℕ → ℕ) (o : ℕ → Operand) → length (ins-forms b o) ≡ last-ins
+ins-listed b o = refl
+
 abbrev Told : Instruction → Type 0
 Told i = (agrees is-ins (layout i) ≡ true) × (ins-of (layout i .kind) (values (layout i .body)) (layout i .operands) ≡ i)
 
@@ -137,11 +141,8 @@ module _ (k : ℕ) (bytes : List ℕ) (os : List Operand) where
   pub ins-laid : is-ins k ≡ true → InsLaid k
   unfolding operand-count
   ins-laid h =
-      let w = between-true 0x01 0x18 k h in
-      each InsLaid 24 0x01
-      (refl ▹ refl ▹ refl ▹ refl ▹ refl ▹ refl ▹ refl ▹ refl ▹ refl ▹ refl ▹ refl ▹ refl
-      ▹ refl ▹ refl ▹ refl ▹ refl ▹ refl ▹ refl ▹ refl ▹ refl ▹ refl ▹ refl ▹ refl ▹ refl ▹ tt)
-      k (w .0) (omega (arith, w .1))
+      let w = between-true 0x01 last-ins k h in
+      each InsLaid last-ins 0x01 (search depth 40) k (w .0) (omega (arith, w .1))
 
   abbrev OcmpLaid : ℕ → Type 0
   OcmpLaid k = ocmp-layout (ocmp-of k os) ≡ laid k [] (firsts (operand-count k) os)

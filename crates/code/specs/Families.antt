@@ -1,12 +1,13 @@
 -- The families of instructions, each by its kinds: those of a destination and a source, of two quads, of a quad and an amount, and of a quad
 -- and an operand.
-use Prim.Native.Nat.{ℕ}
-use mathlib.Core.Bool.{Bool, false, cond, _||_}
+use Prim.Native.Nat.{ℕ, zero, suc}
+use mathlib.Core.Bool.{Bool, false, cond, _&&_, _||_}
 use mathlib.Core.List.{List, [], _∷_}
 use lib.Dec.{eqb}
+use lib.ListN.{length}
 use Rattle.machine.specs.declared.Operand.{Operand}
 use Rattle.code.specs.declared.tree.Instruction.{Instruction}
-use Rattle.code.specs.Layout.{ins-of}
+use Rattle.code.specs.Layout.{Layout, last-ins, ins-of, shape}
 
 -- the choice of a kind among two
 abbrev pub at-kind : {A : Type 0} → ℕ → ℕ → A → A → A
@@ -17,9 +18,18 @@ abbrev pub among : List ℕ → ℕ → Bool
 among [] k = false
 among (n ∷ ns) k = eqb k n || among ns k
 
--- the kinds of a destination and a source: Mov64, Add64, AddCarry64, Adcx64, Adox64, Sub64, IMul64, Xor64, And64, Shr64 and Shl64
+-- a layout of no body and two operands
+abbrev two-laid : Layout → Bool
+two-laid l = eqb (length (l .body)) 0 && eqb (length (l .operands)) 2
+
+-- the kinds so laid out among n from k on
+abbrev twos-from : ℕ → ℕ → List ℕ
+twos-from zero k = []
+twos-from (suc n) k = let rest = twos-from n (suc k) in cond (two-laid (shape k)) (k ∷ rest) rest
+
+-- the kinds of a destination and a source
 abbrev pub twos : List ℕ
-twos = 0x01 ∷ 0x02 ∷ 0x04 ∷ 0x05 ∷ 0x06 ∷ 0x07 ∷ 0x0a ∷ 0x0b ∷ 0x0c ∷ 0x0d ∷ 0x0e ∷ []
+twos = twos-from last-ins 0x01
 
 -- a kind of a destination and a source
 abbrev pub is-two : ℕ → Bool

@@ -76,7 +76,7 @@ numbers-from f (number n ∷ bytes) = f ∷ numbers-from (suc f) bytes
 numbers-from f (amount n ∷ bytes) = numbers-from (suc f) bytes
 
 -- the instructions in the order of their kinds, of a body's bytes and the operands, both in field order
-abbrev ins-forms : (ℕ → ℕ) → (ℕ → Operand) → List Instruction
+abbrev pub ins-forms : (ℕ → ℕ) → (ℕ → Operand) → List Instruction
 ins-forms b o =
     Mov64 (o 0) (o 1)
     ∷ Add64 (o 0) (o 1)
@@ -103,6 +103,10 @@ ins-forms b o =
     ∷ Pinsrq (b 0) (o 0) (b 1)
     ∷ VPSLLDQ (b 0) (b 1) (b 2)
     ∷ []
+
+-- the last kind of an instruction: the list above goes from 01 to it
+abbrev pub last-ins : ℕ
+last-ins = 0x18
 
 -- the instruction of a kind, of its body's bytes and its operands
 abbrev pub ins-of : ℕ → List ℕ → List Operand → Instruction

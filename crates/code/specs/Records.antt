@@ -12,15 +12,15 @@ use Rattle.machine.specs.declared.Operand.{Operand}
 use Rattle.machine.specs.declared.Operand.the-variants.{OConst, OReg, OMem}
 use Rattle.code.specs.declared.tree.Instruction.{Instruction}
 use Rattle.code.specs.declared.tree.Ocmp.{Ocmp}
-use Rattle.code.specs.Layout.{ins-of, ocmp-of, shape, ocmp-shape, numbers-from}
+use Rattle.code.specs.Layout.{last-ins, ins-of, ocmp-of, shape, ocmp-shape, numbers-from}
 
 -- the kinds of a range
 abbrev pub between : ℕ → ℕ → ℕ → Bool
 between low high k = leb low k && leb k high
 
--- 01 to 18 are the instructions
+-- 01 to the last kind are the instructions
 abbrev pub is-ins : ℕ → Bool
-is-ins k = between 0x01 0x18 k
+is-ins k = between 0x01 last-ins k
 
 -- 20 to 22 the structures
 abbrev pub is-structure : ℕ → Bool
