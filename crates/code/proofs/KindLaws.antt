@@ -1,7 +1,7 @@
 -- The kinds: each law holds at every byte, by the ranges of the definition or by one test that antt computes.
 -- Assumes nothing.
 use Prim.Native.Nat.{ℕ, zero, suc, _+_, _*_, _/_, _%_, _≤_, _<_}
-use mathlib.Core.Path.{_≡_, refl, subst}
+use mathlib.Core.Path.{_≡_, refl, sym, subst}
 use mathlib.Core.Bool.{Bool, true, false, not, _&&_, _||_}
 use mathlib.Core.List.{List, [], _∷_}
 use mathlib.Core.Logic.{_⊎_, inl, inr, ⊎-elim}
@@ -27,6 +27,19 @@ within f (suc n) low h k l m =
     (λ e. subst (λ (x : ℕ). f x ≡ true) e (w .0))
     (λ e. within f n (suc low) (w .1) k (omega arith) (omega arith))
     (eq-or-lt-of-le l)
+
+-- two tests that say the same at each of n numbers from low on
+abbrev pub alike : Bool → Bool → Bool
+alike true b = b
+alike false b = not b
+
+alike-true : (a b : Bool) → alike a b ≡ true → a ≡ b
+alike-true true b h = sym h
+alike-true false b h = sym (not-true b h)
+
+pub alike-within :
+    (f g : ℕ → Bool) (n low : ℕ) → all-from (λ x. alike (f x) (g x)) low n ≡ true → (k : ℕ) → low ≤ k → k < low + n → f k ≡ g k
+alike-within f g n low h k l m = alike-true (f k) (g k) (within (λ x. alike (f x) (g x)) n low h k l m)
 
 -- what holds of n numbers from low on
 abbrev pub Each : (ℕ → Type 0) → ℕ → ℕ → Type 0

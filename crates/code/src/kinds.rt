@@ -3,6 +3,7 @@ ghost use mathlib.Core.Path.{_≡_};
 ghost use mathlib.Core.Bool.{true};
 ghost use Prim.Native.Nat.{_<_};
 ghost use Rattle.code.specs.Records.{body-length, operand-count};
+ghost use Rattle.code.specs.Families.{is-two};
 ghost use Rattle.code.specs.Kinds.{class, is-used, entry-of, LastField};
 use crate::numbers::wide;
 
@@ -292,6 +293,17 @@ fn entry(kind: u8) -> usize
     ensures { λ r. ⌜ (r ≡ entry-of kind) × (r < 256) ⌝ }
 {
     wide(TABLE[wide(kind)])
+}
+
+// Bit k is set where k is the kind of an instruction of a destination and a source. A word of bits,
+// since the evaluator asks at each instruction and a load from the table costs more than a shift.
+const TWOS: u64 = 0b0111_1100_1111_0110;
+
+// Whether a kind is that of an instruction of a destination and a source.
+pub fn is_two(kind: u8) -> bool
+    ensures { λ r. ⌜ r ≡ is-two kind ⌝ }
+{
+    kind < 64 && ((TWOS >> kind) & 1) == 1
 }
 
 // The length of a kind's body.
