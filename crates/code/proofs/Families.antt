@@ -3,7 +3,7 @@
 use Prim.Native.Nat.{ℕ, zero, suc, _+_, _≤_, _<_}
 use mathlib.Core.Path.{_≡_, refl, sym, subst}
 use mathlib.Core.Bool.{Bool, true, false, _&&_, _||_}
-use mathlib.Core.List.{List, [], _∷_}
+use mathlib.Core.List.{List, [], _∷_, map}
 use mathlib.Core.Logic.{_⊎_, inl, inr, ⊎-elim}
 use native.Mathlib.Nat.{eq-or-lt-of-le}
 use native.Mathlib.Omega.{arith}
@@ -39,6 +39,19 @@ by-among : (P : ℕ → Type 0) (ns : List ℕ) → EachOf P ns → (k : ℕ) �
 by-among P [] h k m = absurd (never (sym m))
 by-among P (n ∷ ns) h k m =
     ⊎-elim (λ e. subst P (sym (eqb-true k n e)) (h .0)) (λ e. by-among P ns (h .1) k e) (or-cases (eqb k n) (among ns k) m)
+
+-- of each of some kinds two functions say the same where their lists of answers are equal, which antt computes
+pub same-among : {A : Type 0} (f g : ℕ → A) (ns : List ℕ) → map f ns ≡ map g ns → (k : ℕ) → among ns k ≡ true → f k ≡ g k
+same-among {A} f g ns h k m = by-among (λ (n : ℕ). f n ≡ g n) ns (each-same ns h) k m
+  where
+    each-same : (ns : List ℕ) → map f ns ≡ map g ns → EachOf (λ (n : ℕ). f n ≡ g n) ns
+    each-same [] h = tt
+    each-same (n ∷ ns) h = (cc, each-same ns (cc))
+
+-- a kind that is another than each of some is none of them
+pub none-among : (k : ℕ) (ns : List ℕ) → EachOf (λ (n : ℕ). k ≡ n → ⊥) ns → among ns k ≡ false
+none-among k [] h = refl
+none-among k (n ∷ ns) h = rw (ne-eqb k n (h .0)) (none-among k ns (h .1))
 
 -- a test that passes at each of some kinds
 abbrev passes : (ℕ → Bool) → List ℕ → Bool
