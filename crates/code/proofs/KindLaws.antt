@@ -9,6 +9,7 @@ use native.Mathlib.Nat.{eq-or-lt-of-le}
 use native.Mathlib.Omega.{arith}
 use borrow.Author.Tests.{lt-leb, ne-eqb, leb-true, eqb-true, not-true}
 use lib.Dec.{eqb, leb}
+use Rattle.code.specs.Layout.{last-ins}
 use Rattle.code.specs.Records.{between, is-ins, is-structure, is-code, is-ocmp, is-operand, body-length, operand-count, register-fields}
 use Rattle.code.specs.Kinds.{class, is-used, entry-of, fields-to, LastField}
 use Rattle.code.specs.declared.kinds.Class.the-variants.{Instruction, Structure, Comparison, Operand, Unused}
@@ -65,10 +66,10 @@ outside low high k (inr h) = and-none (leb low k) (leb k high) (lt-leb k high h)
 
 -- the instructions stand below the structures
 pub ins-below : (k : ℕ) → is-ins k ≡ true → k < 0x20
-ins-below k h = omega (arith, between-true 0x01 0x18 k h .1)
+ins-below k h = omega (arith, between-true 0x01 last-ins k h .1)
 
 pub no-ins : (k : ℕ) → 0x20 ≤ k → is-ins k ≡ false
-no-ins k l = outside 0x01 0x18 k (inr (omega arith))
+no-ins k l = outside 0x01 last-ins k (inr (omega arith))
 
 -- the class of each range, and of the gaps between them
 pub class-ins : (k : ℕ) → is-ins k ≡ true → class k ≡ Instruction

@@ -1,9 +1,9 @@
--- `code::kinds::entry` meets its contract: the table's rule is a test of each of its 256 entries, which antt computes.
--- Assumes nothing.
-use Prim.Native.Nat.{ℕ}
-use mathlib.Core.Path.{refl, _∙_, ap}
-use mathlib.Core.Bool.{Bool}
-use mathlib.Core.List.{List, [], _∷_}
+-- `code::kinds::entry` meets its contract: the table's rule is a test of each of its 256 entries, which antt computes. The table is taken from
+-- the code, where it is a local, so that no entry is said again here. Assumes nothing.
+use Prim.Native.Nat.{ℕ, _<_}
+use mathlib.Core.Path.{_≡_, refl, _∙_}
+use mathlib.Core.Bool.{Bool, true}
+use mathlib.Core.List.{List}
 use native.Mathlib.Omega.{arith}
 use borrow.Author.Needs.{needs}
 use borrow.Author.Tests.{eqb-true}
@@ -11,31 +11,20 @@ use lib.Dec.{eqb}
 use lib.ListN.{getD}
 use Rattle.code.specs.Records.{body-length, operand-count}
 use Rattle.code.specs.Kinds.{entry-of}
-use Rattle.code.proofs.KindLaws.{within}
+use Rattle.code.proofs.KindLaws.{all-from, within}
 use Rattle.code.proofs.kinds.entry.Statement.{statement}
+use Rattle.code.proofs.kinds.entry.Lts as lts
 use Rattle.code.proofs.kinds.entry.Tie as tie
 
-table : List ℕ
-table =
-    255 ∷ 2 ∷ 2 ∷ 3 ∷ 2 ∷ 2 ∷ 2 ∷ 2 ∷ 1 ∷ 3 ∷ 2 ∷ 2 ∷ 2 ∷ 2 ∷ 2 ∷ 8 ∷
-    8 ∷ 8 ∷ 8 ∷ 12 ∷ 8 ∷ 9 ∷ 9 ∷ 9 ∷ 12 ∷ 255 ∷ 255 ∷ 255 ∷ 255 ∷ 255 ∷ 255 ∷ 255 ∷
-    16 ∷ 32 ∷ 16 ∷ 255 ∷ 255 ∷ 255 ∷ 255 ∷ 255 ∷ 255 ∷ 255 ∷ 255 ∷ 255 ∷ 255 ∷ 255 ∷ 255 ∷ 255 ∷
-    2 ∷ 2 ∷ 2 ∷ 2 ∷ 2 ∷ 2 ∷ 255 ∷ 255 ∷ 255 ∷ 255 ∷ 255 ∷ 255 ∷ 255 ∷ 255 ∷ 255 ∷ 255 ∷
-    32 ∷ 4 ∷ 32 ∷ 36 ∷ 48 ∷ 255 ∷ 255 ∷ 255 ∷ 255 ∷ 255 ∷ 255 ∷ 255 ∷ 255 ∷ 255 ∷ 255 ∷ 255 ∷
-    255 ∷ 255 ∷ 255 ∷ 255 ∷ 255 ∷ 255 ∷ 255 ∷ 255 ∷ 255 ∷ 255 ∷ 255 ∷ 255 ∷ 255 ∷ 255 ∷ 255 ∷ 255 ∷
-    255 ∷ 255 ∷ 255 ∷ 255 ∷ 255 ∷ 255 ∷ 255 ∷ 255 ∷ 255 ∷ 255 ∷ 255 ∷ 255 ∷ 255 ∷ 255 ∷ 255 ∷ 255 ∷
-    255 ∷ 255 ∷ 255 ∷ 255 ∷ 255 ∷ 255 ∷ 255 ∷ 255 ∷ 255 ∷ 255 ∷ 255 ∷ 255 ∷ 255 ∷ 255 ∷ 255 ∷ 255 ∷
-    255 ∷ 255 ∷ 255 ∷ 255 ∷ 255 ∷ 255 ∷ 255 ∷ 255 ∷ 255 ∷ 255 ∷ 255 ∷ 255 ∷ 255 ∷ 255 ∷ 255 ∷ 255 ∷
-    255 ∷ 255 ∷ 255 ∷ 255 ∷ 255 ∷ 255 ∷ 255 ∷ 255 ∷ 255 ∷ 255 ∷ 255 ∷ 255 ∷ 255 ∷ 255 ∷ 255 ∷ 255 ∷
-    255 ∷ 255 ∷ 255 ∷ 255 ∷ 255 ∷ 255 ∷ 255 ∷ 255 ∷ 255 ∷ 255 ∷ 255 ∷ 255 ∷ 255 ∷ 255 ∷ 255 ∷ 255 ∷
-    255 ∷ 255 ∷ 255 ∷ 255 ∷ 255 ∷ 255 ∷ 255 ∷ 255 ∷ 255 ∷ 255 ∷ 255 ∷ 255 ∷ 255 ∷ 255 ∷ 255 ∷ 255 ∷
-    255 ∷ 255 ∷ 255 ∷ 255 ∷ 255 ∷ 255 ∷ 255 ∷ 255 ∷ 255 ∷ 255 ∷ 255 ∷ 255 ∷ 255 ∷ 255 ∷ 255 ∷ 255 ∷
-    255 ∷ 255 ∷ 255 ∷ 255 ∷ 255 ∷ 255 ∷ 255 ∷ 255 ∷ 255 ∷ 255 ∷ 255 ∷ 255 ∷ 255 ∷ 255 ∷ 255 ∷ 255 ∷
-    255 ∷ 255 ∷ 255 ∷ 255 ∷ 255 ∷ 255 ∷ 255 ∷ 255 ∷ 255 ∷ 255 ∷ 255 ∷ 255 ∷ 255 ∷ 255 ∷ 255 ∷ 255 ∷
-    255 ∷ 255 ∷ 255 ∷ 255 ∷ 255 ∷ 255 ∷ 255 ∷ 255 ∷ 255 ∷ 255 ∷ 255 ∷ 255 ∷ 255 ∷ 255 ∷ 255 ∷ 255 ∷ []
+-- what the entries of a table say where a computed test of each passes
+tested : List ℕ → ℕ → Bool
+tested table k = eqb (getD table k 0) (entry-of k)
 
-right : ℕ → Bool
-right k = eqb (getD table k 0) (entry-of k)
+entries-say :
+    (table : List ℕ) (k i r : ℕ) → r ≡ getD table i 0 → i ≡ k → all-from (tested table) 0 256 ≡ true → k < 256 → r ≡ entry-of k
+unfolding tested
+entries-say table k i r e f h m =
+    e ∙ rw f (eqb-true (getD table k 0) (entry-of k) (within (tested table) 256 0 h k (omega arith) (omega arith)))
 
 wide-requires : tie.Need-wide-requires
 wide-requires c κs = search needs
@@ -47,11 +36,13 @@ wide-requires-2 : tie.Need-wide-requires-2
 wide-requires-2 c κs = search needs
 
 returns : tie.Need-returns
-unfolding table right entry-of body-length operand-count
+unfolding tested entry-of body-length operand-count
 returns c =
     let k = c .before .before .args .kind in
-    let e = eqb-true (getD table k 0) (entry-of k) (within right 256 0 refl k (omega arith) (omega arith)) in
-    (c .wide2 .ensures .0 ∙ ap (λ (i : ℕ). getD table i 0) (c .before .wide .ensures .0) ∙ e, c .wide2 .ensures .1)
+    let read = c .wide2 .ensures in
+    let locals = lts.m6 _ _ _ (c .before .before) (lts.After-wide·gave _ _ _ (c .before)) in
+    let table = locals .1 .1 .0 in
+    (entries-say table k _ _ (read .0) (c .before .wide .ensures .0) refl (omega arith), read .1)
 
 pub entry-spec : {M : Type 1} → statement M
 entry-spec = tie.close (tie.spec wide-requires array-read-wide wide-requires-2 returns)
