@@ -72,19 +72,18 @@ module _ (env : Env) (bs : List ℕ) (from e fuel : ℕ) (s₀ : Config) (at : �
       (r : Exit) (t : Config) → RunsIns env bs at s r t → byte-at bs at < 0x20 → r .number ≡ 0 → e - r .place < e - at
   rest-less-ins r t ran k z = rest-less r t (ins-ran env bs at fuel s r t k ran) z
 
--- ---- a comparison, which answers x whatever the xmms hold
-abbrev Answers : List ℕ → List ℕ → ℕ → List ℕ → ℕ → List ℕ → ℕ → List ℕ → Compared → ℕ → Type 0
-Answers addresses tags fill bs at regs flags values x flags′ =
-    (xmms : List ℕ) → ComparesAt (environment addresses tags fill) bs at (held regs xmms flags values) x flags′
+-- ---- a comparison, which answers x whatever fill word, flags and xmms are
+abbrev Answers : List ℕ → List ℕ → List ℕ → ℕ → List ℕ → List ℕ → Compared → Type 0
+Answers addresses tags bs at regs values x =
+    (fill flags : ℕ) (xmms : List ℕ) → ComparesAt (environment addresses tags fill) bs at (held regs xmms flags values) x
 
 -- x goes on behind it
 pub record GoesOn (bs : List ℕ) (at : ℕ) (x : Compared) : Type 0 where
   pub next : (e : ℕ) → Stands is-ocmp bs at e → x .next ≡ e
 
 pub goes-on :
-    {addresses tags bs regs values : List ℕ} {fill at flags flags′ : ℕ} {x : Compared} →
-    Answers addresses tags fill bs at regs flags values x flags′ → GoesOn bs at x
-goes-on a = record { next = λ e h. a [] e h .next }
+    {addresses tags bs regs values : List ℕ} {at : ℕ} {x : Compared} → Answers addresses tags bs at regs values x → GoesOn bs at x
+goes-on a = record { next = λ e h. a 0 0 [] e h .next }
 
 -- ---- an IfElse
 module _ (bs : List ℕ) (at : ℕ) (kind : byte-at bs at ≡ 0x21) where
@@ -111,24 +110,24 @@ module _ (bs : List ℕ) (at : ℕ) (kind : byte-at bs at ≡ 0x21) where
         choice-fits o other = let w = choice-inside bs at c kind in omega (arith, w .within, g .next (w .mid) (w .stands))
 
 pub choice-unread :
-    (addresses tags bs regs xmms values : List ℕ) (fill at fuel flags flags′ : ℕ) (x : Compared) →
-    byte-at bs at ≡ 0x21 → Answers addresses tags fill bs (at + 9) regs flags values x flags′ → 1 < x .how →
-    Runs (environment addresses tags fill) bs at fuel (held regs xmms flags values) (exit (x .how) (at + 9)) (held regs xmms flags′ values)
-choice-unread addresses tags bs regs xmms values fill at fuel flags flags′ x kind a h =
-    if-unread _ bs at fuel _ kind x flags′ (a xmms) h
+    (addresses tags bs regs xmms values : List ℕ) (fill at fuel flags : ℕ) (x : Compared) →
+    byte-at bs at ≡ 0x21 → Answers addresses tags bs (at + 9) regs values x → 1 < x .how →
+    Runs (environment addresses tags fill) bs at fuel (held regs xmms flags values) (exit (x .how) (at + 9)) (held regs xmms flags values)
+choice-unread addresses tags bs regs xmms values fill at fuel flags x kind a h =
+    if-unread _ bs at fuel _ kind x (a fill flags xmms) h
 
 -- the part that it goes on with, where the evaluator has come to it with the measure m
-pub record Branch (env : Env) (bs : List ℕ) (at fuel m : ℕ) (s : Config) (x : Compared) (flags′ part behind end : ℕ) : Type 0 where
-  pub chosen : Chosen env bs at s x flags′ part behind end
+pub record Branch (env : Env) (bs : List ℕ) (at fuel m : ℕ) (s : Config) (x : Compared) (part behind end : ℕ) : Type 0 where
+  pub chosen : Chosen env bs at s x part behind end
   pub code : CodeAt bs at
   pub cells : Cells (env .addresses) (env .tags) (s .values)
   pub measured : fuel + (length bs - (at + 5)) ≡ m
 
-module _ (env : Env) (bs : List ℕ) (at fuel m : ℕ) (s : Config) (x : Compared) (flags′ part behind end : ℕ)
-    (w : Branch env bs at fuel m s x flags′ part behind end) where
+module _ (env : Env) (bs : List ℕ) (at fuel m : ℕ) (s : Config) (x : Compared) (part behind end : ℕ)
+    (w : Branch env bs at fuel m s x part behind end) where
   -- its code, and that there are codes to its end, which begin behind the test
   there : CodeAt bs part × CodesAt bs (codes-from bs part) behind × (at + 9 < part)
-  there = chosen-there env bs at fuel s x flags′ part behind end (w .chosen) (w .code)
+  there = chosen-there env bs at fuel s x part behind end (w .chosen) (w .code)
 
   pub branch-code : CodeAt bs part
   branch-code = there .0
@@ -140,14 +139,14 @@ module _ (env : Env) (bs : List ℕ) (at fuel m : ℕ) (s : Config) (x : Compare
     pub branch-less : fuel + (length bs - p) < m
     branch-less = omega (arith, w .measured, starts bs part (there .0), there .2, codes-past bs part)
 
-    module _ (read : x .how ≤ 1) (r : Exit) (t : Config) (ran : RunsAll env bs p behind fuel (with-flags flags′ s) r t) where
+    module _ (read : x .how ≤ 1) (r : Exit) (t : Config) (ran : RunsAll env bs p behind fuel (with-flags (env .fill) s) r t) where
       pub branch-stops : (r .number ≡ 0 → ⊥) → Runs env bs at fuel s r t
       branch-stops h =
-          chosen-ran env bs at fuel s x flags′ part behind end (w .chosen) read r t (rw is at ran) r refl (λ z. absurd (h z))
+          chosen-ran env bs at fuel s x part behind end (w .chosen) read r t (rw is at ran) r refl (λ z. absurd (h z))
 
       pub branch-done : r .number ≡ 0 → Runs env bs at fuel s (exit 0 end) t
       branch-done h =
-          chosen-ran env bs at fuel s x flags′ part behind end (w .chosen) read r t (rw is at ran)
+          chosen-ran env bs at fuel s x part behind end (w .chosen) read r t (rw is at ran)
           (exit 0 end) (sym (how-done r h)) (λ _. refl)
 
 -- ---- a While
@@ -168,24 +167,24 @@ loop-is-spent env bs at fuel s₀ left s l kind z =
     loop-ran env bs at fuel s₀ left s l (exit 1 at) s (loop-spent env bs at left s kind z) (λ _ _ _ y. absurd (omega (arith, y)))
 
 pub loop-is-unread :
-    (addresses tags bs regs xmms values : List ℕ) (fill at fuel left flags flags′ : ℕ) (s₀ : Config) (x : Compared) →
+    (addresses tags bs regs xmms values : List ℕ) (fill at fuel left flags : ℕ) (s₀ : Config) (x : Compared) →
     Looping (environment addresses tags fill) bs at fuel s₀ left (held regs xmms flags values) →
-    byte-at bs at ≡ 0x22 → (left ≡ 0 → ⊥) → Answers addresses tags fill bs (at + 5) regs flags values x flags′ → 1 < x .how →
-    Runs (environment addresses tags fill) bs at fuel s₀ (exit (x .how) (at + 5)) (held regs xmms flags′ values)
-loop-is-unread addresses tags bs regs xmms values fill at fuel left flags flags′ s₀ x l kind some-fuel a h =
-    loop-ran _ bs at fuel s₀ left _ l _ _ (loop-unread _ bs at left _ kind some-fuel x flags′ (a xmms) h)
+    byte-at bs at ≡ 0x22 → (left ≡ 0 → ⊥) → Answers addresses tags bs (at + 5) regs values x → 1 < x .how →
+    Runs (environment addresses tags fill) bs at fuel s₀ (exit (x .how) (at + 5)) (held regs xmms flags values)
+loop-is-unread addresses tags bs regs xmms values fill at fuel left flags s₀ x l kind some-fuel a h =
+    loop-ran _ bs at fuel s₀ left _ l _ _ (loop-unread _ bs at left _ kind some-fuel x (a fill flags xmms) h)
     (λ _ _ _ z. absurd (omega (arith, z)))
 
 -- a round, where the evaluator has come to it with the measure m
-pub record Turn (env : Env) (bs : List ℕ) (at fuel m : ℕ) (s₀ : Config) (left : ℕ) (s : Config) (x : Compared) (flags′ end : ℕ) : Type 0 where
-  pub round : Round env bs at left s x flags′ end
+pub record Turn (env : Env) (bs : List ℕ) (at fuel m : ℕ) (s₀ : Config) (left : ℕ) (s : Config) (x : Compared) (end : ℕ) : Type 0 where
+  pub round : Round env bs at left s x end
   pub looping : Looping env bs at fuel s₀ left s
   pub code : CodeAt bs at
   pub cells : Cells (env .addresses) (env .tags) (s₀ .values)
   pub measured : fuel + (length bs - (at + 5)) ≡ m
 
-module _ (env : Env) (bs : List ℕ) (at fuel m : ℕ) (s₀ : Config) (left : ℕ) (s : Config) (x : Compared) (flags′ end : ℕ)
-    (w : Turn env bs at fuel m s₀ left s x flags′ end) where
+module _ (env : Env) (bs : List ℕ) (at fuel m : ℕ) (s₀ : Config) (left : ℕ) (s : Config) (x : Compared) (end : ℕ)
+    (w : Turn env bs at fuel m s₀ left s x end) where
   pub turn-fits : length bs * 1 < 2 ^ 63 → Fits w64 end
   turn-fits room =
       let l = loop-inside bs at (w .code) (w .round .kind) in
@@ -193,7 +192,7 @@ module _ (env : Env) (bs : List ℕ) (at fuel m : ℕ) (s₀ : Config) (left : �
 
   -- the body's code, and that there are codes to its end, which begin behind the test
   body-there : CodeAt bs (x .next) × CodesAt bs (codes-from bs (x .next)) end × (at + 5 < x .next)
-  body-there = round-there env bs at left s x flags′ end (w .round) (w .code)
+  body-there = round-there env bs at left s x end (w .round) (w .code)
 
   pub body-code : CodeAt bs (x .next)
   body-code = body-there .0
@@ -207,15 +206,15 @@ module _ (env : Env) (bs : List ℕ) (at fuel m : ℕ) (s₀ : Config) (left : �
         omega (arith, w .measured, w .looping .less, starts bs (x .next) (body-there .0), body-there .2, codes-past bs (x .next))
 
     module _ (read : x .how ≤ 1) (holds : x .how ≡ 0 → ⊥) (r : Exit) (t : Config)
-        (ran : RunsAll env bs p end (left - 1) (with-flags flags′ s) r t) where
+        (ran : RunsAll env bs p end (left - 1) (with-flags (env .fill) s) r t) where
       pub turn-stops : (r .number ≡ 0 → ⊥) → Runs env bs at fuel s₀ r t
       turn-stops h =
           loop-ran env bs at fuel s₀ left s (w .looping) r t
-          (round-stops env bs at left s x flags′ end (w .round) read holds r t (rw is at ran) h) (λ _ _ _ z. absurd (h z))
+          (round-stops env bs at left s x end (w .round) read holds r t (rw is at ran) h) (λ _ _ _ z. absurd (h z))
 
       pub turn-goes : r .number ≡ 0 → length (t .values) ≡ length (s .values) → Looping env bs at fuel s₀ (left - 1) t
       turn-goes h long =
-          let goes = round-goes env bs at left s x flags′ end (w .round) read holds r t (rw is at ran) h in
+          let goes = round-goes env bs at left s x end (w .round) read holds r t (rw is at ran) h in
           record {
             same = λ c e y. w .looping .same c e y ∙ goes c e y;
             long = long ∙ w .looping .long;
@@ -224,9 +223,9 @@ module _ (env : Env) (bs : List ℕ) (at fuel m : ℕ) (s₀ : Config) (left : �
 
 pub turn-done :
     (env : Env) (bs : List ℕ) (at fuel m : ℕ) (s₀ : Config) (left : ℕ) (regs xmms values : List ℕ) (flags : ℕ) (x : Compared)
-    (flags′ end : ℕ) → Turn env bs at fuel m s₀ left (held regs xmms flags values) x flags′ end →
-    x .how ≡ 0 → Runs env bs at fuel s₀ (exit 0 end) (held regs xmms flags′ values)
-turn-done env bs at fuel m s₀ left regs xmms values flags x flags′ end w h =
+    (end : ℕ) → Turn env bs at fuel m s₀ left (held regs xmms flags values) x end →
+    x .how ≡ 0 → Runs env bs at fuel s₀ (exit 0 end) (held regs xmms (env .fill) values)
+turn-done env bs at fuel m s₀ left regs xmms values flags x end w h =
     let r = w .round in
-    loop-ran env bs at fuel s₀ left _ (w .looping) _ _ (loop-done env bs at left _ (r .kind) (r .some-fuel) x flags′ (r .compared) h)
-    (λ c e y _. round-ends env bs at left _ x flags′ end r c e y)
+    loop-ran env bs at fuel s₀ left _ (w .looping) _ _ (loop-done env bs at left _ (r .kind) (r .some-fuel) x (r .compared) h)
+    (λ c e y _. round-ends env bs at left _ x end r c e y)

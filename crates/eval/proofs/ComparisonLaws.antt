@@ -62,32 +62,30 @@ module _ (env : Env) (s : Config) (bs : List ℕ) (at e : ℕ) (stands : Stands 
     ends-there = second .next ∙ ocmp-frame bs at e stands inside .operands .ends
 
     -- the answer of a check that fails is its number, and the flags are left
-    pub first-unread : (a .number ≡ 0 → ⊥) → Compares env s (ocmp-at bs at) e (record { how = a .number; next = b .next }) (s .flags)
+    pub first-unread : (a .number ≡ 0 → ⊥) → Compares env s (ocmp-at bs at) e (record { how = a .number; next = b .next })
     first-unread h =
         let w = fails (valid-operand env one s) (a .number) 31 (la .number) h in
-        record { how = rw (said refl .0, w .0) (w .1); flags-are = rw (said refl .0, w .0); next = ends-there }
+        record { how = rw (said refl .0, w .0) (w .1); next = ends-there }
 
     module _ (x : a .number ≡ 0) where
       one-read : valid-operand env one s ≡ true
       one-read = passes (valid-operand env one s) (a .number) 31 (la .number) (λ e. omega arith) x
 
-      pub second-unread : (b .number ≡ 0 → ⊥) → Compares env s (ocmp-at bs at) e (record { how = b .number; next = b .next }) (s .flags)
+      pub second-unread : (b .number ≡ 0 → ⊥) → Compares env s (ocmp-at bs at) e (record { how = b .number; next = b .next })
       second-unread h =
           let w = fails (valid-operand env other s) (b .number) 31 (second .number) h in
           record {
             how = rw (said refl .0, one-read, w .0) (w .1);
-            flags-are = rw (said refl .0, one-read, w .0);
             next = ends-there;
           }
 
       pub compared :
           b .number ≡ 0 →
           (h : Bool) → comparison (byte-at bs at) (a .word) (b .word) ≡ h →
-          Compares env s (ocmp-at bs at) e (record { how = cond h 1 0; next = b .next }) (env .fill)
+          Compares env s (ocmp-at bs at) e (record { how = cond h 1 0; next = b .next })
       compared y h k =
           let other-read = passes (valid-operand env other s) (b .number) 31 (second .number) (λ e. omega arith) y in
           record {
             how = rw (said refl .0, one-read, other-read, said refl .1, ← (la .word x), ← (second .word y), k);
-            flags-are = rw (said refl .0, one-read, other-read);
             next = ends-there;
           }

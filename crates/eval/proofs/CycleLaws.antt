@@ -254,24 +254,24 @@ fails-of true true n e k l = absurd (l e)
 fails-of true false n e k l = (refl, refl)
 fails-of false h n e k l = absurd (omega arith)
 
-module _ (env : Env) (q : ℕ) (c : Ocmp) (s : Config) (m : ℕ) (x : Compared) (flags′ : ℕ) (w : Compares env s c m x flags′) (f g : Config → End) where
-  ocmp-unread : 1 < x .how → run-ocmp env q c f g s ≡ ends (how (exit (x .how) q)) (with-flags flags′ s)
+module _ (env : Env) (q : ℕ) (c : Ocmp) (s : Config) (m : ℕ) (x : Compared) (w : Compares env s c m x) (f g : Config → End) where
+  ocmp-unread : 1 < x .how → run-ocmp env q c f g s ≡ ends (how (exit (x .how) q)) s
   unfolding run-ocmp check
   ocmp-unread h =
       let z = unread-of (valid-ocmp env c s) (eval-ocmp env c s) (x .how) (w .how) h in
-      rw (w .flags-are, z .1, z .0)
+      rw (z .1, z .0)
 
-  ocmp-holds : x .how ≤ 1 → (x .how ≡ 0 → ⊥) → run-ocmp env q c f g s ≡ f (with-flags flags′ s)
+  ocmp-holds : x .how ≤ 1 → (x .how ≡ 0 → ⊥) → run-ocmp env q c f g s ≡ f (with-flags (env .fill) s)
   unfolding run-ocmp check choose
   ocmp-holds h k =
       let z = holds-of (valid-ocmp env c s) (eval-ocmp env c s) (x .how) (w .how) h k in
-      rw (w .flags-are, z .0, z .1)
+      rw (z .0, z .1)
 
-  ocmp-fails : x .how ≤ 1 → (x .how ≡ 1 → ⊥) → run-ocmp env q c f g s ≡ g (with-flags flags′ s)
+  ocmp-fails : x .how ≤ 1 → (x .how ≡ 1 → ⊥) → run-ocmp env q c f g s ≡ g (with-flags (env .fill) s)
   unfolding run-ocmp check choose
   ocmp-fails h k =
       let z = fails-of (valid-ocmp env c s) (eval-ocmp env c s) (x .how) (w .how) h k in
-      rw (w .flags-are, z .0, z .1)
+      rw (z .0, z .1)
 
 -- two choices by one test
 pub both-ways : {A P Q R S : Type 0} → (A × P) ⊎ ((A → ⊥) × Q) → (A × R) ⊎ ((A → ⊥) × S) → (A × P × R) ⊎ ((A → ⊥) × Q × S)
@@ -286,8 +286,8 @@ respelled c bs a e x y p q h = rw (← p, ← q) h
 
 -- ---- an IfElse, whose comparison has answered x
 module _ (env : Env) (bs : List ℕ) (at fuel : ℕ) (s : Config) (k : byte-at bs at ≡ 0x21) (x : Compared)
-    (flags′ : ℕ) (compared : ComparesAt env bs (at + 9) s x flags′) where
-  pub if-unread : 1 < x .how → Runs env bs at fuel s (exit (x .how) (at + 9)) (with-flags flags′ s)
+    (compared : ComparesAt env bs (at + 9) s x) where
+  pub if-unread : 1 < x .how → Runs env bs at fuel s (exit (x .how) (at + 9)) s
   unfolding run-code
   if-unread h c e sp =
       let w = if-there c bs at e sp k in
@@ -296,7 +296,7 @@ module _ (env : Env) (bs : List ℕ) (at fuel : ℕ) (s : Config) (k : byte-at b
             sym
             (ap (λ (b : Code). run-code env b fuel s) (w .is)
             ∙ ap (λ (o : Ocmp). run-ocmp env (at + 9) o (run-code env (w .yes-part) fuel) (run-code env (w .no-part) fuel) s) (w .says)
-            ∙ ocmp-unread env (at + 9) (ocmp-at bs (at + 9)) s (w .mid) x flags′ (compared (w .mid) (w .stands))
+            ∙ ocmp-unread env (at + 9) (ocmp-at bs (at + 9)) s (w .mid) x (compared (w .mid) (w .stands))
             (run-code env (w .yes-part) fuel) (run-code env (w .no-part) fuel) h);
         next = λ z. absurd (omega arith);
       }
@@ -340,7 +340,7 @@ module _ (env : Env) (bs : List ℕ) (at fuel : ℕ) (s : Config) (k : byte-at b
     if-ran :
         x .how ≤ 1 →
         (r : Exit) (t : Config) →
-        RunsAll env bs (codes-from bs part) behind fuel (with-flags flags′ s) r t →
+        RunsAll env bs (codes-from bs part) behind fuel (with-flags (env .fill) s) r t →
         (r′ : Exit) →
         how r′ ≡ how r →
         (r′ .number ≡ 0 → r′ .place ≡ end) →
@@ -352,7 +352,7 @@ module _ (env : Env) (bs : List ℕ) (at fuel : ℕ) (s : Config) (k : byte-at b
         let here = compared (w .mid) (w .stands) in
         let one = run-code env (w .yes-part) fuel in
         let other = run-code env (w .no-part) fuel in
-        let after = with-flags flags′ s in
+        let after = with-flags (env .fill) s in
         let start : run-code env c fuel s ≡ run-ocmp env (at + 9) (ocmp-at bs (at + 9)) one other s =
         ap (λ (b : Code). run-code env b fuel s) (w .is)
         ∙ ap (λ (b : Ocmp). run-ocmp env (at + 9) b one other s) (w .says)
@@ -364,10 +364,10 @@ module _ (env : Env) (bs : List ℕ) (at fuel : ℕ) (s : Config) (k : byte-at b
         start
         ∙ ⊎-elim
         (λ h.
-        ocmp-holds env (at + 9) (ocmp-at bs (at + 9)) s (w .mid) x flags′ here one other v (λ z. omega (arith, h .0, z))
+        ocmp-holds env (at + 9) (ocmp-at bs (at + 9)) s (w .mid) x here one other v (λ z. omega (arith, h .0, z))
         ∙ ran-part (w .yes-part) (rw (h .1, h .2) (p .2)))
         (λ h.
-        ocmp-fails env (at + 9) (ocmp-at bs (at + 9)) s (w .mid) x flags′ here one other v (h .0)
+        ocmp-fails env (at + 9) (ocmp-at bs (at + 9)) s (w .mid) x here one other v (h .0)
         ∙ ran-part (w .no-part) (rw (h .1, h .2) (p .3)))
         way
         in
@@ -377,26 +377,26 @@ module _ (env : Env) (bs : List ℕ) (at fuel : ℕ) (s : Config) (k : byte-at b
         }
 
 -- the part that an IfElse goes on with, as the evaluator finds it
-pub record Chosen (env : Env) (bs : List ℕ) (at : ℕ) (s : Config) (x : Compared) (flags′ part behind end : ℕ) : Type 0 where
+pub record Chosen (env : Env) (bs : List ℕ) (at : ℕ) (s : Config) (x : Compared) (part behind end : ℕ) : Type 0 where
   pub kind : byte-at bs at ≡ 0x21
-  pub compared : ComparesAt env bs (at + 9) s x flags′
+  pub compared : ComparesAt env bs (at + 9) s x
   pub mid : ℕ
   pub mid-is : mid ≡ x .next + number-at 4 bs (at + 1)
   pub end-is : end ≡ mid + number-at 4 bs (at + 5)
   pub way : ((x .how ≡ 1) × (part ≡ x .next) × (behind ≡ mid)) ⊎ ((x .how ≡ 1 → ⊥) × (part ≡ mid) × (behind ≡ end))
 
-module _ (env : Env) (bs : List ℕ) (at fuel : ℕ) (s : Config) (x : Compared) (flags′ part behind end : ℕ)
-    (w : Chosen env bs at s x flags′ part behind end) where
+module _ (env : Env) (bs : List ℕ) (at fuel : ℕ) (s : Config) (x : Compared) (part behind end : ℕ)
+    (w : Chosen env bs at s x part behind end) where
   pub chosen-there : CodeAt bs at → CodeAt bs part × CodesAt bs (codes-from bs part) behind × (at + 9 < part)
   chosen-there =
-      part-there env bs at fuel s (w .kind) x flags′ (w .compared) (w .mid) end part behind (w .mid-is) (w .end-is) (w .way)
+      part-there env bs at fuel s (w .kind) x (w .compared) (w .mid) end part behind (w .mid-is) (w .end-is) (w .way)
 
   -- the exit of the part, with another place where it is done
   pub chosen-ran :
-      x .how ≤ 1 → (r : Exit) (t : Config) → RunsAll env bs (codes-from bs part) behind fuel (with-flags flags′ s) r t →
+      x .how ≤ 1 → (r : Exit) (t : Config) → RunsAll env bs (codes-from bs part) behind fuel (with-flags (env .fill) s) r t →
       (r′ : Exit) → how r′ ≡ how r → (r′ .number ≡ 0 → r′ .place ≡ end) → Runs env bs at fuel s r′ t
   chosen-ran =
-      if-ran env bs at fuel s (w .kind) x flags′ (w .compared) (w .mid) end part behind (w .mid-is) (w .end-is) (w .way)
+      if-ran env bs at fuel s (w .kind) x (w .compared) (w .mid) end part behind (w .mid-is) (w .end-is) (w .way)
 
 -- ---- a While: what holds at the head of the loop over its rounds
 pub record Looping (env : Env) (bs : List ℕ) (at fuel : ℕ) (s₀ : Config) (left : ℕ) (s : Config) : Type 0 where
@@ -438,7 +438,7 @@ module _ (env : Env) (bs : List ℕ) (at left : ℕ) (s : Config) (k : byte-at b
       ap (λ (b : Code). run-code env b left s) (w .is)
       ∙ rounds-spent env (run-code env (w .body)) at (at + 5) (w .test) s left z
 
-  module _ (inn : left ≡ 0 → ⊥) (x : Compared) (flags′ : ℕ) (compared : ComparesAt env bs (at + 5) s x flags′) where
+  module _ (inn : left ≡ 0 → ⊥) (x : Compared) (compared : ComparesAt env bs (at + 5) s x) where
     -- the next round, and those that follow, behind a comparison that was read
     tested :
         (c : Code) (e : ℕ) (h : Spells c bs at e) →
@@ -456,19 +456,19 @@ module _ (env : Env) (bs : List ℕ) (at left : ℕ) (s : Config) (k : byte-at b
 
     pub loop-unread :
         1 < x .how → (c : Code) (e : ℕ) → Spells c bs at e →
-        run-code env c left s ≡ ends (how (exit (x .how) (at + 5))) (with-flags flags′ s)
+        run-code env c left s ≡ ends (how (exit (x .how) (at + 5))) s
     loop-unread z c e h =
         let w = while-there c bs at e h k in
         tested c e h
-        ∙ ocmp-unread env (at + 5) (ocmp-at bs (at + 5)) s (w .mid) x flags′ (compared (w .mid) (w .stands))
+        ∙ ocmp-unread env (at + 5) (ocmp-at bs (at + 5)) s (w .mid) x (compared (w .mid) (w .stands))
         (round env (run-code env (w .body)) at (at + 5) (w .test) s (left - 1)) (ends done) z
 
     pub loop-done :
-        x .how ≡ 0 → (c : Code) (e : ℕ) → Spells c bs at e → run-code env c left s ≡ ends done (with-flags flags′ s)
+        x .how ≡ 0 → (c : Code) (e : ℕ) → Spells c bs at e → run-code env c left s ≡ ends done (with-flags (env .fill) s)
     loop-done z c e h =
         let w = while-there c bs at e h k in
         tested c e h
-        ∙ ocmp-fails env (at + 5) (ocmp-at bs (at + 5)) s (w .mid) x flags′ (compared (w .mid) (w .stands))
+        ∙ ocmp-fails env (at + 5) (ocmp-at bs (at + 5)) s (w .mid) x (compared (w .mid) (w .stands))
         (round env (run-code env (w .body)) at (at + 5) (w .test) s (left - 1)) (ends done)
         (omega (arith, z)) (λ y. omega (arith, y, z))
 
@@ -495,27 +495,27 @@ module _ (env : Env) (bs : List ℕ) (at left : ℕ) (s : Config) (k : byte-at b
           (there, part-codes bs (x .next) (w .body) end (p .2) l, omega (arith, p .1, stands-past is-ocmp bs (at + 5) (w .mid) (w .stands)))
 
       module _ (v : x .how ≤ 1) (y : x .how ≡ 0 → ⊥) (r : Exit) (t : Config)
-          (ran : RunsAll env bs (codes-from bs (x .next)) end (left - 1) (with-flags flags′ s) r t) where
+          (ran : RunsAll env bs (codes-from bs (x .next)) end (left - 1) (with-flags (env .fill) s) r t) where
         body-ran :
             (c : Code) (e : ℕ) (h : Spells c bs at e) →
             let w = while-there c bs at e h k in
             run-code env c left s
-            ≡ and-then (run-code env (w .body) (left - 1) (with-flags flags′ s))
+            ≡ and-then (run-code env (w .body) (left - 1) (with-flags (env .fill) s))
             (rounds env (run-code env (w .body)) at (at + 5) (w .test) (left - 1))
         unfolding round
         body-ran c e h =
             let w = while-there c bs at e h k in
             tested c e h
-            ∙ ocmp-holds env (at + 5) (ocmp-at bs (at + 5)) s (w .mid) x flags′ (compared (w .mid) (w .stands))
+            ∙ ocmp-holds env (at + 5) (ocmp-at bs (at + 5)) s (w .mid) x (compared (w .mid) (w .stands))
             (round env (run-code env (w .body)) at (at + 5) (w .test) s (left - 1)) (ends done) v y
 
         body-exit :
             (c : Code) (e : ℕ) (h : Spells c bs at e) →
             let w = while-there c bs at e h k in
-            Ran (run-code env (w .body) (left - 1) (with-flags flags′ s)) end r t
+            Ran (run-code env (w .body) (left - 1) (with-flags (env .fill) s)) end r t
         body-exit c e h =
             let w = while-there c bs at e h k in
-            part-ran bs (x .next) env end (left - 1) (with-flags flags′ s) r t ran (w .body) (body-spelled c e h .2)
+            part-ran bs (x .next) env end (left - 1) (with-flags (env .fill) s) r t ran (w .body) (body-spelled c e h .2)
 
         loop-goes :
             r .number ≡ 0 → (c : Code) (e : ℕ) → Spells c bs at e → run-code env c left s ≡ run-code env c (left - 1) t
@@ -523,7 +523,7 @@ module _ (env : Env) (bs : List ℕ) (at left : ℕ) (s : Config) (k : byte-at b
         loop-goes z c e h =
             let w = while-there c bs at e h k in
             body-ran c e h
-            ∙ goes-on (run-code env (w .body) (left - 1) (with-flags flags′ s)) end r t (body-exit c e h)
+            ∙ goes-on (run-code env (w .body) (left - 1) (with-flags (env .fill) s)) end r t (body-exit c e h)
             (rounds env (run-code env (w .body)) at (at + 5) (w .test) (left - 1)) z
             ∙ ap (λ (b : Code). run-code env b (left - 1) t) (sym (w .is))
 
@@ -532,27 +532,27 @@ module _ (env : Env) (bs : List ℕ) (at left : ℕ) (s : Config) (k : byte-at b
         loop-stops z c e h =
             let w = while-there c bs at e h k in
             body-ran c e h
-            ∙ stops (run-code env (w .body) (left - 1) (with-flags flags′ s)) end r t (body-exit c e h)
+            ∙ stops (run-code env (w .body) (left - 1) (with-flags (env .fill) s)) end r t (body-exit c e h)
             (rounds env (run-code env (w .body)) at (at + 5) (w .test) (left - 1)) z
 
 -- a round of a While whose comparison has answered x, and where the While ends
-pub record Round (env : Env) (bs : List ℕ) (at left : ℕ) (s : Config) (x : Compared) (flags′ end : ℕ) : Type 0 where
+pub record Round (env : Env) (bs : List ℕ) (at left : ℕ) (s : Config) (x : Compared) (end : ℕ) : Type 0 where
   pub kind : byte-at bs at ≡ 0x22
   pub some-fuel : left ≡ 0 → ⊥
-  pub compared : ComparesAt env bs (at + 5) s x flags′
+  pub compared : ComparesAt env bs (at + 5) s x
   pub end-is : end ≡ x .next + number-at 4 bs (at + 1)
 
-module _ (env : Env) (bs : List ℕ) (at left : ℕ) (s : Config) (x : Compared) (flags′ end : ℕ) (w : Round env bs at left s x flags′ end) where
+module _ (env : Env) (bs : List ℕ) (at left : ℕ) (s : Config) (x : Compared) (end : ℕ) (w : Round env bs at left s x end) where
   pub round-ends : (c : Code) (e : ℕ) → Spells c bs at e → end ≡ e
-  round-ends = loop-ends env bs at left s (w .kind) (w .some-fuel) x flags′ (w .compared) end (w .end-is)
+  round-ends = loop-ends env bs at left s (w .kind) (w .some-fuel) x (w .compared) end (w .end-is)
 
   pub round-there : CodeAt bs at → CodeAt bs (x .next) × CodesAt bs (codes-from bs (x .next)) end × (at + 5 < x .next)
-  round-there = body-there env bs at left s (w .kind) (w .some-fuel) x flags′ (w .compared) end (w .end-is)
+  round-there = body-there env bs at left s (w .kind) (w .some-fuel) x (w .compared) end (w .end-is)
 
   module _ (v : x .how ≤ 1) (y : x .how ≡ 0 → ⊥) (r : Exit) (t : Config)
-      (ran : RunsAll env bs (codes-from bs (x .next)) end (left - 1) (with-flags flags′ s) r t) where
+      (ran : RunsAll env bs (codes-from bs (x .next)) end (left - 1) (with-flags (env .fill) s) r t) where
     pub round-goes : r .number ≡ 0 → (c : Code) (e : ℕ) → Spells c bs at e → run-code env c left s ≡ run-code env c (left - 1) t
-    round-goes = loop-goes env bs at left s (w .kind) (w .some-fuel) x flags′ (w .compared) end (w .end-is) v y r t ran
+    round-goes = loop-goes env bs at left s (w .kind) (w .some-fuel) x (w .compared) end (w .end-is) v y r t ran
 
     pub round-stops : (r .number ≡ 0 → ⊥) → (c : Code) (e : ℕ) → Spells c bs at e → run-code env c left s ≡ ends (how r) t
-    round-stops = loop-stops env bs at left s (w .kind) (w .some-fuel) x flags′ (w .compared) end (w .end-is) v y r t ran
+    round-stops = loop-stops env bs at left s (w .kind) (w .some-fuel) x (w .compared) end (w .end-is) v y r t ran

@@ -1,6 +1,6 @@
 -- How an instruction ends, from what was found of its operands: each check passes or ends the run with the number that was answered, and a
 -- word that is written is the definition's. Assumes nothing.
-use Prim.Native.Nat.{ℕ, _+_}
+use Prim.Native.Nat.{ℕ, _+_, _≤_, _<_}
 use mathlib.Core.Path.{_≡_, refl, sym, ap, _∙_}
 use mathlib.Core.Bool.{Bool, true, false, _&&_, cond}
 use mathlib.Core.List.{List}
@@ -15,9 +15,9 @@ use Rattle.code.specs.declared.tree.Instruction.{Instruction}
 use Rattle.code.specs.declared.tree.Instruction.the-variants.{AddLea64, Mul64, Mulx64}
 use Rattle.code.specs.Records.{is-ins, ins-at, operand-at, behind}
 use Rattle.code.specs.Spells.{Stands}
-use Rattle.code.specs.Families.{is-two, two-ins}
+use Rattle.code.specs.Families.{twos, is-two, two-ins}
 use Rattle.code.proofs.Passing.{and-both}
-use Rattle.code.proofs.Families.{after, Stood, by-two-ins}
+use Rattle.code.proofs.Families.{after, Stood, same-among}
 use Rattle.eval.specs.Config.{Env, Config, with-regs, with-values, with-flags, End, ends, done, check}
 use Rattle.eval.specs.Instructions.{checks-amount, two-word, two-flags, valid-operand, eval-operand, valid-dst-operand, update-operand, act, run-ins}
 use Rattle.eval.specs.Promises.{environment, held, Loads, Resolves, put-regs, put-values, how, Ran, RunsIns}
@@ -35,6 +35,10 @@ passes false n m e z h = absurd (z (sym e ∙ h))
 pub fails : (b : Bool) (n m : ℕ) → n ≡ cond b 0 m → (n ≡ 0 → ⊥) → (b ≡ false) × (n ≡ m)
 fails true n m e h = absurd (h e)
 fails false n m e h = (refl, e)
+
+-- a number above 1 is not 0
+pub above-one : {n : ℕ} → 1 < n → n ≡ 0 → ⊥
+above-one h e = omega (arith, h, e)
 
 -- an exit with a number and a place
 abbrev pub exit : ℕ → ℕ → Exit
@@ -63,15 +67,15 @@ module _ (env : Env) (s : Config) (p : ℕ) (o : Operand) (n : ℕ) (t : Slot) (
   abbrev pub put-in : ℕ → Config
   put-in v = with-values (put-values t v (s .values)) (with-regs (put-regs t v (s .regs)) s)
 
-  pub writable : t .number ≡ 0 → (k : End) → write-check env p o s k ≡ k
+  pub writable : t .how ≤ 1 → (k : End) → write-check env p o s k ≡ k
   unfolding check
-  writable h k = rw (passes (valid-dst-operand env o s) (t .number) 32 (resolves .number) (λ e. omega arith) h)
+  writable h k = rw (resolves .valid h)
 
-  pub unwritable : (t .number ≡ 0 → ⊥) → (k : End) → write-check env p o s k ≡ ends (how (exit (t .number) p)) s
+  pub unwritable : 1 < t .how → (k : End) → write-check env p o s k ≡ ends (how (exit (t .how) p)) s
   unfolding check
-  unwritable h k = let w = fails (valid-dst-operand env o s) (t .number) 32 (resolves .number) h in rw (w .0, w .1)
+  unwritable h k = let w = resolves .fails h in rw (w .0, w .1)
 
-  pub wrote : t .number ≡ 0 → (v flags : ℕ) → write env p o v flags s ≡ ends done (with-flags flags (put-in v))
+  pub wrote : t .how ≤ 1 → (v flags : ℕ) → write env p o v flags s ≡ ends done (with-flags flags (put-in v))
   wrote h v flags =
       writable h _ ∙ ap (λ (x : Config). ends done (with-flags flags x)) (resolves .writes h .update v (s .values))
 
@@ -93,8 +97,9 @@ module _ (env : Env) (p : ℕ) (dst src : Operand) (s : Config) where
   Shape k i = run-ins env p i s ≡ read-check env p src s (amounts k (two-write k))
 
   pub shape : (k : ℕ) → is-two k ≡ true → Shape k (two-ins k dst src)
-  unfolding run-ins act two-word two-flags
-  shape k h = by-two-ins Shape dst src refl refl refl refl refl refl refl refl refl refl refl k h
+  unfolding run-ins act two-word two-flags two-ins
+  shape k h =
+      same-among (λ k. run-ins env p (two-ins k dst src) s) (λ k. read-check env p src s (amounts k (two-write k))) twos refl k h
 
   -- an amount that is no shift's, or below 64, passes
   pub amount-passes : (k b : ℕ) (e : End) → b ≡ eval-operand env src s → (checks-amount k && leb 64 b) ≡ false → amounts k e ≡ e
@@ -142,11 +147,11 @@ module _ (addresses tags regs xmms values : List ℕ) (fill flags p : ℕ) where
             ∙ readable env s p src n r loads _ found
             ∙ amount-passes env p dst src s k (r .word) _ (loads .word found) amount
 
-        pub two-unwritten : (t .number ≡ 0 → ⊥) → Two (exit (t .number) p) s
-        two-unwritten h = failed _ n (t .number) p s (two-passes ∙ unwritable env s p dst m t resolves h _) h
+        pub two-unwritten : 1 < t .how → Two (exit (t .how) p) s
+        two-unwritten h = failed _ n (t .how) p s (two-passes ∙ unwritable env s p dst m t resolves h _) (above-one h)
 
         pub two-done :
-            t .number ≡ 0 →
+            t .how ≤ 1 →
             (regs′ values′ : List ℕ) (v f : ℕ) →
             regs′ ≡ put-regs t v regs →
             values′ ≡ put-values t v values →
@@ -184,11 +189,11 @@ module _ (addresses tags regs xmms values : List ℕ) (fill flags p : ℕ) where
             ≡ write env p dst (sum-mod 64 (eval-operand env one s + eval-operand env two s)) flags s
         lea-passes = lea-shape ∙ readable env s p one m q first _ there ∙ readable env s p two n r second _ found
 
-        pub lea-unwritten : (t .number ≡ 0 → ⊥) → Lea (exit (t .number) p) s
-        lea-unwritten h = failed _ n (t .number) p s (lea-passes ∙ unwritable env s p dst l t resolves h _) h
+        pub lea-unwritten : 1 < t .how → Lea (exit (t .how) p) s
+        lea-unwritten h = failed _ n (t .how) p s (lea-passes ∙ unwritable env s p dst l t resolves h _) (above-one h)
 
         pub lea-done :
-            t .number ≡ 0 →
+            t .how ≤ 1 →
             (regs′ values′ : List ℕ) (v : ℕ) →
             regs′ ≡ put-regs t v regs →
             values′ ≡ put-values t v values →
@@ -246,12 +251,12 @@ module _ (addresses tags regs xmms values : List ℕ) (fill flags p : ℕ) where
     mulx-unread h = failed _ n (r .number) p s (mulx-shape ∙ unreadable env s p src n r loads _ h) h
 
     module _ (found : r .number ≡ 0) where
-      pub mulx-unwritten : (t .number ≡ 0 → ⊥) → Mulx (exit (t .number) p) s
+      pub mulx-unwritten : 1 < t .how → Mulx (exit (t .how) p) s
       mulx-unwritten h =
-          failed _ n (t .number) p s
-          (mulx-shape ∙ readable env s p src n r loads _ found ∙ unwritable env s p dst-lo m t resolves h _) h
+          failed _ n (t .how) p s
+          (mulx-shape ∙ readable env s p src n r loads _ found ∙ unwritable env s p dst-lo m t resolves h _) (above-one h)
 
-      module _ (valid : t .number ≡ 0) (lo hi : ℕ) (is-lo : lo ≡ mul-mod 64 (getD regs 3 0) (r .word))
+      module _ (valid : t .how ≤ 1) (lo hi : ℕ) (is-lo : lo ≡ mul-mod 64 (getD regs 3 0) (r .word))
           (is-hi : hi ≡ mul-div 64 (getD regs 3 0) (r .word)) (regs′ values′ : List ℕ)
           (a : regs′ ≡ put-regs t lo regs) (b : values′ ≡ put-values t lo values) where
         after-low : low ≡ held regs′ xmms flags values′
@@ -270,14 +275,14 @@ module _ (addresses tags regs xmms values : List ℕ) (fill flags p : ℕ) where
               ∙ writable env s p dst-lo m t resolves valid _
               ∙ rw (after-low, valid-whatever env dst-hi (held regs′ xmms flags values) values′, is-hi, loads .word found)
 
-          pub mulx-unresolved : (u .number ≡ 0 → ⊥) → Mulx (exit (u .number) p) s
+          pub mulx-unresolved : 1 < u .how → Mulx (exit (u .how) p) s
           unfolding check
           mulx-unresolved h =
-              let w = fails (valid-dst-operand env dst-hi (held regs′ xmms flags values)) (u .number) 32 (above .number) h in
-              failed _ n (u .number) p s (mulx-passes ∙ rw (w .0, w .1)) h
+              let w = above .fails h in
+              failed _ n (u .how) p s (mulx-passes ∙ rw (w .0, w .1)) (above-one h)
 
           pub mulx-done :
-              u .number ≡ 0 →
+              u .how ≤ 1 →
               (regs″ values″ : List ℕ) →
               regs″ ≡ put-regs u hi regs′ →
               values″ ≡ put-values u hi values′ →
@@ -286,12 +291,7 @@ module _ (addresses tags regs xmms values : List ℕ) (fill flags p : ℕ) where
           mulx-done h regs″ values″ c d =
               finished _ n (r .next) p _
               (mulx-passes
-              ∙ rw (
-                passes (valid-dst-operand env dst-hi (held regs′ xmms flags values)) (u .number) 32 (above .number) (λ e. omega arith) h,
-                c,
-                d,
-                above .writes h .update hi values′,
-              ))
+              ∙ rw (above .valid h, c, d, above .writes h .update hi values′))
               (loads .next)
 
 -- what was found at a place that is another's name

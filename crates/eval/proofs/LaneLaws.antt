@@ -22,7 +22,7 @@ use Rattle.eval.specs.declared.exit.Exit.{Exit}
 use Rattle.eval.specs.declared.operand.Loaded.{Loaded}
 use Rattle.eval.specs.declared.operand.Slot.{Slot}
 use Rattle.eval.proofs.Shapes.{read-check, write-xmm}
-use Rattle.eval.proofs.InstructionLaws.{exit, failed, finished, readable, unreadable, unwritable, wrote}
+use Rattle.eval.proofs.InstructionLaws.{above-one, exit, failed, finished, readable, unreadable, unwritable, wrote}
 
 module _ (env : Env) (p : ℕ) (regs xmms values : List ℕ) (flags : ℕ) where
   abbrev s : Config
@@ -111,12 +111,12 @@ module _ (addresses tags regs xmms values : List ℕ) (fill flags p : ℕ) where
   now-s = held regs xmms flags values
 
   module _ (dst : Operand) (src index n : ℕ) (t : Slot) (resolves : Resolves env now-s dst n t) where
-    pub extract-unwritten : (t .number ≡ 0 → ⊥) → Ran (run-ins env p (Pextrq dst src index) now-s) n (exit (t .number) p) now-s
+    pub extract-unwritten : 1 < t .how → Ran (run-ins env p (Pextrq dst src index) now-s) n (exit (t .how) p) now-s
     unfolding run-ins act
-    extract-unwritten h = failed _ n (t .number) p now-s (unwritable env now-s p dst n t resolves h _) h
+    extract-unwritten h = failed _ n (t .how) p now-s (unwritable env now-s p dst n t resolves h _) (above-one h)
 
     pub extract-done :
-        t .number ≡ 0 →
+        t .how ≤ 1 →
         (x : Quad32) (v : ℕ) (regs′ values′ : List ℕ) →
         quad32 x ≡ xmm-at xmms src →
         v ≡ extract-nat64 (quad32 x) (index % 2) →

@@ -44,6 +44,17 @@ module _ (addresses tags regs values : List ℕ) (o : Operand) (next : ℕ) (fil
   abbrev Resolve : Slot → Type 0
   Resolve t = Resolves (environment addresses tags fill) (held regs xmms flags values) o next t
 
+  -- ---- what is no destination
+  no-destination : (t : Slot) → t ≡ no-slot next → valid-dst-operand (environment addresses tags fill) o (held regs xmms flags values) ≡ false → Resolve t
+  no-destination t e invalid =
+      rw e record {
+        valid = λ h. absurd (omega (arith, h));
+        fails = λ _. (invalid, refl);
+        writes = λ h. absurd (omega (arith, h));
+        bounds = λ h. absurd (omega (arith, h));
+        next = refl;
+      }
+
   -- ---- a constant
   pub load-constant : (n : ℕ) → o ≡ OConst n → Load (record { number = 0; word = n; next = next })
   unfolding valid-operand eval-operand
@@ -51,13 +62,7 @@ module _ (addresses tags regs values : List ℕ) (o : Operand) (next : ℕ) (fil
 
   pub resolve-constant : (n : ℕ) → o ≡ OConst n → (t : Slot) → t ≡ no-slot next → Resolve t
   unfolding valid-dst-operand valid-operand
-  resolve-constant n q t e =
-      rw e record {
-        number = rw (q, constant-no-dst n);
-        writes = λ h. absurd (omega (arith, h));
-        bounds = λ h. absurd (omega (arith, h));
-        next = refl;
-      }
+  resolve-constant n q t e = no-destination t e (rw (q, constant-no-dst n))
 
   -- ---- a register
   module _ (r : Reg) (q : o ≡ OReg r) where
@@ -70,23 +75,19 @@ module _ (addresses tags regs values : List ℕ) (o : Operand) (next : ℕ) (fil
       unfolding valid-dst-operand valid-operand
       resolve-rsp h t e =
           let p : eqb (r .number) 7 ≡ true = sym is ∙ h in
-          rw e record {
-            number = rw (q, register-dst r, p);
-            writes = λ h. absurd (omega (arith, h));
-            bounds = λ h. absurd (omega (arith, h));
-            next = refl;
-          }
+          no-destination t e (rw (q, register-dst r, p))
 
       pub resolve-register :
           b ≡ false → r .number < 16 →
-          Resolve (record { number = 0; register = true; index = r .number; word = reg-at regs r; next = next })
+          Resolve (record { how = 0; index = r .number; word = reg-at regs r; next = next })
       unfolding valid-dst-operand valid-operand eval-operand update-operand
       resolve-register h l =
           let p : eqb (r .number) 7 ≡ false = sym is ∙ h in
           record {
-            number = rw (q, register-dst r, p);
+            valid = λ _. rw (q, register-dst r, p);
+            fails = λ h. absurd (omega (arith, h));
             writes = λ _. record { word = rw q; update = λ v vs. rw q };
-            bounds = λ _. record { register = λ _. l; cell = λ h. absurd (never h) };
+            bounds = λ _. record { register = λ _. l; cell = λ h. absurd (h refl) };
             next = refl;
           }
 
@@ -114,13 +115,14 @@ module _ (addresses tags regs values : List ℕ) (o : Operand) (next : ℕ) (fil
 
       pub resolve-cell :
           Cells addresses tags values →
-          Resolve (record { number = 0; register = false; index = i; word = getD values i 0; next = next })
+          Resolve (record { how = 1; index = i; word = getD values i 0; next = next })
       unfolding valid-dst-operand valid-operand eval-operand update-operand cell-of
       resolve-cell cells =
           record {
-            number = rw (q, here, memory-dst m);
+            valid = λ _. rw (q, here, memory-dst m);
+            fails = λ h. absurd (omega (arith, h));
             writes = λ _. record { word = rw (q, here); update = λ v vs. rw (q, here) };
-            bounds = λ _. record { register = λ h. absurd (never (sym h)); cell = λ _. cell-inside cells };
+            bounds = λ _. record { register = λ h. absurd (omega (arith, h)); cell = λ _. cell-inside cells };
             next = refl;
           }
 
@@ -134,10 +136,4 @@ module _ (addresses tags regs values : List ℕ) (o : Operand) (next : ℕ) (fil
 
       pub resolve-none : (t : Slot) → t ≡ no-slot next → Resolve t
       unfolding valid-dst-operand valid-operand cell-of
-      resolve-none t g =
-          rw g record {
-            number = rw (q, nowhere);
-            writes = λ h. absurd (omega (arith, h));
-            bounds = λ h. absurd (omega (arith, h));
-            next = refl;
-          }
+      resolve-none t g = no-destination t g (rw (q, nowhere))

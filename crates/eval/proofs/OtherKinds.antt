@@ -7,38 +7,15 @@ use native.Mathlib.Omega.{arith}
 use borrow.Author.Tests.{ne-eqb}
 use Rattle.machine.specs.declared.Operand.the-variants.{OConst}
 use Rattle.code.specs.Records.{is-ocmp}
-use Rattle.code.specs.Families.{is-two, is-quads, is-shifts, is-inserts}
+use Rattle.code.specs.Families.{is-quads, is-shifts, is-inserts}
 use Rattle.code.proofs.Passing.{between-true}
 use Rattle.code.proofs.KindLaws.{each, _▹_}
-use Rattle.code.proofs.Families.{by-two-ins, by-quads-ins, by-shifts-ins, by-inserts-ins}
+use Rattle.code.proofs.Families.{by-quads-ins, by-shifts-ins, by-inserts-ins}
 use Rattle.eval.specs.Instructions.{checks-amount}
 
 -- a kind is another than this one
 abbrev Not : ℕ → ℕ → Type 0
 Not n k = k ≡ n → ⊥
-
-pub no-two :
-    (k : ℕ) → is-two k ≡ true →
-    Not 0x01 k → Not 0x02 k → Not 0x04 k → Not 0x05 k → Not 0x06 k → Not 0x07 k → Not 0x0a k → Not 0x0b k → Not 0x0c k → Not 0x0d k →
-    Not 0x0e k → ⊥
-no-two k h =
-    by-two-ins
-    (λ k i.
-    Not 0x01 k → Not 0x02 k → Not 0x04 k → Not 0x05 k → Not 0x06 k → Not 0x07 k → Not 0x0a k → Not 0x0b k → Not 0x0c k → Not 0x0d k →
-    Not 0x0e k → ⊥)
-    (OConst 0) (OConst 0)
-    (λ f _ _ _ _ _ _ _ _ _ _. f refl)
-    (λ _ f _ _ _ _ _ _ _ _ _. f refl)
-    (λ _ _ f _ _ _ _ _ _ _ _. f refl)
-    (λ _ _ _ f _ _ _ _ _ _ _. f refl)
-    (λ _ _ _ _ f _ _ _ _ _ _. f refl)
-    (λ _ _ _ _ _ f _ _ _ _ _. f refl)
-    (λ _ _ _ _ _ _ f _ _ _ _. f refl)
-    (λ _ _ _ _ _ _ _ f _ _ _. f refl)
-    (λ _ _ _ _ _ _ _ _ f _ _. f refl)
-    (λ _ _ _ _ _ _ _ _ _ f _. f refl)
-    (λ _ _ _ _ _ _ _ _ _ _ f. f refl)
-    k h
 
 pub no-quads : (k : ℕ) → is-quads k ≡ true → Not 0x0f k → Not 0x10 k → Not 0x14 k → ⊥
 no-quads k h =

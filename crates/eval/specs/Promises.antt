@@ -46,20 +46,20 @@ pub record Loads (env : Env) (s : Config) (o : Operand) (end : ℕ) (r : Loaded)
 
 -- no destination, and the place behind it
 abbrev pub no-slot : ℕ → Slot
-no-slot next = record { number = 32; register = false; index = 0; word = 0; next = next }
+no-slot next = record { how = 32; index = 0; word = 0; next = next }
 
 -- the registers with a word put into a slot
 abbrev pub put-regs : Slot → ℕ → List ℕ → List ℕ
-put-regs t v regs = cond (t .register) (set regs (t .index) v) regs
+put-regs t v regs = cond (eqb (t .how) 0) (set regs (t .index) v) regs
 
 -- the cells' values with a word put into a slot
 abbrev pub put-values : Slot → ℕ → List ℕ → List ℕ
-put-values t v values = cond (t .register) values (set values (t .index) v)
+put-values t v values = cond (eqb (t .how) 0) values (set values (t .index) v)
 
 -- a slot is a register, or one of n cells
 pub record InBounds (t : Slot) (n : ℕ) : Type 0 where
-  pub register : t .register ≡ true → t .index < 16
-  pub cell : t .register ≡ false → t .index < n
+  pub register : t .how ≡ 0 → t .index < 16
+  pub cell : (t .how ≡ 0 → ⊥) → t .index < n
 
 -- what a valid Slot says of a destination: its word, and how it is written, whatever the cells then hold
 pub record Writes (env : Env) (s : Config) (o : Operand) (t : Slot) : Type 0 where
@@ -68,11 +68,12 @@ pub record Writes (env : Env) (s : Config) (o : Operand) (t : Slot) : Type 0 whe
       (v : ℕ) (values : List ℕ) →
       update-operand env o v (with-values values s) ≡ with-values (put-values t v values) (with-regs (put-regs t v (s .regs)) s)
 
--- what a Slot says of a destination: the number of the check that fails, or 0, and then where it is written
+-- what a Slot says of a destination: 0 is a register and 1 a cell, and then where it is written; any other number is that of the check that fails
 pub record Resolves (env : Env) (s : Config) (o : Operand) (end : ℕ) (t : Slot) : Type 0 where
-  pub number : t .number ≡ cond (valid-dst-operand env o s) 0 32
-  pub writes : t .number ≡ 0 → Writes env s o t
-  pub bounds : t .number ≡ 0 → InBounds t (length (s .values))
+  pub valid : t .how ≤ 1 → valid-dst-operand env o s ≡ true
+  pub fails : 1 < t .how → (valid-dst-operand env o s ≡ false) × (t .how ≡ 32)
+  pub writes : t .how ≤ 1 → Writes env s o t
+  pub bounds : t .how ≤ 1 → InBounds t (length (s .values))
   pub next : t .next ≡ end
 
 -- ---- instructions
@@ -108,15 +109,14 @@ comparison k a b =
 abbrev pub OcmpAt : List ℕ → ℕ → Type 0
 OcmpAt bs at = (e : ℕ) × Stands is-ocmp bs at e × (e ≤ length bs)
 
--- what a Compared says: 1 where it holds, 0 where it does not, or the number of the check that fails; the place behind; and the flags that are left
-pub record Compares (env : Env) (s : Config) (c : Ocmp) (end : ℕ) (r : Compared) (flags : ℕ) : Type 0 where
+-- what a Compared says: 1 where it holds, 0 where it does not, or the number of the check that fails; and the place behind
+pub record Compares (env : Env) (s : Config) (c : Ocmp) (end : ℕ) (r : Compared) : Type 0 where
   pub how : r .how ≡ cond (valid-ocmp env c s) (cond (eval-ocmp env c s) 1 0) 31
-  pub flags-are : flags ≡ cond (valid-ocmp env c s) (env .fill) (s .flags)
   pub next : r .next ≡ end
 
 -- a Compared from s is that of the comparison that stands at a place
-abbrev pub ComparesAt : Env → List ℕ → ℕ → Config → Compared → ℕ → Type 0
-ComparesAt env bs at s r flags = (e : ℕ) → Stands is-ocmp bs at e → Compares env s (ocmp-at bs at) e r flags
+abbrev pub ComparesAt : Env → List ℕ → ℕ → Config → Compared → Type 0
+ComparesAt env bs at s r = (e : ℕ) → Stands is-ocmp bs at e → Compares env s (ocmp-at bs at) e r
 
 -- ---- codes
 -- a code stands at a place, inside the bytes

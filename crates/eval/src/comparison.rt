@@ -30,13 +30,11 @@ fn holds(kind: u8, a: u64, b: u64) -> bool
     }
 }
 
-// The comparison of an IfElse or a While: one that passes its check sets the flags.
+// The comparison of an IfElse or a While.
 pub fn compare(
     code: &[u8],
     at: usize,
-    fill: u64,
     regs: &[u64; 16],
-    flags: &mut u64,
     addresses: &[u64],
     tags: &[u8],
     values: &[u64],
@@ -44,9 +42,9 @@ pub fn compare(
     requires { ⌜ OcmpAt (now code) at ⌝ }
     requires { ⌜ Cells (now addresses) (now tags) (now values) ⌝ }
     ensures { λ r. ⌜
-        ((xmms : List ℕ) →
+        ((fill flags : ℕ) (xmms : List ℕ) →
         ComparesAt (environment (now (addresses .entry)) (now (tags .entry)) fill) (now (code .entry)) at
-        (held (now (regs .entry)) xmms (now (flags .entry)) (now (values .entry))) r (now (flags .exit)))
+        (held (now (regs .entry)) xmms flags (now (values .entry))) r)
         ⌝ }
 {
     let a = load(code, at + 1, regs, addresses, tags, values);
@@ -65,7 +63,6 @@ pub fn compare(
             next,
         };
     }
-    *flags = fill;
     if holds(code[at], a.word, b.word) {
         return Compared { how: 1, next };
     }

@@ -162,13 +162,14 @@ fn eval_if_else(
         ⌝ }
 {
     let test = at + 9;
-    let compared = compare(code, test, fill, regs, flags, addresses, tags, values);
+    let compared = compare(code, test, regs, addresses, tags, values);
     if 1 < compared.how {
         return Exit {
             number: compared.how,
             place: test,
         };
     }
+    *flags = fill;
     let first = compared.next;
     let second = first + number4(code, at + 1);
     let end = second + number4(code, at + 5);
@@ -220,13 +221,14 @@ fn eval_while(
     let mut left = fuel;
     while left != 0 {
         let test = at + 5;
-        let compared = compare(code, test, fill, regs, flags, addresses, tags, values);
+        let compared = compare(code, test, regs, addresses, tags, values);
         if 1 < compared.how {
             return Exit {
                 number: compared.how,
                 place: test,
             };
         }
+        *flags = fill;
         let body = compared.next;
         let end = body + number4(code, at + 1);
         if compared.how == 0 {

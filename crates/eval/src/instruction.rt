@@ -13,6 +13,7 @@ use crate::products::multiply;
 use crate::products::multiply_into;
 use crate::twos::add_lea;
 use crate::twos::two_operands;
+use code::is_two;
 
 fn lane_instruction(
     code: &[u8],
@@ -68,18 +69,15 @@ pub fn instruction(
         (held (now (regs .exit)) (now (xmms .exit)) (now (flags .exit)) (now (values .exit)))
         ⌝ }
 {
-    match code[at] {
-        0x01 | 0x02 | 0x04..=0x07 | 0x0a..=0x0e => {
-            two_operands(code, at, fill, regs, flags, addresses, tags, values)
-        }
+    let kind = code[at];
+    if is_two(kind) {
+        return two_operands(code, at, fill, regs, flags, addresses, tags, values);
+    }
+    match kind {
         0x03 => add_lea(code, at, regs, addresses, tags, values),
         0x08 => multiply(code, at, fill, regs, flags, addresses, tags, values),
         0x09 => multiply_into(code, at, regs, addresses, tags, values),
-        0x0f..=0x18 => lane_instruction(code, at, fill, regs, xmms, flags, addresses, tags, values),
-        // No other kind comes here.
-        _ => Exit {
-            number: 0,
-            place: at,
-        },
+        // The others are the lanes', each with an arm there.
+        _ => lane_instruction(code, at, fill, regs, xmms, flags, addresses, tags, values),
     }
 }

@@ -187,9 +187,9 @@ pub fn extract(
         ⌝ }
 {
     let dst = resolve(code, at + 3, regs, addresses, tags, values);
-    if dst.number != 0 {
+    if 1 < dst.how {
         return Exit {
-            number: dst.number,
+            number: dst.how,
             place: at,
         };
     }

@@ -27,11 +27,10 @@ pub struct Loaded {
     pub next: usize,
 }
 
-// A destination: 0 or the number of the check that fails; whether it is a register or a cell, and
-// which; the word that it holds; and the place behind its record.
+// A destination: 0 where it is a register, 1 where it is a cell, or the number of the check that fails;
+// which register or cell; the word that it holds; and the place behind its record.
 pub struct Slot {
-    pub number: u8,
-    pub register: bool,
+    pub how: u8,
     pub index: usize,
     pub word: u64,
     pub next: usize,
@@ -106,8 +105,7 @@ fn nowhere(next: usize) -> Slot
     ensures { λ r. ⌜ r ≡ no-slot next ⌝ }
 {
     Slot {
-        number: 32,
-        register: false,
+        how: 32,
         index: 0,
         word: 0,
         next,
@@ -141,8 +139,7 @@ pub fn resolve(
             }
             let index = register.number as usize;
             Slot {
-                number: 0,
-                register: true,
+                how: 0,
                 index,
                 word: regs[index],
                 next,
@@ -150,8 +147,7 @@ pub fn resolve(
         }
         Form::Memory => match cell_at(code, at, regs, addresses, tags) {
             Found::At(index) => Slot {
-                number: 0,
-                register: false,
+                how: 1,
                 index,
                 word: values[index],
                 next,
@@ -163,11 +159,11 @@ pub fn resolve(
 
 // The registers as `put` will leave them.
 pub fn registers_with(t: Slot, word: u64, regs: &[u64; 16]) -> [u64; 16]
-    requires { ⌜ (t .register ≡ true → t .index < 16) ⌝ }
+    requires { ⌜ (t .how ≡ 0 → t .index < 16) ⌝ }
     ensures { λ r. ⌜ r ≡ put-regs t word (now (regs .entry)) ⌝ }
 {
     let mut after = *regs;
-    if t.register {
+    if t.how == 0 {
         let index = t.index;
         after[index] = word;
     }
@@ -181,7 +177,7 @@ pub fn put(t: Slot, word: u64, regs: &mut [u64; 16], values: &mut [u64])
     ensures { λ _. ⌜ now (values .exit) ≡ put-values t word (now (values .entry)) ⌝ }
 {
     let index = t.index;
-    if t.register {
+    if t.how == 0 {
         regs[index] = word;
     } else {
         values[index] = word;

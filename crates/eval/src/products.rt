@@ -90,9 +90,9 @@ pub fn multiply_into(
             place: at,
         };
     }
-    if low.number != 0 {
+    if 1 < low.how {
         return Exit {
-            number: low.number,
+            number: low.how,
             place: at,
         };
     }
@@ -101,9 +101,9 @@ pub fn multiply_into(
     let product = mul_wide(regs[from], src.word);
     let after = registers_with(low, product.low, regs);
     let high = resolve(code, at + 1, &after, addresses, tags, values);
-    if high.number != 0 {
+    if 1 < high.how {
         return Exit {
-            number: high.number,
+            number: high.how,
             place: at,
         };
     }

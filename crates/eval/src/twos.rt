@@ -68,9 +68,9 @@ pub fn two_operands(
             place: at,
         };
     }
-    if dst.number != 0 {
+    if 1 < dst.how {
         return Exit {
-            number: dst.number,
+            number: dst.how,
             place: at,
         };
     }
@@ -119,9 +119,9 @@ pub fn add_lea(
             place: at,
         };
     }
-    if dst.number != 0 {
+    if 1 < dst.how {
         return Exit {
-            number: dst.number,
+            number: dst.how,
             place: at,
         };
     }

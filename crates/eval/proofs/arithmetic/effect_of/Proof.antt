@@ -1,7 +1,10 @@
 -- Each arm is the word and the flags of its kind.
-use mathlib.Core.Path.{_∙_}
+use mathlib.Core.Path.{sym, _∙_}
 use Rattle.eval.specs.Instructions.{two-word, two-flags}
-use Rattle.eval.proofs.OtherKinds.{no-two}
+use Rattle.code.specs.Families.{twos}
+use Rattle.code.proofs.Passing.{never}
+use Rattle.code.proofs.KindLaws.{_▹_}
+use Rattle.code.proofs.Families.{none-among}
 use Rattle.eval.proofs.InstructionLaws.{plus-none}
 use borrow.Author.Needs.{needs}
 use Rattle.eval.proofs.arithmetic.effect_of.Statement.{statement}
@@ -103,10 +106,12 @@ returns-11 c = record { word-is = rw (c .before .match .keys11) (c .ishl64 .ensu
 returns-12 : tie.Need-returns-12
 returns-12 c =
     let r = c .match .rest in
-    let below7 = r .0 .0 .0 .0 .0 in
+    let six = r .0 .0 .0 .0 .0 in
     absurd
-    (no-two _ (c .before .pre) (below7 .0 .0 .0 .0 .0 .1) (below7 .0 .0 .0 .0 .1) (below7 .0 .0 .0 .1) (below7 .0 .0 .1) (below7 .0 .1) (below7 .1)
-    (r .0 .0 .0 .0 .1) (r .0 .0 .0 .1) (r .0 .0 .1) (r .0 .1) (r .1))
+    (never (sym (c .before .pre)
+    ∙ none-among _ twos
+    (six .0 .0 .0 .0 .0 .1 ▹ six .0 .0 .0 .0 .1 ▹ six .0 .0 .0 .1 ▹ six .0 .0 .1 ▹ six .0 .1 ▹ six .1
+    ▹ r .0 .0 .0 .0 .1 ▹ r .0 .0 .0 .1 ▹ r .0 .0 .1 ▹ r .0 .1 ▹ r .1 ▹ tt)))
 
 pub effect-of-spec : {M : Type 1} → statement M
 effect-of-spec =

@@ -33,9 +33,9 @@ returns c =
     let one = c .before .before .before .load in
     let two = c .before .before .load2 in
     let p = s .pre .0 in
-    λ xmms e h.
-    let first = one .ensures (s .args .fill) (s .args .flags .now) xmms in
-    let second = two .ensures (s .args .fill) (s .args .flags .now) xmms in
+    λ fill flags xmms e h.
+    let first = one .ensures fill flags xmms in
+    let second = two .ensures fill flags xmms in
     first-unread _ _ _ _ e h (stands-inside _ _ (p .0) (p .1) (p .2) e h) (one .result) (two .result) first second (c .if1 .taken)
 
 returns-2 : tie.Need-returns-2
@@ -45,9 +45,9 @@ returns-2 c =
     let two = c .before .before .before .before .load2 in
     let if1 = c .before .before .if1 in
     let p = s .pre .0 in
-    λ xmms e h.
-    let first = one .ensures (s .args .fill) (s .args .flags .now) xmms in
-    let second = two .ensures (s .args .fill) (s .args .flags .now) xmms in
+    λ fill flags xmms e h.
+    let first = one .ensures fill flags xmms in
+    let second = two .ensures fill flags xmms in
     second-unread _ _ _ _ e h (stands-inside _ _ (p .0) (p .1) (p .2) e h) (one .result) (two .result) first second (if1 .left) (c .if2 .taken)
 
 shared-slice-read-holds : tie.Need-shared-slice-read-holds
@@ -71,9 +71,9 @@ returns-3 c =
     let if2 = c .before .before .before .if2 in
     let held = c .before .holds in
     let p = s .pre .0 in
-    λ xmms e h.
-    let first = one .ensures (s .args .fill) (s .args .flags .now) xmms in
-    let second = two .ensures (s .args .fill) (s .args .flags .now) xmms in
+    λ fill flags xmms e h.
+    let first = one .ensures fill flags xmms in
+    let second = two .ensures fill flags xmms in
     compared _ _ _ _ e h (stands-inside _ _ (p .0) (p .1) (p .2) e h) (one .result) (two .result) first second (if1 .left) (if2 .left)
     true (sym (held .ensures) ∙ c .if3 .taken)
 
@@ -87,9 +87,9 @@ returns-4 c =
     let if2 = c .before .before .before .if2 in
     let held = c .before .holds in
     let p = s .pre .0 in
-    λ xmms e h.
-    let first = one .ensures (s .args .fill) (s .args .flags .now) xmms in
-    let second = two .ensures (s .args .fill) (s .args .flags .now) xmms in
+    λ fill flags xmms e h.
+    let first = one .ensures fill flags xmms in
+    let second = two .ensures fill flags xmms in
     compared _ _ _ _ e h (stands-inside _ _ (p .0) (p .1) (p .2) e h) (one .result) (two .result) first second (if1 .left) (if2 .left)
     false (sym (held .ensures) ∙ c .if3 .left)
 

@@ -116,16 +116,16 @@ if-else-claims t = (
 branch :
     (t : ℕ) (c : eval-if-else-lts.Joined3 (if-else-claims t) (at one of-parts eval-if-else.Pre t) eval-if-else.Post) →
     let answer = c .before .before .before .before .before .before .before .before in
-    let a = answer .before .before .before .before .before .before .before .before .args in
+    let a = answer .before .before .before .before .before .before .before .args in
     let x = answer .compare in
     let size = c .before .before .before .before .before .number4 in
     let other = c .before .before .before .before .number42 in
     Branch (environment (a .addresses .now) (a .tags .now) (a .fill)) (a .code .now) (a .at) (a .fuel) t
-    (held (a .regs .now) (a .xmms .now) (a .flags .now) (a .values .now)) (x .result) (x .last .1 .1 .1 .1 .0)
+    (held (a .regs .now) (a .xmms .now) (a .flags .now) (a .values .now)) (x .result)
     (c .before .before .if2 .part) (c .if3 .behind) (x .result .next + size .result + other .result)
 branch t c =
     let answer = c .before .before .before .before .before .before .before .before in
-    let start = answer .before .before .before .before .before .before .before .before in
+    let start = answer .before .before .before .before .before .before .before in
     let x = answer .compare in
     let size = c .before .before .before .before .before .number4 in
     let other = c .before .before .before .before .number42 in
@@ -133,7 +133,7 @@ branch t c =
       chosen =
           record {
             kind = start .pre .1 .1 .0;
-            compared = x .ensures (start .args .xmms .now);
+            compared = x .ensures (start .args .fill) (start .args .flags .now) (start .args .xmms .now);
             mid = x .result .next + size .result;
             mid-is = ap (λ (n : ℕ). x .result .next + n) (size .ensures .0);
             end-is = ap (λ (n : ℕ). x .result .next + size .result + n) (other .ensures .0);
@@ -187,24 +187,24 @@ abbrev μ-while : eval-while-lts.MeasureT-loop
 turn :
     (t : ℕ) (c : eval-while-lts.After-number4 (while-claims t) (at one of-parts eval-while.Pre t) eval-while.Post Inv-while μ-while) →
     let answer = c .before .before .before in
-    let head = answer .before .before .before .before .before in
+    let head = answer .before .before .before .before in
     let a = head .before .before .before .before .before .args in
     let x = answer .compare in
     let l = head .loop in
     Turn (environment (a .addresses .now) (a .tags .now) (a .fill)) (a .code .now) (a .at) (a .fuel) t
     (held (a .regs .now) (a .xmms .now) (a .flags .now) (a .values .now)) (l .left)
-    (held (l .regs) (l .xmms) (l .flags) (l .values)) (x .result) (x .last .1 .1 .1 .1 .0) (x .result .next + c .number4 .result)
+    (held (l .regs) (l .xmms) (l .flags) (l .values)) (x .result) (x .result .next + c .number4 .result)
 turn t c =
     let answer = c .before .before .before in
-    let head = answer .before .before .before .before .before in
+    let head = answer .before .before .before .before in
     let start = head .before .before .before .before .before in
     let x = answer .compare in
     record {
       round =
           record {
             kind = start .pre .1 .1 .0;
-            some-fuel = answer .before .before .before .before .loop-test .taken;
-            compared = x .ensures (head .loop .xmms);
+            some-fuel = answer .before .before .before .loop-test .taken;
+            compared = x .ensures (start .args .fill) (head .loop .flags) (head .loop .xmms);
             end-is = ap (λ (n : ℕ). x .result .next + n) (c .number4 .ensures .0);
           };
       looping = head .loop .inv;
