@@ -26,7 +26,9 @@ module _ (bs : List ℕ) (bytes : Bytes bs) where
   pub word-lt : (at : ℕ) → number-at 8 bs at < 2 ^ 64
   word-lt at = number-lt bs bytes 8 at
 
-  signed-of : (n x : ℕ) (t : Bool) → ltb x (2 ^ (n - 1)) ≡ t → x < 2 ^ n → 2 ^ n ≡ 2 * 2 ^ (n - 1) → Signed n (cond t (pos x) (negsuc (2 ^ n - 1 - x)))
+  signed-of :
+      (n x : ℕ) (t : Bool) → ltb x (2 ^ (n - 1)) ≡ t → x < 2 ^ n → 2 ^ n ≡ 2 * 2 ^ (n - 1) →
+      Signed n (cond t (pos x) (negsuc (2 ^ n - 1 - x)))
   signed-of n x true h l e = ltb-true _ _ h
   signed-of n x false h l e = let m : 2 ^ (n - 1) ≤ x = ltb-false _ _ h in omega arith
 

@@ -70,7 +70,8 @@ two-or-lane : ℕ → Bool
 two-or-lane k = is-two k || (eqb k 0x03 || (eqb k 0x08 || (eqb k 0x09 || between 0x0f 0x18 k)))
 
 pub lane-kinds :
-    (k : ℕ) → is-ins k ≡ true → is-two k ≡ false → (k ≡ 0x03 → ⊥) → (k ≡ 0x08 → ⊥) → (k ≡ 0x09 → ⊥) → (0x0f ≤ k) × (k < 0x19)
+    (k : ℕ) → is-ins k ≡ true → is-two k ≡ false → (k ≡ 0x03 → ⊥) → (k ≡ 0x08 → ⊥) → (k ≡ 0x09 → ⊥) →
+    (0x0f ≤ k) × (k < 0x19)
 unfolding two-or-lane
 lane-kinds k is none lea mul mulx =
     let w = between-true 0x01 last-ins k is in

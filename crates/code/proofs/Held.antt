@@ -193,7 +193,8 @@ bytes-say (b ∷ xs) bs at h x e =
     rw (c, bytes-say xs bs (suc at) (h .1) (x + 1) (omega arith))
 
 pub fields-held :
-    (bytes : List Byte) (f : ℕ) (bs : List ℕ) (at x : ℕ) → Holds bs x (values bytes) → x ≡ at + f → WfBytes bytes → Fields (numbers-from f bytes) bs at
+    (bytes : List Byte) (f : ℕ) (bs : List ℕ) (at x : ℕ) →
+    Holds bs x (values bytes) → x ≡ at + f → WfBytes bytes → Fields (numbers-from f bytes) bs at
 fields-held [] f bs at x h e w = tt
 fields-held (number n ∷ bytes) f bs at x h e w =
     let c : byte-at bs (at + f) ≡ n = ap (byte-at bs) (sym e) ∙ h .0 in

@@ -1,7 +1,7 @@
 -- The kinds: each law holds at every byte, by the ranges of the definition or by one test that antt computes.
 -- Assumes nothing.
 use Prim.Native.Nat.{ℕ, zero, suc, _+_, _*_, _/_, _%_, _≤_, _<_}
-use mathlib.Core.Path.{_≡_, refl, sym, subst}
+use mathlib.Core.Path.{_≡_, refl, subst}
 use mathlib.Core.Bool.{Bool, true, false, not, _&&_, _||_}
 use mathlib.Core.List.{List, [], _∷_}
 use mathlib.Core.Logic.{_⊎_, inl, inr, ⊎-elim}
@@ -29,19 +29,6 @@ within f (suc n) low h k l m =
     (λ e. within f n (suc low) (w .1) k (omega arith) (omega arith))
     (eq-or-lt-of-le l)
 
--- two tests that say the same at each of n numbers from low on
-abbrev pub alike : Bool → Bool → Bool
-alike true b = b
-alike false b = not b
-
-alike-true : (a b : Bool) → alike a b ≡ true → a ≡ b
-alike-true true b h = sym h
-alike-true false b h = sym (not-true b h)
-
-pub alike-within :
-    (f g : ℕ → Bool) (n low : ℕ) → all-from (λ x. alike (f x) (g x)) low n ≡ true → (k : ℕ) → low ≤ k → k < low + n → f k ≡ g k
-alike-within f g n low h k l m = alike-true (f k) (g k) (within (λ x. alike (f x) (g x)) n low h k l m)
-
 -- what holds of n numbers from low on
 abbrev pub Each : (ℕ → Type 0) → ℕ → ℕ → Type 0
 Each P low zero = Unit {0}
@@ -55,6 +42,19 @@ pub each : (P : ℕ → Type 0) (n low : ℕ) → Each P low n → (k : ℕ) →
 each P zero low h k l m = absurd (omega arith)
 each P (suc n) low h k l m =
     ⊎-elim (λ e. subst P e (h .0)) (λ e. each P n (suc low) (h .1) k (omega arith) (omega arith)) (eq-or-lt-of-le l)
+
+-- what a function says of n numbers from low on, and two that say the same
+abbrev pub answers : {A : Type 0} → (ℕ → A) → ℕ → ℕ → List A
+answers f low zero = []
+answers f low (suc n) = f low ∷ answers f (suc low) n
+
+pub same-within :
+    {A : Type 0} (f g : ℕ → A) (n low : ℕ) → answers f low n ≡ answers g low n → (k : ℕ) → low ≤ k → k < low + n → f k ≡ g k
+same-within {A} f g n low h k l m = each (λ (x : ℕ). f x ≡ g x) n low (each-same n low h) k l m
+  where
+    each-same : (n low : ℕ) → answers f low n ≡ answers g low n → Each (λ (x : ℕ). f x ≡ g x) low n
+    each-same zero low h = tt
+    each-same (suc n) low h = (cc, each-same n (suc low) (cc))
 
 and-none : (a b : Bool) → b ≡ false → (a && b) ≡ false
 and-none true b h = h

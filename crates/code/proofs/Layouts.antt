@@ -18,7 +18,7 @@ use Rattle.code.specs.Layout.{Byte, number, amount, Layout, laid, layout
 use Rattle.code.specs.Records.{is-ins, is-ocmp, body-length, operand-count, register-fields}
 use Rattle.code.specs.WellFormed.{WfByte, WfOperand, All, WfLayout}
 use Rattle.code.proofs.Passing.{and-both, between-true}
-use Rattle.code.proofs.KindLaws.{each, _▹_, same, same-true}
+use Rattle.code.proofs.KindLaws.{answers, same-within, same, same-true}
 
 -- ---- the shape of a kind: its body's length, its number of operands, its register fields
 pub record Shape (k size count : ℕ) (fields : List ℕ) : Type 0 where
@@ -132,34 +132,31 @@ firsts-of (suc n) o = o 0 ∷ firsts-of n (λ i. o (suc i))
 abbrev pub firsts : ℕ → List Operand → List Operand
 firsts n os = firsts-of n (λ i. getD os i (OConst 0))
 
+-- two functions that say the same of each kind of instruction, or of each kind of comparison, by one equation that antt computes
+module _ {A : Type 0} (f g : ℕ → A) where
+  ins-same : answers f 0x01 last-ins ≡ answers g 0x01 last-ins → (k : ℕ) → is-ins k ≡ true → f k ≡ g k
+  ins-same e k h = let w = between-true 0x01 last-ins k h in same-within f g last-ins 0x01 e k (w .0) (omega (arith, w .1))
+
+  ocmp-same : answers f 0x30 6 ≡ answers g 0x30 6 → (k : ℕ) → is-ocmp k ≡ true → f k ≡ g k
+  ocmp-same e k h = let w = between-true 0x30 0x35 k h in same-within f g 6 0x30 e k (w .0) (omega (arith, w .1))
+
 -- the instruction of a kind, and the comparison of a kind, are laid out so
 module _ (k : ℕ) (bytes : List ℕ) (os : List Operand) where
-  abbrev InsLaid : ℕ → Type 0
-  InsLaid k =
-      layout (ins-of k bytes os) ≡ laid k (like (shape k .body) (λ i. getD bytes i 0)) (firsts (operand-count k) os)
+  abbrev ins-layout : ℕ → Layout
+  ins-layout k = laid k (like (shape k .body) (λ i. getD bytes i 0)) (firsts (operand-count k) os)
 
-  pub ins-laid : is-ins k ≡ true → InsLaid k
+  pub ins-laid : is-ins k ≡ true → layout (ins-of k bytes os) ≡ ins-layout k
   unfolding operand-count
-  ins-laid h =
-      let w = between-true 0x01 last-ins k h in
-      each InsLaid last-ins 0x01 (search depth 40) k (w .0) (omega (arith, w .1))
+  ins-laid h = ins-same (λ k. layout (ins-of k bytes os)) ins-layout refl k h
 
-  abbrev OcmpLaid : ℕ → Type 0
-  OcmpLaid k = ocmp-layout (ocmp-of k os) ≡ laid k [] (firsts (operand-count k) os)
-
-  pub ocmp-laid : is-ocmp k ≡ true → OcmpLaid k
+  pub ocmp-laid : is-ocmp k ≡ true → ocmp-layout (ocmp-of k os) ≡ laid k [] (firsts (operand-count k) os)
   unfolding operand-count
-  ocmp-laid h =
-      let w = between-true 0x30 0x35 k h in
-      each OcmpLaid 6 0x30 (refl ▹ refl ▹ refl ▹ refl ▹ refl ▹ refl ▹ tt) k (w .0) (omega (arith, w .1))
+  ocmp-laid h = ocmp-same (λ k. ocmp-layout (ocmp-of k os)) (λ k. laid k [] (firsts (operand-count k) os)) refl k h
 
 -- a comparison has no body and two operands
 pub ocmp-counts : (k : ℕ) → is-ocmp k ≡ true → (body-length k ≡ 0) × (operand-count k ≡ 2)
 unfolding body-length operand-count
-ocmp-counts k h =
-    let w = between-true 0x30 0x35 k h in
-    each (λ (k : ℕ). (body-length k ≡ 0) × (operand-count k ≡ 2)) 6 0x30
-    ((refl, refl) ▹ (refl, refl) ▹ (refl, refl) ▹ (refl, refl) ▹ (refl, refl) ▹ (refl, refl) ▹ tt) k (w .0) (omega (arith, w .1))
+ocmp-counts k h = (ocmp-same body-length (λ k. 0) refl k h, ocmp-same operand-count (λ k. 2) refl k h)
 
 -- ---- the bounds of a layout are those of its body and those of its operands
 abbrev pub Every : List (Type 0) → Type 0

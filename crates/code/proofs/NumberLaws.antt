@@ -32,7 +32,8 @@ unfolding number-at
 number-lt bs bytes n at = spelled-lt n (λ j. byte-at bs (at + j)) (λ j. bytes (at + j))
 
 -- bytes that are those of a number say it
-pub number-is : (n x : ℕ) (bs : List ℕ) (at : ℕ) → x < 256 ^ n → ((j : ℕ) → j < n → byte-at bs (at + j) ≡ byte j x) → number-at n bs at ≡ x
+pub number-is :
+    (n x : ℕ) (bs : List ℕ) (at : ℕ) → x < 256 ^ n → ((j : ℕ) → j < n → byte-at bs (at + j) ≡ byte j x) → number-at n bs at ≡ x
 unfolding number-at
 number-is n x bs at = spelled-bytes n x (λ j. byte-at bs (at + j))
 

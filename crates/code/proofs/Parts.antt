@@ -170,7 +170,8 @@ module _ (one : One) (e at : ℕ) (r : Reach) (of : reach r ≡ reached (one e a
   part-full next h x = let w = went r (one e at) of next h in full-of one e at (w .0) next (w .1) x
 
 -- where a part, and a comparison, have been read to
-pub part-end : (d : ℕ) (bs : List ℕ) (e at : ℕ) (r : Reach) → reach r ≡ reached (read-part (read-code d bs) e at) → (m : ℕ) → r ≡ Next m → m ≡ e
+pub part-end :
+    (d : ℕ) (bs : List ℕ) (e at : ℕ) (r : Reach) → reach r ≡ reached (read-part (read-code d bs) e at) → (m : ℕ) → r ≡ Next m → m ≡ e
 part-end d bs e at r of m h =
     let w = went r (read-part (read-code d bs) e at) of m h in
     part-sound (read-code d bs) d bs (λ e at c m h. code-sound d bs e at c m h) e at (w .0) m (w .1) .1
