@@ -1,4 +1,5 @@
-// The kinds of records: what a kind byte is, and the table of body lengths and operand counts.
+// The kinds of records: what a kind byte is, the table of body lengths and operand counts, and the
+// instructions of a destination and a source.
 ghost use mathlib.Core.Path.{_≡_};
 ghost use mathlib.Core.Bool.{true};
 ghost use Prim.Native.Nat.{_<_};
@@ -295,8 +296,8 @@ fn entry(kind: u8) -> usize
     wide(TABLE[wide(kind)])
 }
 
-// Bit k is set where k is the kind of an instruction of a destination and a source. A word of bits,
-// since the evaluator asks at each instruction and a load from the table costs more than a shift.
+// Bit k is set where k is the kind of an instruction of a destination and a source. A word of bits
+// and no table: the evaluator asks at each instruction, and so reads no memory for it.
 const TWOS: u64 = 0b0111_1100_1111_0110;
 
 // Whether a kind is that of an instruction of a destination and a source.
