@@ -1,17 +1,34 @@
 -- What the functions are asked, said of what their calls have answered: laws by which `search` closes it. Assumes nothing.
 use Prim.Native.Nat.{ℕ, _+_, _-_, _*_, _^_, _≤_, _<_}
 use mathlib.Core.Path.{_≡_, refl, sym, ap, _∙_}
+use mathlib.Core.Bool.{Bool, true, false}
 use mathlib.Core.List.{List, []}
 use native.Mathlib.Omega.{arith}
-use lib.ListN.{length}
+use lib.Dec.{eqb}
+use lib.ListN.{length, getD}
 use mir.Syntax.{w64}
 use mir.Val.{Fits}
-use Rattle.code.specs.Records.{is-ocmp, byte-at, number-at}
-use Rattle.code.specs.Spells.{Stands}
+use Rattle.machine.specs.Registers.{reg-at, Rsp}
+use Rattle.machine.specs.Operands.{eval-maddr}
+use Rattle.machine.specs.Cells.{find-cell, index-of}
+use Rattle.machine.specs.declared.reg.Reg.{Reg}
+use Rattle.machine.specs.declared.Found.{Found}
+use Rattle.machine.specs.declared.Found.the-variants.{At, Nothing}
+use Rattle.machine.specs.declared.Maddr.{Maddr}
+use Rattle.machine.specs.declared.Operand.the-variants.{OMem}
+use Rattle.code.specs.Records.{is-ocmp, byte-at, number-at, operand-at, behind}
+use Rattle.code.specs.Spells.{OperandBytes, Stands}
+use Rattle.code.specs.Forms.{form-of}
+use Rattle.code.specs.declared.records.Form.{Form}
+use Rattle.code.specs.declared.records.Form.the-variants.{Const, Register, Memory}
+use Rattle.code.proofs.Forms.{constant-is, register-is, register-below}
 use Rattle.eval.specs.Config.{Env, Config, with-flags}
-use Rattle.eval.specs.Promises.{environment, held, Cells, CodeAt, CodesAt, InsAt, OcmpAt, codes-from, ComparesAt, Runs, RunsIns, RunsAll}
+use Rattle.eval.specs.Promises.{environment, held, Cells, CodeAt, CodesAt, InsAt, OcmpAt, codes-from, Loads, Resolves, no-slot, ComparesAt, Runs, RunsIns, RunsAll}
 use Rattle.eval.specs.declared.exit.Exit.{Exit}
+use Rattle.eval.specs.declared.operand.Loaded.{Loaded}
+use Rattle.eval.specs.declared.operand.Slot.{Slot}
 use Rattle.eval.specs.declared.comparison.Compared.{Compared}
+use Rattle.eval.proofs.OperandLaws.{load-constant, load-register, load-cell, load-none, resolve-constant, resolve-rsp, resolve-register, resolve-cell, resolve-none, cell-inside}
 use Rattle.eval.proofs.InstructionLaws.{exit}
 use Rattle.eval.proofs.CycleLaws.{code-frame, starts, has-length, block-inside, choice-inside, loop-inside, how-done, ins-ran, codes-past, Going, next-there, next-past, block-codes, block-ran, if-unread, Chosen, chosen-there, chosen-ran, Looping, loop-ran, loop-spent, loop-unread, loop-done, Round, round-ends, round-there, round-goes, round-stops}
 
@@ -229,3 +246,78 @@ turn-done env bs at fuel m s₀ left regs xmms values flags x end w h =
     let r = w .round in
     loop-ran env bs at fuel s₀ left _ (w .looping) _ _ (loop-done env bs at left _ (r .kind) (r .some-fuel) x (r .compared) h)
     (λ c e y _. round-ends env bs at left _ x end r c e y)
+
+-- ---- an operand, of which a form was decoded, and the place next behind it
+abbrev Finds : List ℕ → List ℕ → List ℕ → List ℕ → ℕ → Found → Type 0
+Finds addresses tags regs bs at f =
+    (m : Maddr) → operand-at bs at ≡ OMem m → index-of f ≡ find-cell addresses tags (eval-maddr m regs)
+
+module _ (addresses tags regs values bs : List ℕ) (at next : ℕ) (is-next : next ≡ behind bs at) (form : Form)
+    (is : form ≡ form-of (operand-at bs at)) where
+  module _ (fill flags : ℕ) (xmms : List ℕ) where
+    abbrev Load : Loaded → Type 0
+    Load r = Loads (environment addresses tags fill) (held regs xmms flags values) (operand-at bs at) (behind bs at) r
+
+    abbrev Resolve : Slot → Type 0
+    Resolve t = Resolves (environment addresses tags fill) (held regs xmms flags values) (operand-at bs at) (behind bs at) t
+
+    module _ (n : ℕ) (constant : form ≡ Const n) where
+      pub loads-constant : Load (record { number = 0; word = n; next = next })
+      loads-constant = rw is-next (load-constant _ _ _ _ _ _ fill flags xmms n (constant-is _ n (sym is ∙ constant)))
+
+      pub no-constant : (t : Slot) → t ≡ no-slot next → Resolve t
+      no-constant t e = resolve-constant _ _ _ _ _ _ fill flags xmms n (constant-is _ n (sym is ∙ constant)) t (e ∙ ap no-slot is-next)
+
+    module _ (r : Reg) (register : form ≡ Register r) where
+      pub loads-register : Load (record { number = 0; word = reg-at regs r; next = next })
+      loads-register = rw is-next (load-register _ _ _ _ _ _ fill flags xmms r (register-is _ r (sym is ∙ register)))
+
+      module _ (b : Bool) (rsp : b ≡ eqb (r .number) (Rsp .number)) where
+        pub no-rsp : b ≡ true → (t : Slot) → t ≡ no-slot next → Resolve t
+        no-rsp h t e =
+            resolve-rsp _ _ _ _ _ _ fill flags xmms r (register-is _ r (sym is ∙ register)) b rsp h t (e ∙ ap no-slot is-next)
+
+        pub resolves-register :
+            b ≡ false → OperandBytes bs at →
+            Resolve (record { how = 0; index = r .number; word = reg-at regs r; next = next })
+        resolves-register h stands =
+            let q = register-is _ r (sym is ∙ register) in
+            rw is-next (resolve-register _ _ _ _ _ _ fill flags xmms r q b rsp h (register-below bs at stands r q))
+
+    module _ (memory : form ≡ Memory) (f : Found) (found : Finds addresses tags regs bs at f) where
+      pub loads-cell : (i : ℕ) → f ≡ At i → Load (record { number = 0; word = getD values i 0; next = next })
+      loads-cell i e = rw is-next (load-cell _ _ _ _ _ _ fill flags xmms form is memory f found i e)
+
+      pub loads-none : f ≡ Nothing → Load (record { number = 31; word = 0; next = next })
+      loads-none e = rw is-next (load-none _ _ _ _ _ _ fill flags xmms form is memory f found e)
+
+      pub resolves-cell :
+          (i : ℕ) → f ≡ At i → Cells addresses tags values →
+          Resolve (record { how = 1; index = i; word = getD values i 0; next = next })
+      resolves-cell i e cells = rw is-next (resolve-cell _ _ _ _ _ _ fill flags xmms form is memory f found i e cells)
+
+      pub no-cell : f ≡ Nothing → (t : Slot) → t ≡ no-slot next → Resolve t
+      no-cell e t g = resolve-none _ _ _ _ _ _ fill flags xmms form is memory f found e t (g ∙ ap no-slot is-next)
+
+-- f is what was found for a memory operand, in some registers
+pub record IsFound (addresses tags bs : List ℕ) (at : ℕ) (f : Found) : Type 0 where
+  pub regs : List ℕ
+  pub found : Finds addresses tags regs bs at f
+
+pub is-found : (addresses tags regs bs : List ℕ) (at : ℕ) (f : Found) → Finds addresses tags regs bs at f → IsFound addresses tags bs at f
+is-found addresses tags regs bs at f h = record { regs = regs; found = h }
+
+module _ (bs : List ℕ) (at : ℕ) (form : Form) (is : form ≡ form-of (operand-at bs at)) where
+  pub register-inside : OperandBytes bs at → (r : Reg) → form ≡ Register r → r .number < 16
+  register-inside stands r register = register-below bs at stands r (register-is _ r (sym is ∙ register))
+
+  pub is-memory : form ≡ Memory → form-of (operand-at bs at) ≡ Memory
+  is-memory memory = sym is ∙ memory
+
+  module _ (addresses tags values : List ℕ) (cells : Cells addresses tags values) (memory : form ≡ Memory) (f : Found)
+      (w : IsFound addresses tags bs at f) (i : ℕ) (e : f ≡ At i) where
+    pub found-inside : i < length values
+    found-inside = cell-inside addresses tags (w .regs) values _ 0 0 0 [] form is memory f (w .found) i e cells
+
+    pub found-fits : length values * 8 < 2 ^ 63 → Fits w64 (i * 8)
+    found-fits room = omega (arith, found-inside)
