@@ -1,7 +1,7 @@
 -- What the functions are asked, said of what their calls have answered: laws by which `search` closes it. Assumes nothing.
 use Prim.Native.Nat.{ℕ, _+_, _-_, _*_, _^_, _≤_, _<_}
 use mathlib.Core.Path.{_≡_, refl, sym, ap, _∙_}
-use mathlib.Core.Bool.{Bool, true, false}
+use mathlib.Core.Bool.{Bool, true, false, cond}
 use mathlib.Core.List.{List, []}
 use native.Mathlib.Omega.{arith}
 use lib.Dec.{eqb}
@@ -16,20 +16,22 @@ use Rattle.machine.specs.declared.Found.{Found}
 use Rattle.machine.specs.declared.Found.the-variants.{At, Nothing}
 use Rattle.machine.specs.declared.Maddr.{Maddr}
 use Rattle.machine.specs.declared.Operand.the-variants.{OMem}
-use Rattle.code.specs.Records.{is-ocmp, byte-at, number-at, operand-at, behind}
+use Rattle.code.specs.Records.{is-ocmp, byte-at, number-at, operand-at, ocmp-at, behind}
 use Rattle.code.specs.Spells.{OperandBytes, Stands}
 use Rattle.code.specs.Forms.{form-of}
 use Rattle.code.specs.declared.records.Form.{Form}
 use Rattle.code.specs.declared.records.Form.the-variants.{Const, Register, Memory}
+use Rattle.code.proofs.CodeFrames.{ocmp-frame}
 use Rattle.code.proofs.Forms.{constant-is, register-is, register-below}
 use Rattle.eval.specs.Config.{Env, Config, with-flags}
-use Rattle.eval.specs.Promises.{environment, held, Cells, CodeAt, CodesAt, InsAt, OcmpAt, codes-from, Loads, Resolves, no-slot, ComparesAt, Runs, RunsIns, RunsAll}
+use Rattle.eval.specs.Promises.{environment, held, Cells, CodeAt, CodesAt, InsAt, OcmpAt, codes-from, Loads, Resolves, no-slot, comparison, Compares, ComparesAt, Runs, RunsIns, RunsAll}
 use Rattle.eval.specs.declared.exit.Exit.{Exit}
 use Rattle.eval.specs.declared.operand.Loaded.{Loaded}
 use Rattle.eval.specs.declared.operand.Slot.{Slot}
 use Rattle.eval.specs.declared.comparison.Compared.{Compared}
 use Rattle.eval.proofs.OperandLaws.{load-constant, load-register, load-cell, load-none, resolve-constant, resolve-rsp, resolve-register, resolve-cell, resolve-none, cell-inside}
 use Rattle.eval.proofs.InstructionLaws.{exit}
+use Rattle.eval.proofs.ComparisonLaws.{stands-inside, first-unread, second-unread, compared}
 use Rattle.eval.proofs.CycleLaws.{code-frame, starts, has-length, block-inside, choice-inside, loop-inside, how-done, ins-ran, codes-past, Going, next-there, next-past, block-codes, block-ran, if-unread, Chosen, chosen-there, chosen-ran, Looping, loop-ran, loop-spent, loop-unread, loop-done, Round, round-ends, round-there, round-goes, round-stops}
 
 -- ---- a structure: the places of its lengths fit, inside the bytes, of which there are fewer than 2 ^ 63
@@ -321,3 +323,49 @@ module _ (bs : List ℕ) (at : ℕ) (form : Form) (is : form ≡ form-of (operan
 
     pub found-fits : length values * 8 < 2 ^ 63 → Fits w64 (i * 8)
     found-fits room = omega (arith, found-inside)
+
+-- ---- what was loaded at a place, whatever the fill word, the flags and the xmms are
+abbrev Loaded-at : List ℕ → List ℕ → List ℕ → List ℕ → List ℕ → ℕ → Loaded → Type 0
+Loaded-at addresses tags regs values bs at r =
+    (fill flags : ℕ) (xmms : List ℕ) →
+    Loads (environment addresses tags fill) (held regs xmms flags values) (operand-at bs at) (behind bs at) r
+
+-- ---- a comparison
+module _ (bs : List ℕ) (at : ℕ) (o : OcmpAt bs at) where
+  pub ocmp-starts : at < length bs
+  ocmp-starts = omega (arith, ocmp-frame bs at (o .0) (o .1) (o .2) .starts)
+
+  pub ocmp-fits : length bs * 1 < 2 ^ 63 → Fits w64 (at + 1)
+  ocmp-fits room = omega (arith, ocmp-frame bs at (o .0) (o .1) (o .2) .starts)
+
+  pub first-operand : OperandBytes bs (at + 1)
+  first-operand = ocmp-frame bs at (o .0) (o .1) (o .2) .operands .first
+
+  pub second-operand : (next : ℕ) → next ≡ behind bs (at + 1) → OperandBytes bs next
+  second-operand next is = rw is (ocmp-frame bs at (o .0) (o .1) (o .2) .operands .second)
+
+  -- its answer, from what was loaded of its operands
+  module _ (addresses tags regs xmms values : List ℕ) (fill flags e : ℕ) (stands : Stands is-ocmp bs at e) (a b : Loaded)
+      (one : Loaded-at addresses tags regs values bs (at + 1) a) (two : Loaded-at addresses tags regs values bs (a .next) b) where
+    abbrev Says : ℕ → ℕ → Type 0
+    Says n flags′ = Compares (environment addresses tags fill) (held regs xmms flags values) (ocmp-at bs at) e (record { how = n; next = b .next }) flags′
+
+    inside : e ≤ length bs
+    inside = stands-inside bs at (o .0) (o .1) (o .2) e stands
+
+    pub says-unread : (a .number ≡ 0 → ⊥) → Says (a .number) flags
+    says-unread h = first-unread _ _ bs at e stands inside a b (one fill flags xmms) (two fill flags xmms) h
+
+    module _ (x : a .number ≡ 0) where
+      pub says-unread-second : (b .number ≡ 0 → ⊥) → Says (b .number) flags
+      says-unread-second h = second-unread _ _ bs at e stands inside a b (one fill flags xmms) (two fill flags xmms) x h
+
+      module _ (y : b .number ≡ 0) (h : Bool) (is : h ≡ comparison (byte-at bs at) (a .word) (b .word)) where
+        says : Says (cond h 1 0) fill
+        says = compared _ _ bs at e stands inside a b (one fill flags xmms) (two fill flags xmms) x y h (sym is)
+
+        pub says-holds : h ≡ true → Says 1 fill
+        says-holds k = rw k at says
+
+        pub says-fails : h ≡ false → Says 0 fill
+        says-fails k = rw k at says
