@@ -347,25 +347,25 @@ module _ (bs : List ℕ) (at : ℕ) (o : OcmpAt bs at) where
   -- its answer, from what was loaded of its operands
   module _ (addresses tags regs xmms values : List ℕ) (fill flags e : ℕ) (stands : Stands is-ocmp bs at e) (a b : Loaded)
       (one : Loaded-at addresses tags regs values bs (at + 1) a) (two : Loaded-at addresses tags regs values bs (a .next) b) where
-    abbrev Says : ℕ → ℕ → Type 0
-    Says n flags′ = Compares (environment addresses tags fill) (held regs xmms flags values) (ocmp-at bs at) e (record { how = n; next = b .next }) flags′
+    abbrev Says : ℕ → Type 0
+    Says n = Compares (environment addresses tags fill) (held regs xmms flags values) (ocmp-at bs at) e (record { how = n; next = b .next })
 
     inside : e ≤ length bs
     inside = stands-inside bs at (o .0) (o .1) (o .2) e stands
 
-    pub says-unread : (a .number ≡ 0 → ⊥) → Says (a .number) flags
+    pub says-unread : (a .number ≡ 0 → ⊥) → Says (a .number)
     says-unread h = first-unread _ _ bs at e stands inside a b (one fill flags xmms) (two fill flags xmms) h
 
     module _ (x : a .number ≡ 0) where
-      pub says-unread-second : (b .number ≡ 0 → ⊥) → Says (b .number) flags
+      pub says-unread-second : (b .number ≡ 0 → ⊥) → Says (b .number)
       says-unread-second h = second-unread _ _ bs at e stands inside a b (one fill flags xmms) (two fill flags xmms) x h
 
       module _ (y : b .number ≡ 0) (h : Bool) (is : h ≡ comparison (byte-at bs at) (a .word) (b .word)) where
-        says : Says (cond h 1 0) fill
+        says : Says (cond h 1 0)
         says = compared _ _ bs at e stands inside a b (one fill flags xmms) (two fill flags xmms) x y h (sym is)
 
-        pub says-holds : h ≡ true → Says 1 fill
+        pub says-holds : h ≡ true → Says 1
         says-holds k = rw k at says
 
-        pub says-fails : h ≡ false → Says 0 fill
+        pub says-fails : h ≡ false → Says 0
         says-fails k = rw k at says
