@@ -97,11 +97,6 @@ pub inserts-kind : (k : ℕ) → 0x16 ≤ k → k < 0x18 → is-inserts k ≡ tr
 inserts-kind k l m = within is-inserts 2 0x16 refl k l m
 
 -- ---- what holds of each instruction of a family holds of the one of a kind
-pub by-two-ins :
-    (P : ℕ → Instruction → Type 0) (a b : Operand) →
-    EachOf (λ k. P k (two-ins k a b)) twos → (k : ℕ) → is-two k ≡ true → P k (two-ins k a b)
-by-two-ins P a b each k h = by-among (λ k. P k (two-ins k a b)) twos each k h
-
 pub by-quads-ins :
     (P : ℕ → Instruction → Type 0) (dst src : ℕ) → P 0x0f (Paddd dst src) → P 0x10 (Pxor dst src) → P 0x14 (Pcmpeqd dst src) →
     (k : ℕ) → is-quads k ≡ true → P k (quads-ins k dst src)

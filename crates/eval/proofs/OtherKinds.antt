@@ -2,7 +2,6 @@
 use Prim.Native.Nat.{ℕ, _≤_, _<_}
 use mathlib.Core.Path.{_≡_, refl}
 use mathlib.Core.Bool.{true, false}
-use mathlib.Core.Logic.{_⊎_, inl, inr}
 use native.Mathlib.Omega.{arith}
 use borrow.Author.Tests.{ne-eqb}
 use Rattle.machine.specs.declared.Operand.the-variants.{OConst}
@@ -38,16 +37,6 @@ shift-kinds = each (λ (k : ℕ). checks-amount k ≡ true) 2 0x0d (refl ▹ ref
 pub no-shift : (k : ℕ) → Not 0x0d k → Not 0x0e k → checks-amount k ≡ false
 no-shift k f g = rw (ne-eqb k 0x0d f, ne-eqb k 0x0e g)
 
--- the kinds of a family, from the tests that told them apart
-pub shifts-kinds : (k : ℕ) → 0x11 ≤ k → k < 0x13 → is-shifts k ≡ true
-shifts-kinds = each (λ (k : ℕ). is-shifts k ≡ true) 2 0x11 (refl ▹ refl ▹ tt)
-
-pub inserts-kinds : (k : ℕ) → 0x16 ≤ k → k < 0x18 → is-inserts k ≡ true
-inserts-kinds = each (λ (k : ℕ). is-inserts k ≡ true) 2 0x16 (refl ▹ refl ▹ tt)
-
+-- from 13 to 17, the kinds that are none of the first three
 pub past-15 : (k : ℕ) → 0x13 ≤ k → Not 0x13 k → Not 0x14 k → Not 0x15 k → 0x16 ≤ k
 past-15 k l f g h = omega arith
-
-pub quads-kinds : (k : ℕ) → (k ≡ 0x14) ⊎ ((0x0f ≤ k) × (k < 0x11)) → is-quads k ≡ true
-quads-kinds k (inl e) = rw e
-quads-kinds k (inr w) = each (λ (k : ℕ). is-quads k ≡ true) 2 0x0f (refl ▹ refl ▹ tt) k (w .0) (w .1)

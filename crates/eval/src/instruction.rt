@@ -1,5 +1,5 @@
 // One instruction, by its kind: in two levels, so that each stays small.
-ghost use Prim.Native.Nat.{_≤_};
+ghost use Prim.Native.Nat.{_≤_, _<_};
 ghost use lib.ListN.{getD};
 ghost use Rattle.eval.specs.Promises.{environment, held, Cells, InsAt, RunsIns};
 use crate::exit::Exit;
@@ -27,7 +27,7 @@ fn lane_instruction(
     values: &mut [u64],
 ) -> Exit
     requires { ⌜ InsAt (now code) at ⌝ }
-    requires { ⌜ 0x0f ≤ getD (now code) at 0 ⌝ }
+    requires { ⌜ (0x0f ≤ getD (now code) at 0) × (getD (now code) at 0 < 0x19) ⌝ }
     requires { ⌜ Cells (now addresses) (now tags) (now values) ⌝ }
     ensures { λ r. ⌜
         RunsIns (environment (now (addresses .entry)) (now (tags .entry)) fill) (now (code .entry)) at

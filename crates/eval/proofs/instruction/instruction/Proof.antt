@@ -35,7 +35,7 @@ lane-instruction-requires c κs =
     let kind = c .before .before .before .before .match in
     let none = sym (two .ensures) ∙ if1 .left in
     let k = lane-kinds _ (s .pre .0 .1 .head .kind) none (kind .rest .0 .0 .1) (kind .rest .0 .1) (kind .rest .1) in
-    (s .pre .0, (k .0, s .pre .1))
+    (s .pre .0, (k, s .pre .1))
 
 -- what each of the three that are like no other asks, and how it ran
 add-lea-requires : tie.Need-add-lea-requires

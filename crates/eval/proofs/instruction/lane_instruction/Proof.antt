@@ -3,8 +3,8 @@ use mathlib.Core.Path.{refl}
 use mathlib.Core.Logic.{inl, inr, ⊎-elim}
 use native.Mathlib.Omega.{arith}
 use borrow.Author.Needs.{needs}
-use Rattle.code.proofs.Families.{ins-inside, ins-kinds, which-quads, quads-stood, shifts-stood, shuffle-stood, word-shift-stood, extract-stood, inserts-stood}
-use Rattle.eval.proofs.OtherKinds.{shifts-kinds, inserts-kinds, quads-kinds, past-15}
+use Rattle.code.proofs.Families.{ins-inside, which-quads, quads-kind, quads-stood, shifts-kind, shifts-stood, shuffle-stood, word-shift-stood, extract-stood, inserts-kind, inserts-stood}
+use Rattle.eval.proofs.OtherKinds.{past-15}
 use Rattle.eval.proofs.InstructionLaws.{ran-stood}
 use Rattle.eval.proofs.instruction.lane_instruction.Statement.{statement}
 use Rattle.eval.proofs.instruction.lane_instruction.Tie as tie
@@ -43,7 +43,7 @@ shift-words-requires c κs =
     let if2 = c .before .before .if2 in
     let if3 = c .before .if3 in
     let w = shifts-stood _ _ _ (s .pre .0 .1) (s .pre .0 .2) _ (if2 .left) (if3 .taken) refl in
-    (w .stood .operands, (w .xmm, shifts-kinds _ (if2 .left) (if3 .taken)))
+    (w .stood .operands, (w .xmm, shifts-kind _ (if2 .left) (if3 .taken)))
 
 insert-requires : tie.Need-insert-requires
 insert-requires c κs =
@@ -54,16 +54,15 @@ insert-requires c κs =
     let if4 = c .before .before .before .if4 in
     let low = past-15 _ (if3 .left) (kind .rest .0 .0 .1) (kind .rest .0 .0 .0 .1) (kind .rest .0 .1) in
     let w = inserts-stood _ _ _ (s .pre .0 .1) (s .pre .0 .2) _ low (if4 .taken) refl in
-    (w .stood .operands, (w .xmm, (s .pre .1 .1, inserts-kinds _ low (if4 .taken))))
+    (w .stood .operands, (w .xmm, (s .pre .1 .1, inserts-kind _ low (if4 .taken))))
 
 two-quads-requires : tie.Need-two-quads-requires
 two-quads-requires c κs =
     let s = c .before .before .before .before .before .before .before .before in
     let kind = c .before .before .match in
-    let q = which-quads _ (s .pre .1 .0) (⊎-elim (λ w. inr (w .keys1)) (λ w. inl (w .2 .taken)) (kind .came)) in
+    let q = which-quads _ (s .pre .1 .0 .0) (⊎-elim (λ w. inr (w .keys1)) (λ w. inl (w .2 .taken)) (kind .came)) in
     let w = quads-stood _ _ _ (s .pre .0 .1) (s .pre .0 .2) _ q refl in
-    let is = quads-kinds _ (⊎-elim (λ w. inl (w .keys1)) (λ w. inr (w .1 .left, w .2 .taken)) (kind .came)) in
-    (w .stood .operands, (w .xmm, (w .other, is)))
+    (w .stood .operands, (w .xmm, (w .other, quads-kind _ q)))
 
 returns : tie.Need-returns
 returns c =
@@ -121,12 +120,14 @@ returns-5 c =
 returns-6 : tie.Need-returns-6
 returns-6 c =
     let s = c .before .before .before .before .before .before .before in
-    absurd (omega (arith, c .if1 .taken, s .pre .1 .0))
+    absurd (omega (arith, c .if1 .taken, s .pre .1 .0 .0))
 
 returns-7 : tie.Need-returns-7
 returns-7 c =
+    let back8 = c .before .before .before .before .before .before .before .before in
+    let s = back8 .before .before in
     let kind = c .before .before .before .before .match in
-    λ e st. absurd (kind .rest .1 (omega (arith, c .if4 .left, ins-kinds st .1)))
+    absurd (kind .rest .1 (omega (arith, c .if4 .left, s .pre .1 .0 .1)))
 
 returns-8 : tie.Need-returns-8
 returns-8 c =
@@ -134,7 +135,7 @@ returns-8 c =
     let s = back8 .before in
     let kind = c .before .before .before .match in
     let ran = c .two-quads in
-    let q = which-quads _ (s .pre .1 .0) (⊎-elim (λ w. inr (w .keys1)) (λ w. inl (w .2 .taken)) (kind .came)) in
+    let q = which-quads _ (s .pre .1 .0 .0) (⊎-elim (λ w. inr (w .keys1)) (λ w. inl (w .2 .taken)) (kind .came)) in
     let w = quads-stood _ _ _ (s .pre .0 .1) (s .pre .0 .2) _ q refl in
     ran-stood _ _ _ _ _ (w .stood) _ _ _ _ (ran .ensures _ _ _ _)
 
