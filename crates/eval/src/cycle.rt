@@ -220,12 +220,12 @@ fn eval_while(
 {
     let mut left = fuel;
     while left != 0 {
-        let test = at + 5;
-        let compared = compare(code, test, regs, addresses, tags, values);
+        let condition = at + 5;
+        let compared = compare(code, condition, regs, addresses, tags, values);
         if 1 < compared.how {
             return Exit {
                 number: compared.how,
-                place: test,
+                place: condition,
             };
         }
         *flags = fill;
