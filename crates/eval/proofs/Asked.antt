@@ -1,14 +1,17 @@
 -- What the functions are asked, said of what their calls have answered: laws by which `search` closes it. Assumes nothing.
-use Prim.Native.Nat.{ℕ, _+_, _-_, _*_, _^_, _≤_, _<_}
+use Prim.Native.Nat.{ℕ, _+_, _-_, _*_, _%_, _^_, _≤_, _<_}
 use mathlib.Core.Path.{_≡_, refl, sym, ap, _∙_}
 use mathlib.Core.Bool.{Bool, true, false, cond}
 use mathlib.Core.List.{List, []}
 use native.Mathlib.Omega.{arith}
 use lib.Dec.{eqb}
-use lib.ListN.{length, getD}
+use lib.ListN.{length, getD, set}
 use mir.Syntax.{w64}
 use mir.Val.{Fits}
-use Rattle.machine.specs.Registers.{reg-at, Rsp}
+use Rattle.words.specs.Sums.{mul-div, mul-mod}
+use Rattle.words.specs.Types.{quad32, extract-nat64}
+use Rattle.words.specs.declared.Quad32.{Quad32}
+use Rattle.machine.specs.Registers.{reg-at, Rsp, xmm-at, set-xmm}
 use Rattle.machine.specs.Operands.{eval-maddr}
 use Rattle.machine.specs.Cells.{find-cell, index-of}
 use Rattle.machine.specs.declared.reg.Reg.{Reg}
@@ -18,19 +21,24 @@ use Rattle.machine.specs.declared.Maddr.{Maddr}
 use Rattle.machine.specs.declared.Operand.the-variants.{OMem}
 use Rattle.code.specs.Records.{is-ocmp, byte-at, number-at, operand-at, ocmp-at, behind}
 use Rattle.code.specs.Spells.{OperandBytes, Stands}
+use Rattle.code.specs.declared.tree.Instruction.the-variants.{Mul64, Pextrq}
+use Rattle.code.specs.Families.{is-inserts, inserts-ins}
 use Rattle.code.specs.Forms.{form-of}
 use Rattle.code.specs.declared.records.Form.{Form}
 use Rattle.code.specs.declared.records.Form.the-variants.{Const, Register, Memory}
+use Rattle.code.proofs.Frames.{operand-frame}
 use Rattle.code.proofs.CodeFrames.{ocmp-frame}
 use Rattle.code.proofs.Forms.{constant-is, register-is, register-below}
 use Rattle.eval.specs.Config.{Env, Config, with-flags}
-use Rattle.eval.specs.Promises.{environment, held, Cells, CodeAt, CodesAt, InsAt, OcmpAt, codes-from, Loads, Resolves, no-slot, comparison, Compares, ComparesAt, Runs, RunsIns, RunsAll}
+use Rattle.eval.specs.Instructions.{inserts-word, run-ins}
+use Rattle.eval.specs.Promises.{environment, held, Cells, CodeAt, CodesAt, InsAt, OcmpAt, codes-from, Loads, Resolves, no-slot, put-regs, put-values, comparison, Compares, ComparesAt, Ran, Runs, RunsIns, RunsAll}
 use Rattle.eval.specs.declared.exit.Exit.{Exit}
 use Rattle.eval.specs.declared.operand.Loaded.{Loaded}
 use Rattle.eval.specs.declared.operand.Slot.{Slot}
 use Rattle.eval.specs.declared.comparison.Compared.{Compared}
 use Rattle.eval.proofs.OperandLaws.{load-constant, load-register, load-cell, load-none, resolve-constant, resolve-rsp, resolve-register, resolve-cell, resolve-none, cell-inside}
-use Rattle.eval.proofs.InstructionLaws.{exit}
+use Rattle.eval.proofs.InstructionLaws.{exit, mul-unread, mul-done}
+use Rattle.eval.proofs.LaneLaws.{extract-unwritten, extract-done, inserts-unread, inserts-done}
 use Rattle.eval.proofs.ComparisonLaws.{stands-inside, first-unread, second-unread, compared}
 use Rattle.eval.proofs.CycleLaws.{code-frame, starts, has-length, block-inside, choice-inside, loop-inside, how-done, ins-ran, codes-past, Going, next-there, next-past, block-codes, block-ran, if-unread, Chosen, chosen-there, chosen-ran, Looping, loop-ran, loop-spent, loop-unread, loop-done, Round, round-ends, round-there, round-goes, round-stops}
 
@@ -324,11 +332,20 @@ module _ (bs : List ℕ) (at : ℕ) (form : Form) (is : form ≡ form-of (operan
     pub found-fits : length values * 8 < 2 ^ 63 → Fits w64 (i * 8)
     found-fits room = omega (arith, found-inside)
 
--- ---- what was loaded at a place, whatever the fill word, the flags and the xmms are
-abbrev Loaded-at : List ℕ → List ℕ → List ℕ → List ℕ → List ℕ → ℕ → Loaded → Type 0
-Loaded-at addresses tags regs values bs at r =
-    (fill flags : ℕ) (xmms : List ℕ) →
-    Loads (environment addresses tags fill) (held regs xmms flags values) (operand-at bs at) (behind bs at) r
+-- ---- what was loaded or resolved at a place, whatever the fill word, the flags and the xmms are
+pub operand-starts : (bs : List ℕ) (at : ℕ) → OperandBytes bs at → at < length bs
+operand-starts bs at o = operand-frame bs at o .starts
+
+module _ (addresses tags regs values bs : List ℕ) (at : ℕ) where
+  abbrev Loaded-at : Loaded → Type 0
+  Loaded-at r =
+      (fill flags : ℕ) (xmms : List ℕ) →
+      Loads (environment addresses tags fill) (held regs xmms flags values) (operand-at bs at) (behind bs at) r
+
+  abbrev Resolved-at : Slot → Type 0
+  Resolved-at t =
+      (fill flags : ℕ) (xmms : List ℕ) →
+      Resolves (environment addresses tags fill) (held regs xmms flags values) (operand-at bs at) (behind bs at) t
 
 -- ---- a comparison
 module _ (bs : List ℕ) (at : ℕ) (o : OcmpAt bs at) where
@@ -369,3 +386,57 @@ module _ (bs : List ℕ) (at : ℕ) (o : OcmpAt bs at) where
 
         pub says-fails : h ≡ false → Says 0
         says-fails k = rw k at says
+
+-- ---- instructions, from what was loaded and resolved of their operands
+module _ (addresses tags regs xmms values bs : List ℕ) (fill flags at : ℕ) where
+  abbrev env : Env
+  env = environment addresses tags fill
+
+  abbrev s : Config
+  s = held regs xmms flags values
+
+  module _ (r : Loaded) (src : Loaded-at addresses tags regs values bs (at + 1) r) where
+    abbrev Mul : Exit → Config → Type 0
+    Mul x u = Ran (run-ins env at (Mul64 (operand-at bs (at + 1))) s) (behind bs (at + 1)) x u
+
+    pub multiply-unread : (r .number ≡ 0 → ⊥) → Mul (exit (r .number) at) s
+    multiply-unread h = mul-unread addresses tags regs xmms values fill flags at _ _ r (src fill flags xmms) h
+
+    pub multiply-done :
+        r .number ≡ 0 →
+        (lo hi : ℕ) → lo ≡ mul-mod 64 (getD regs 0 0) (r .word) → hi ≡ mul-div 64 (getD regs 0 0) (r .word) →
+        Mul (exit 0 (r .next)) (held (set (set regs 0 lo) 3 hi) xmms fill values)
+    multiply-done h lo hi = mul-done addresses tags regs xmms values fill flags at _ _ r (src fill flags xmms) h lo hi
+
+  module _ (t : Slot) (dst : Resolved-at addresses tags regs values bs (at + 3) t) where
+    abbrev Extract : Exit → Config → Type 0
+    Extract x u = Ran (run-ins env at (Pextrq (operand-at bs (at + 3)) (byte-at bs (at + 1)) (byte-at bs (at + 2))) s) (behind bs (at + 3)) x u
+
+    pub extracts-nowhere : (t .number ≡ 0 → ⊥) → Extract (exit (t .number) at) s
+    extracts-nowhere h = extract-unwritten addresses tags regs xmms values fill flags at _ _ _ _ t (dst fill flags xmms) h
+
+    pub extracts :
+        t .number ≡ 0 →
+        (x : Quad32) (v : ℕ) (regs′ values′ : List ℕ) →
+        quad32 x ≡ xmm-at xmms (byte-at bs (at + 1)) → v ≡ extract-nat64 (quad32 x) (byte-at bs (at + 2) % 2) →
+        regs′ ≡ put-regs t v regs → values′ ≡ put-values t v values →
+        Extract (exit 0 (t .next)) (held regs′ xmms flags values′)
+    extracts h = extract-done addresses tags regs xmms values fill flags at _ _ _ _ t (dst fill flags xmms) h
+
+  module _ (is : is-inserts (byte-at bs at) ≡ true) (r : Loaded) (src : Loaded-at addresses tags regs values bs (at + 3) r) where
+    abbrev Insert : Exit → Config → Type 0
+    Insert x u =
+        Ran (run-ins env at (inserts-ins (byte-at bs at) (byte-at bs (at + 1)) (operand-at bs (at + 3)) (byte-at bs (at + 2))) s)
+        (behind bs (at + 3)) x u
+
+    pub inserts-nothing : (r .number ≡ 0 → ⊥) → Insert (exit (r .number) at) s
+    inserts-nothing h = inserts-unread addresses tags regs xmms values fill flags at _ is _ _ _ _ r (src fill flags xmms) h
+
+    pub inserts :
+        r .number ≡ 0 →
+        (x q : Quad32) (xmms′ : List ℕ) →
+        quad32 x ≡ xmm-at xmms (byte-at bs (at + 1)) →
+        quad32 q ≡ inserts-word (byte-at bs at) (quad32 x) (r .word) (byte-at bs (at + 2)) →
+        xmms′ ≡ set-xmm xmms (byte-at bs (at + 1)) (quad32 q) →
+        Insert (exit 0 (r .next)) (held regs xmms′ flags values)
+    inserts h = inserts-done addresses tags regs xmms values fill flags at _ is _ _ _ _ r (src fill flags xmms) h
