@@ -412,11 +412,11 @@ module _ (addresses tags regs xmms values bs : List ℕ) (fill flags at : ℕ) w
     abbrev Extract : Exit → Config → Type 0
     Extract x u = Ran (run-ins env at (Pextrq (operand-at bs (at + 3)) (byte-at bs (at + 1)) (byte-at bs (at + 2))) s) (behind bs (at + 3)) x u
 
-    pub extracts-nowhere : (t .number ≡ 0 → ⊥) → Extract (exit (t .number) at) s
+    pub extracts-nowhere : 1 < t .how → Extract (exit (t .how) at) s
     extracts-nowhere h = extract-unwritten addresses tags regs xmms values fill flags at _ _ _ _ t (dst fill flags xmms) h
 
     pub extracts :
-        t .number ≡ 0 →
+        t .how ≤ 1 →
         (x : Quad32) (v : ℕ) (regs′ values′ : List ℕ) →
         quad32 x ≡ xmm-at xmms (byte-at bs (at + 1)) → v ≡ extract-nat64 (quad32 x) (byte-at bs (at + 2) % 2) →
         regs′ ≡ put-regs t v regs → values′ ≡ put-values t v values →
