@@ -97,6 +97,13 @@ pub inserts-kind : (k : ℕ) → 0x16 ≤ k → k < 0x18 → is-inserts k ≡ tr
 inserts-kind k l m = within is-inserts 2 0x16 refl k l m
 
 -- ---- what holds of each instruction of a family holds of the one of a kind
+-- two functions of the instructions of a destination and a source are the same where they are at each kind, which antt computes
+pub same-two :
+    {A : Type 0} (f : Instruction → A) (g : ℕ → A) (dst src : Operand) →
+    map (λ k. f (ins-of k [] (dst ∷ src ∷ []))) twos ≡ map g twos → (k : ℕ) → is-two k ≡ true → f (two-ins k dst src) ≡ g k
+unfolding two-ins
+same-two f g dst src e k h = same-among (λ k. f (two-ins k dst src)) g twos e k h
+
 pub by-quads-ins :
     (P : ℕ → Instruction → Type 0) (dst src : ℕ) → P 0x0f (Paddd dst src) → P 0x10 (Pxor dst src) → P 0x14 (Pcmpeqd dst src) →
     (k : ℕ) → is-quads k ≡ true → P k (quads-ins k dst src)

@@ -15,9 +15,9 @@ use Rattle.code.specs.declared.tree.Instruction.{Instruction}
 use Rattle.code.specs.declared.tree.Instruction.the-variants.{AddLea64, Mul64, Mulx64}
 use Rattle.code.specs.Records.{is-ins, ins-at, operand-at, behind}
 use Rattle.code.specs.Spells.{Stands}
-use Rattle.code.specs.Families.{twos, is-two, two-ins}
+use Rattle.code.specs.Families.{is-two, two-ins}
 use Rattle.code.proofs.Passing.{and-both}
-use Rattle.code.proofs.Families.{after, Stood, same-among}
+use Rattle.code.proofs.Families.{after, Stood, same-two}
 use Rattle.eval.specs.Config.{Env, Config, with-regs, with-values, with-flags, End, ends, done, check}
 use Rattle.eval.specs.Instructions.{checks-amount, two-word, two-flags, valid-operand, eval-operand, valid-dst-operand, update-operand, act, run-ins}
 use Rattle.eval.specs.Promises.{environment, held, Loads, Resolves, put-regs, put-values, how, Ran, RunsIns}
@@ -97,9 +97,8 @@ module _ (env : Env) (p : ℕ) (dst src : Operand) (s : Config) where
   Shape k i = run-ins env p i s ≡ read-check env p src s (amounts k (two-write k))
 
   pub shape : (k : ℕ) → is-two k ≡ true → Shape k (two-ins k dst src)
-  unfolding run-ins act two-word two-flags two-ins
-  shape k h =
-      same-among (λ k. run-ins env p (two-ins k dst src) s) (λ k. read-check env p src s (amounts k (two-write k))) twos refl k h
+  unfolding run-ins act two-word two-flags
+  shape k h = same-two (λ i. run-ins env p i s) (λ k. read-check env p src s (amounts k (two-write k))) dst src refl k h
 
   -- an amount that is no shift's, or below 64, passes
   pub amount-passes : (k b : ℕ) (e : End) → b ≡ eval-operand env src s → (checks-amount k && leb 64 b) ≡ false → amounts k e ≡ e
