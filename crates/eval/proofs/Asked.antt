@@ -1,14 +1,14 @@
 -- What the functions are asked, said of what their calls have answered: laws by which `search` closes it. Assumes nothing.
 use Prim.Native.Nat.{ℕ, _+_, _-_, _*_, _%_, _^_, _≤_, _<_}
 use mathlib.Core.Path.{_≡_, refl, sym, ap, _∙_}
-use mathlib.Core.Bool.{Bool, true, false, cond}
+use mathlib.Core.Bool.{Bool, true, false, _&&_, cond}
 use mathlib.Core.List.{List, []}
 use native.Mathlib.Omega.{arith}
-use lib.Dec.{eqb}
+use lib.Dec.{eqb, leb}
 use lib.ListN.{length, getD, set}
 use mir.Syntax.{w64}
 use mir.Val.{Fits}
-use Rattle.words.specs.Sums.{mul-div, mul-mod}
+use Rattle.words.specs.Sums.{sum-mod, mul-div, mul-mod}
 use Rattle.words.specs.Types.{quad32, extract-nat64}
 use Rattle.words.specs.declared.Quad32.{Quad32}
 use Rattle.machine.specs.Registers.{reg-at, Rsp, xmm-at, set-xmm}
@@ -21,8 +21,8 @@ use Rattle.machine.specs.declared.Maddr.{Maddr}
 use Rattle.machine.specs.declared.Operand.the-variants.{OMem}
 use Rattle.code.specs.Records.{is-ocmp, byte-at, number-at, operand-at, ocmp-at, behind}
 use Rattle.code.specs.Spells.{OperandBytes, Stands}
-use Rattle.code.specs.declared.tree.Instruction.the-variants.{Mul64, Pextrq}
-use Rattle.code.specs.Families.{is-inserts, inserts-ins}
+use Rattle.code.specs.declared.tree.Instruction.the-variants.{AddLea64, Mul64, Mulx64, Pextrq}
+use Rattle.code.specs.Families.{is-two, is-inserts, two-ins, inserts-ins}
 use Rattle.code.specs.Forms.{form-of}
 use Rattle.code.specs.declared.records.Form.{Form}
 use Rattle.code.specs.declared.records.Form.the-variants.{Const, Register, Memory}
@@ -30,14 +30,14 @@ use Rattle.code.proofs.Frames.{operand-frame}
 use Rattle.code.proofs.CodeFrames.{ocmp-frame}
 use Rattle.code.proofs.Forms.{constant-is, register-is, register-below}
 use Rattle.eval.specs.Config.{Env, Config, with-flags}
-use Rattle.eval.specs.Instructions.{inserts-word, run-ins}
+use Rattle.eval.specs.Instructions.{checks-amount, two-word, two-flags, inserts-word, run-ins}
 use Rattle.eval.specs.Promises.{environment, held, Cells, CodeAt, CodesAt, InsAt, OcmpAt, codes-from, Loads, Resolves, no-slot, put-regs, put-values, comparison, Compares, ComparesAt, Ran, Runs, RunsIns, RunsAll}
 use Rattle.eval.specs.declared.exit.Exit.{Exit}
 use Rattle.eval.specs.declared.operand.Loaded.{Loaded}
 use Rattle.eval.specs.declared.operand.Slot.{Slot}
 use Rattle.eval.specs.declared.comparison.Compared.{Compared}
 use Rattle.eval.proofs.OperandLaws.{load-constant, load-register, load-cell, load-none, resolve-constant, resolve-rsp, resolve-register, resolve-cell, resolve-none, cell-inside}
-use Rattle.eval.proofs.InstructionLaws.{exit, mul-unread, mul-done}
+use Rattle.eval.proofs.InstructionLaws.{exit, load-at, slot-at, plus-none, two-unread, two-amount, two-unwritten, two-done, lea-unread, lea-unread-second, lea-unwritten, lea-done, mul-unread, mul-done, mulx-unread, mulx-unwritten, mulx-unresolved, mulx-done}
 use Rattle.eval.proofs.LaneLaws.{extract-unwritten, extract-done, inserts-unread, inserts-done}
 use Rattle.eval.proofs.ComparisonLaws.{stands-inside, first-unread, second-unread, compared}
 use Rattle.eval.proofs.CycleLaws.{code-frame, starts, has-length, block-inside, choice-inside, loop-inside, how-done, ins-ran, codes-past, Going, next-there, next-past, block-codes, block-ran, if-unread, Chosen, chosen-there, chosen-ran, Looping, loop-ran, loop-spent, loop-unread, loop-done, Round, round-ends, round-there, round-goes, round-stops}
@@ -336,6 +336,14 @@ module _ (bs : List ℕ) (at : ℕ) (form : Form) (is : form ≡ form-of (operan
 pub operand-starts : (bs : List ℕ) (at : ℕ) → OperandBytes bs at → at < length bs
 operand-starts bs at o = operand-frame bs at o .starts
 
+-- the operands behind the first, at the places that were answered
+pub second-there : (bs : List ℕ) (at a : ℕ) → a ≡ behind bs at → OperandBytes bs (behind bs at) → OperandBytes bs a
+second-there bs at a is o = rw is o
+
+pub third-there :
+    (bs : List ℕ) (at a b : ℕ) → a ≡ behind bs at → b ≡ behind bs a → OperandBytes bs (behind bs (behind bs at)) → OperandBytes bs b
+third-there bs at a b is is′ o = rw (is′, is) o
+
 module _ (addresses tags regs values bs : List ℕ) (at : ℕ) where
   abbrev Loaded-at : Loaded → Type 0
   Loaded-at r =
@@ -386,6 +394,36 @@ module _ (bs : List ℕ) (at : ℕ) (o : OcmpAt bs at) where
 
         pub says-fails : h ≡ false → Says 0
         says-fails k = rw k at says
+
+-- a destination, and a source behind it, of an instruction of two operands
+pub record Operands2 (addresses tags regs values bs : List ℕ) (at : ℕ) (t : Slot) (r : Loaded) : Type 0 where
+  pub dst : Resolved-at addresses tags regs values bs (at + 1) t
+  pub src : Loaded-at addresses tags regs values bs (t .next) r
+  pub kind : is-two (byte-at bs at) ≡ true
+
+-- a destination, and two sources behind it
+pub record Operands3 (addresses tags regs values bs : List ℕ) (at : ℕ) (t : Slot) (q r : Loaded) : Type 0 where
+  pub dst : Resolved-at addresses tags regs values bs (at + 1) t
+  pub one : Loaded-at addresses tags regs values bs (t .next) q
+  pub two : Loaded-at addresses tags regs values bs (q .next) r
+
+-- the low destination, behind the high one, and a source behind it
+pub record OperandsX (addresses tags regs values bs : List ℕ) (at : ℕ) (t : Slot) (r : Loaded) : Type 0 where
+  pub second : ℕ
+  pub is-second : second ≡ behind bs (at + 1)
+  pub low : Resolved-at addresses tags regs values bs second t
+  pub src : Loaded-at addresses tags regs values bs (t .next) r
+
+-- with both halves of the product, and the high destination in the registers as the low half will leave them
+pub record Halves (addresses tags regs values bs : List ℕ) (at : ℕ) (t : Slot) (r : Loaded) (lo hi : ℕ) (u : Slot) : Type 0 where
+  pub operands : OperandsX addresses tags regs values bs at t r
+  pub found : r .number ≡ 0
+  pub valid : t .number ≡ 0
+  pub is-lo : lo ≡ mul-mod 64 (getD regs 3 0) (r .word)
+  pub is-hi : hi ≡ mul-div 64 (getD regs 3 0) (r .word)
+  pub after : List ℕ
+  pub is-after : after ≡ put-regs t lo regs
+  pub high : Resolved-at addresses tags after values bs (at + 1) u
 
 -- ---- instructions, from what was loaded and resolved of their operands
 module _ (addresses tags regs xmms values bs : List ℕ) (fill flags at : ℕ) where
@@ -440,3 +478,111 @@ module _ (addresses tags regs xmms values bs : List ℕ) (fill flags at : ℕ) w
         xmms′ ≡ set-xmm xmms (byte-at bs (at + 1)) (quad32 q) →
         Insert (exit 0 (r .next)) (held regs xmms′ flags values)
     inserts h = inserts-done addresses tags regs xmms values fill flags at _ is _ _ _ _ r (src fill flags xmms) h
+
+  -- a destination and a source
+  module _ (t : Slot) (r : Loaded) (w : Operands2 addresses tags regs values bs at t r) where
+    abbrev Two : Exit → Config → Type 0
+    Two x u =
+        Ran (run-ins env at (two-ins (byte-at bs at) (operand-at bs (at + 1)) (operand-at bs (behind bs (at + 1)))) s)
+        (behind bs (behind bs (at + 1))) x u
+
+    two-dst : Resolves env s (operand-at bs (at + 1)) (behind bs (at + 1)) t
+    two-dst = w .dst fill flags xmms
+
+    two-src : Loads env s (operand-at bs (behind bs (at + 1))) (behind bs (behind bs (at + 1))) r
+    two-src = load-at env s bs _ _ (two-dst .next) r (w .src fill flags xmms)
+
+    pub reads-nothing : (r .number ≡ 0 → ⊥) → Two (exit (r .number) at) s
+    reads-nothing = two-unread addresses tags regs xmms values fill flags at _ (w .kind) _ _ _ _ t r two-dst two-src
+
+    module _ (found : r .number ≡ 0) (far : Bool) (is-far : far ≡ (checks-amount (byte-at bs at) && leb 64 (r .word))) where
+      pub shifts-too-far : far ≡ true → Two (exit 33 at) s
+      shifts-too-far h =
+          two-amount addresses tags regs xmms values fill flags at _ (w .kind) _ _ _ _ t r two-dst two-src found (sym is-far ∙ h)
+
+      module _ (near : far ≡ false) where
+        pub writes-nowhere : (t .number ≡ 0 → ⊥) → Two (exit (t .number) at) s
+        writes-nowhere =
+            two-unwritten addresses tags regs xmms values fill flags at _ (w .kind) _ _ _ _ t r two-dst two-src found (sym is-far ∙ near)
+
+        pub writes :
+            t .number ≡ 0 →
+            (regs′ values′ : List ℕ) (v f : ℕ) →
+            regs′ ≡ put-regs t v regs → values′ ≡ put-values t v values →
+            v ≡ two-word (byte-at bs at) flags (t .word) (r .word) → f ≡ two-flags (byte-at bs at) fill flags (t .word) (r .word) →
+            Two (exit 0 (r .next)) (held regs′ xmms f values′)
+        writes = two-done addresses tags regs xmms values fill flags at _ (w .kind) _ _ _ _ t r two-dst two-src found (sym is-far ∙ near)
+
+  -- a destination and two sources
+  module _ (t : Slot) (q r : Loaded) (w : Operands3 addresses tags regs values bs at t q r) where
+    abbrev Lea : Exit → Config → Type 0
+    Lea x u =
+        Ran (run-ins env at
+        (AddLea64 (operand-at bs (at + 1)) (operand-at bs (behind bs (at + 1))) (operand-at bs (behind bs (behind bs (at + 1))))) s)
+        (behind bs (behind bs (behind bs (at + 1)))) x u
+
+    lea-dst : Resolves env s (operand-at bs (at + 1)) (behind bs (at + 1)) t
+    lea-dst = w .dst fill flags xmms
+
+    lea-one : Loads env s (operand-at bs (behind bs (at + 1))) (behind bs (behind bs (at + 1))) q
+    lea-one = load-at env s bs _ _ (lea-dst .next) q (w .one fill flags xmms)
+
+    lea-two : Loads env s (operand-at bs (behind bs (behind bs (at + 1)))) (behind bs (behind bs (behind bs (at + 1)))) r
+    lea-two = load-at env s bs _ _ (lea-one .next) r (w .two fill flags xmms)
+
+    pub sum-unread : (q .number ≡ 0 → ⊥) → Lea (exit (q .number) at) s
+    sum-unread = lea-unread addresses tags regs xmms values fill flags at _ _ _ _ _ _ t q r lea-dst lea-one lea-two
+
+    module _ (there : q .number ≡ 0) where
+      pub sum-unread-second : (r .number ≡ 0 → ⊥) → Lea (exit (r .number) at) s
+      sum-unread-second = lea-unread-second addresses tags regs xmms values fill flags at _ _ _ _ _ _ t q r lea-dst lea-one lea-two there
+
+      module _ (found : r .number ≡ 0) where
+        pub sum-unwritten : (t .number ≡ 0 → ⊥) → Lea (exit (t .number) at) s
+        sum-unwritten = lea-unwritten addresses tags regs xmms values fill flags at _ _ _ _ _ _ t q r lea-dst lea-one lea-two there found
+
+        pub sum-done :
+            t .number ≡ 0 →
+            (regs′ values′ : List ℕ) (v : ℕ) →
+            regs′ ≡ put-regs t v regs → values′ ≡ put-values t v values → v ≡ sum-mod 64 (q .word + r .word + 0) →
+            Lea (exit 0 (r .next)) (held regs′ xmms flags values′)
+        sum-done h regs′ values′ v a b c =
+            lea-done addresses tags regs xmms values fill flags at _ _ _ _ _ _ t q r lea-dst lea-one lea-two there found
+            h regs′ values′ v a b (c ∙ plus-none _ _)
+
+  -- two destinations and a source
+  module _ (t : Slot) (r : Loaded) (w : OperandsX addresses tags regs values bs at t r) where
+    abbrev Mulx : Exit → Config → Type 0
+    Mulx x u =
+        Ran (run-ins env at
+        (Mulx64 (operand-at bs (at + 1)) (operand-at bs (behind bs (at + 1))) (operand-at bs (behind bs (behind bs (at + 1))))) s)
+        (behind bs (behind bs (behind bs (at + 1)))) x u
+
+    mulx-low : Resolves env s (operand-at bs (behind bs (at + 1))) (behind bs (behind bs (at + 1))) t
+    mulx-low = slot-at env s bs _ _ (w .is-second) t (w .low fill flags xmms)
+
+    mulx-src : Loads env s (operand-at bs (behind bs (behind bs (at + 1)))) (behind bs (behind bs (behind bs (at + 1)))) r
+    mulx-src = load-at env s bs _ _ (mulx-low .next) r (w .src fill flags xmms)
+
+    pub product-unread : (r .number ≡ 0 → ⊥) → Mulx (exit (r .number) at) s
+    product-unread = mulx-unread addresses tags regs xmms values fill flags at _ _ _ _ _ t r mulx-low mulx-src
+
+    pub product-unwritten : r .number ≡ 0 → (t .number ≡ 0 → ⊥) → Mulx (exit (t .number) at) s
+    product-unwritten = mulx-unwritten addresses tags regs xmms values fill flags at _ _ _ _ _ t r mulx-low mulx-src
+
+  module _ (t : Slot) (r : Loaded) (lo hi : ℕ) (u : Slot) (w : Halves addresses tags regs values bs at t r lo hi u) where
+    pub product-unresolved : (u .number ≡ 0 → ⊥) → Mulx t r (w .operands) (exit (u .number) at) s
+    product-unresolved =
+        mulx-unresolved addresses tags regs xmms values fill flags at _ _ _ _ _ t r (mulx-low t r (w .operands)) (mulx-src t r (w .operands))
+        (w .found) (w .valid) lo hi (w .is-lo) (w .is-hi) (w .after) _ (w .is-after) refl _ u (w .high fill flags xmms)
+
+    pub product-done :
+        u .number ≡ 0 →
+        (regs′ values′ regs″ values″ : List ℕ) →
+        regs′ ≡ put-regs t lo regs → values′ ≡ put-values t lo values →
+        regs″ ≡ put-regs u hi regs′ → values″ ≡ put-values u hi values′ →
+        Mulx t r (w .operands) (exit 0 (r .next)) (held regs″ xmms flags values″)
+    product-done h regs′ values′ regs″ values″ a b c d =
+        mulx-done addresses tags regs xmms values fill flags at _ _ _ _ _ t r (mulx-low t r (w .operands)) (mulx-src t r (w .operands))
+        (w .found) (w .valid) lo hi (w .is-lo) (w .is-hi) (w .after) values′ (w .is-after) b _ u (w .high fill flags xmms)
+        h regs″ values″ (c ∙ ap (put-regs u hi) (a ∙ sym (w .is-after))) d
