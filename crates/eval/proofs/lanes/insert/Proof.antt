@@ -15,4 +15,6 @@ insert-spec =
     (λ c. omega (arith, operand-starts)) (λ c κs. search needs)
     (λ c. omega (arith, operand-starts)) (λ c. omega (arith, operand-starts)) (λ c κs. search needs)
     (λ c κs. search needs)
-    (λ c. let asked = c .before .before .before .before .before .before .before .before .before .before .before .before .before .before .before .pre in search inserts))
+    (λ c.
+    let kind = c .before .before .before .before .before .before .before .before .before .before .before .before .before .before .before .pre .1 .1 .1 in
+    search inserts))

@@ -4,21 +4,10 @@ use Rattle.code.proofs.Forms.{one-memory, names-registers}
 use Rattle.eval.proofs.operand.cell_at.Statement.{statement}
 use Rattle.eval.proofs.operand.cell_at.Tie as tie
 
-memory-at-requires : tie.Need-memory-at-requires
-memory-at-requires c κs = search needs
-
-cell-of-requires : tie.Need-cell-of-requires
-cell-of-requires c κs =
-    let s = c .before .before .before .before in
-    let memory = c .memory-at in
-    (names-registers _ _ (s .pre .0) (memory .result) (memory .ensures), s .pre .1 .1)
-
-returns : tie.Need-returns
-returns c =
-    let memory = c .before .memory-at in
-    let cell = c .cell-of in
-    λ m q.
-    rw (one-memory _ _ _ (memory .ensures) q) at (cell .ensures)
-
 pub cell-at-spec : {M : Type 1} → statement M
-cell-at-spec = tie.close (tie.spec memory-at-requires cell-of-requires returns)
+cell-at-spec =
+    tie.close
+    (tie.spec
+    (λ c κs. search needs)
+    (λ c κs. search names-registers)
+    (λ c m q. rw (one-memory _ _ _ (c .before .memory-at .ensures) q) at (c .cell-of .ensures)))

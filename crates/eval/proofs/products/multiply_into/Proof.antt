@@ -60,7 +60,9 @@ multiply-into-spec =
     (λ c. search needs) (λ c. let w = operands (c .before .before .before .before) in search product-unwritten)
     (λ c. search needs)
     (λ c. search needs) (λ c. search needs) (λ c κs. search needs)
-    (λ c κs. operands (c .before .before .before .before .before .before .before .before) .low 0 0 [] .bounds (c .before .before .before .before .if2 .left) .register)
+    (λ c κs.
+    let tested = c .before .before .before .before in
+    operands (tested .before .before .before .before) .low 0 0 [] .bounds (tested .if2 .left) .register)
     (λ c. let asked = start (c .before .before .before .before .before .before .before .before .before) in omega (arith, operand-starts))
     (λ c κs. let asked = start (c .before .before .before .before .before .before .before .before .before .before .before) in search needs)
     (λ c. search needs) (λ c. let w = halves (c .before .before) in search product-unresolved)
@@ -69,4 +71,5 @@ multiply-into-spec =
     let wrote = c .before .before .before .before .put in
     let tested = c .before .before .before .before .before .before .before in
     rw (wrote .kept .1 .1 .1 .0) (halves (tested .before .before) .high 0 0 [] .bounds (tested .if3 .left)))
-    (λ c. search needs) (λ c. let w = halves (c .before .before .before .before .before .before .before .before .before .before .before .before) in search product-done))
+    (λ c. search needs)
+    (λ c. let w = halves (c .before .before .before .before .before .before .before .before .before .before .before .before) in search product-done))

@@ -32,5 +32,6 @@ add-lea-spec =
     (λ c. search needs) (λ c. let w = operands (c .before .before) in search sum-unread)
     (λ c. search needs) (λ c. let w = operands (c .before .before .before .before) in search sum-unread-second)
     (λ c. search needs) (λ c. let w = operands (c .before .before .before .before .before .before) in search sum-unwritten)
-    (λ c κs. search needs) (λ c κs. search (c .before .before .before .before .before .before .before .before .before .before .before .before .before .before .before .resolve .ensures 0 0 [] .bounds))
-    (λ c. search needs) (λ c. let w = operands (c .before .before .before .before .before .before .before .before .before .before .before .before) in search sum-done))
+    (λ c κs. search needs) (λ c κs. search (operands (c .before .before .before .before .before .before .before .before .before) .dst 0 0 [] .bounds))
+    (λ c. search needs)
+    (λ c. let w = operands (c .before .before .before .before .before .before .before .before .before .before .before .before) in search sum-done))

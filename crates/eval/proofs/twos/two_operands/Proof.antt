@@ -28,5 +28,6 @@ two-operands-spec =
     (λ c κs. search needs) (λ c. search needs) (λ c. let w = operands (c .before .before .before .before) in search shifts-too-far)
     (λ c. search needs) (λ c. let w = operands (c .before .before .before .before .before .before) in search writes-nowhere)
     (λ c κs. let w = operands (c .before .before .before .before .before .before .before) in search)
-    (λ c κs. search (c .before .before .before .before .before .before .before .before .before .before .before .before .before .resolve .ensures 0 0 [] .bounds))
-    (λ c. search needs) (λ c. let w = operands (c .before .before .before .before .before .before .before .before .before .before .before .before .before) in search writes))
+    (λ c κs. search (operands (c .before .before .before .before .before .before .before .before .before .before) .dst 0 0 [] .bounds))
+    (λ c. search needs)
+    (λ c. let w = operands (c .before .before .before .before .before .before .before .before .before .before .before .before .before) in search writes))
