@@ -418,7 +418,7 @@ pub record OperandsX (addresses tags regs values bs : List ℕ) (at : ℕ) (t : 
 pub record Halves (addresses tags regs values bs : List ℕ) (at : ℕ) (t : Slot) (r : Loaded) (lo hi : ℕ) (u : Slot) : Type 0 where
   pub operands : OperandsX addresses tags regs values bs at t r
   pub found : r .number ≡ 0
-  pub valid : t .number ≡ 0
+  pub valid : t .how ≤ 1
   pub is-lo : lo ≡ mul-mod 64 (getD regs 3 0) (r .word)
   pub is-hi : hi ≡ mul-div 64 (getD regs 3 0) (r .word)
   pub after : List ℕ
@@ -501,12 +501,12 @@ module _ (addresses tags regs xmms values bs : List ℕ) (fill flags at : ℕ) w
           two-amount addresses tags regs xmms values fill flags at _ (w .kind) _ _ _ _ t r two-dst two-src found (sym is-far ∙ h)
 
       module _ (near : far ≡ false) where
-        pub writes-nowhere : (t .number ≡ 0 → ⊥) → Two (exit (t .number) at) s
+        pub writes-nowhere : 1 < t .how → Two (exit (t .how) at) s
         writes-nowhere =
             two-unwritten addresses tags regs xmms values fill flags at _ (w .kind) _ _ _ _ t r two-dst two-src found (sym is-far ∙ near)
 
         pub writes :
-            t .number ≡ 0 →
+            t .how ≤ 1 →
             (regs′ values′ : List ℕ) (v f : ℕ) →
             regs′ ≡ put-regs t v regs → values′ ≡ put-values t v values →
             v ≡ two-word (byte-at bs at) flags (t .word) (r .word) → f ≡ two-flags (byte-at bs at) fill flags (t .word) (r .word) →
@@ -538,11 +538,11 @@ module _ (addresses tags regs xmms values bs : List ℕ) (fill flags at : ℕ) w
       sum-unread-second = lea-unread-second addresses tags regs xmms values fill flags at _ _ _ _ _ _ t q r lea-dst lea-one lea-two there
 
       module _ (found : r .number ≡ 0) where
-        pub sum-unwritten : (t .number ≡ 0 → ⊥) → Lea (exit (t .number) at) s
+        pub sum-unwritten : 1 < t .how → Lea (exit (t .how) at) s
         sum-unwritten = lea-unwritten addresses tags regs xmms values fill flags at _ _ _ _ _ _ t q r lea-dst lea-one lea-two there found
 
         pub sum-done :
-            t .number ≡ 0 →
+            t .how ≤ 1 →
             (regs′ values′ : List ℕ) (v : ℕ) →
             regs′ ≡ put-regs t v regs → values′ ≡ put-values t v values → v ≡ sum-mod 64 (q .word + r .word + 0) →
             Lea (exit 0 (r .next)) (held regs′ xmms flags values′)
@@ -567,17 +567,17 @@ module _ (addresses tags regs xmms values bs : List ℕ) (fill flags at : ℕ) w
     pub product-unread : (r .number ≡ 0 → ⊥) → Mulx (exit (r .number) at) s
     product-unread = mulx-unread addresses tags regs xmms values fill flags at _ _ _ _ _ t r mulx-low mulx-src
 
-    pub product-unwritten : r .number ≡ 0 → (t .number ≡ 0 → ⊥) → Mulx (exit (t .number) at) s
+    pub product-unwritten : r .number ≡ 0 → 1 < t .how → Mulx (exit (t .how) at) s
     product-unwritten = mulx-unwritten addresses tags regs xmms values fill flags at _ _ _ _ _ t r mulx-low mulx-src
 
   module _ (t : Slot) (r : Loaded) (lo hi : ℕ) (u : Slot) (w : Halves addresses tags regs values bs at t r lo hi u) where
-    pub product-unresolved : (u .number ≡ 0 → ⊥) → Mulx t r (w .operands) (exit (u .number) at) s
+    pub product-unresolved : 1 < u .how → Mulx t r (w .operands) (exit (u .how) at) s
     product-unresolved =
         mulx-unresolved addresses tags regs xmms values fill flags at _ _ _ _ _ t r (mulx-low t r (w .operands)) (mulx-src t r (w .operands))
         (w .found) (w .valid) lo hi (w .is-lo) (w .is-hi) (w .after) _ (w .is-after) refl _ u (w .high fill flags xmms)
 
     pub product-done :
-        u .number ≡ 0 →
+        u .how ≤ 1 →
         (regs′ values′ regs″ values″ : List ℕ) →
         regs′ ≡ put-regs t lo regs → values′ ≡ put-values t lo values →
         regs″ ≡ put-regs u hi regs′ → values″ ≡ put-values u hi values′ →
