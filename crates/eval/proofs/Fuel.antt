@@ -43,13 +43,19 @@ unfolding check
 keeps-check true n p s e r h = h
 keeps-check false n p s e r h = keeps-same (fault n p) s
 
-keeps-choose : (b : Bool) (f g f′ g′ : Config → End) → ((t : Config) → Keeps (f t) (f′ t)) → ((t : Config) → Keeps (g t) (g′ t)) → (t : Config) → Keeps (choose b f g t) (choose b f′ g′ t)
+keeps-choose : (b : Bool) (f g f′ g′ : Config → End)
+    → ((t : Config) → Keeps (f t) (f′ t))
+    → ((t : Config) → Keeps (g t) (g′ t))
+    → (t : Config) → Keeps (choose b f g t) (choose b f′ g′ t)
 unfolding choose
 keeps-choose true f g f′ g′ F G t = F t
 keeps-choose false f g f′ g′ F G t = G t
 
 module _ (env : Env) where
-  keeps-ocmp : (q : ℕ) (c : Ocmp) (f g f′ g′ : Config → End) → ((t : Config) → Keeps (f t) (f′ t)) → ((t : Config) → Keeps (g t) (g′ t)) → (s : Config) → Keeps (run-ocmp env q c f g s) (run-ocmp env q c f′ g′ s)
+  keeps-ocmp : (q : ℕ) (c : Ocmp) (f g f′ g′ : Config → End)
+      → ((t : Config) → Keeps (f t) (f′ t))
+      → ((t : Config) → Keeps (g t) (g′ t))
+      → (s : Config) → Keeps (run-ocmp env q c f g s) (run-ocmp env q c f′ g′ s)
   unfolding run-ocmp
   keeps-ocmp q c f g f′ g′ F G s =
       keeps-check (valid-ocmp env c s) 31 q s _ _ (keeps-choose (eval-ocmp env c s) f g f′ g′ F G (with-flags (env .fill) s))
