@@ -3,6 +3,7 @@ use Prim.Native.Nat.{ℕ, _+_, _-_, _*_, _%_, _^_, _≤_, _<_}
 use mathlib.Core.Path.{_≡_, refl, sym, ap, _∙_}
 use mathlib.Core.Bool.{Bool, true, false, _&&_, cond}
 use mathlib.Core.List.{List, []}
+use mathlib.Core.Logic.{_⊎_}
 use native.Mathlib.Omega.{arith}
 use lib.Dec.{eqb, leb}
 use lib.ListN.{length, getD, set}
@@ -20,14 +21,16 @@ use Rattle.machine.specs.declared.Found.the-variants.{At, Nothing}
 use Rattle.machine.specs.declared.Maddr.{Maddr}
 use Rattle.machine.specs.declared.Operand.the-variants.{OMem}
 use Rattle.code.specs.Records.{is-ocmp, byte-at, number-at, operand-at, ocmp-at, behind}
-use Rattle.code.specs.Spells.{OperandBytes, Stands}
-use Rattle.code.specs.declared.tree.Instruction.the-variants.{AddLea64, Mul64, Mulx64, Pextrq}
-use Rattle.code.specs.Families.{is-two, is-inserts, two-ins, inserts-ins}
+use Rattle.code.specs.Spells.{OperandBytes, OperandsFrom, Stands}
+use Rattle.code.specs.declared.tree.Instruction.{Instruction}
+use Rattle.code.specs.declared.tree.Instruction.the-variants.{AddLea64, Mul64, Mulx64, Pshufd, VPSLLDQ, Pextrq}
+use Rattle.code.specs.Families.{is-two, is-quads, is-shifts, is-inserts, two-ins, quads-ins, shifts-ins, inserts-ins}
 use Rattle.code.specs.Forms.{form-of}
 use Rattle.code.specs.declared.records.Form.{Form}
 use Rattle.code.specs.declared.records.Form.the-variants.{Const, Register, Memory}
 use Rattle.code.proofs.Frames.{operand-frame}
 use Rattle.code.proofs.CodeFrames.{ocmp-frame}
+use Rattle.code.proofs.Families.{Stood, ins-inside, quads-kind, shifts-kind, inserts-kind, quads-stood, shifts-stood, shuffle-stood, word-shift-stood, extract-stood, inserts-stood}
 use Rattle.code.proofs.Forms.{constant-is, register-is, register-below}
 use Rattle.eval.specs.Config.{Env, Config, with-flags}
 use Rattle.eval.specs.Instructions.{checks-amount, two-word, two-flags, inserts-word, run-ins}
@@ -37,7 +40,7 @@ use Rattle.eval.specs.declared.operand.Loaded.{Loaded}
 use Rattle.eval.specs.declared.operand.Slot.{Slot}
 use Rattle.eval.specs.declared.comparison.Compared.{Compared}
 use Rattle.eval.proofs.OperandLaws.{load-constant, load-register, load-cell, load-none, resolve-constant, resolve-rsp, resolve-register, resolve-cell, resolve-none, cell-inside}
-use Rattle.eval.proofs.InstructionLaws.{exit, load-at, slot-at, plus-none, two-unread, two-amount, two-unwritten, two-done, lea-unread, lea-unread-second, lea-unwritten, lea-done, mul-unread, mul-done, mulx-unread, mulx-unwritten, mulx-unresolved, mulx-done}
+use Rattle.eval.proofs.InstructionLaws.{exit, ran-stood, load-at, slot-at, plus-none, two-unread, two-amount, two-unwritten, two-done, lea-unread, lea-unread-second, lea-unwritten, lea-done, mul-unread, mul-done, mulx-unread, mulx-unwritten, mulx-unresolved, mulx-done}
 use Rattle.eval.proofs.LaneLaws.{extract-unwritten, extract-done, inserts-unread, inserts-done}
 use Rattle.eval.proofs.ComparisonLaws.{stands-inside, first-unread, second-unread, compared}
 use Rattle.eval.proofs.CycleLaws.{code-frame, starts, has-length, block-inside, choice-inside, loop-inside, how-done, ins-ran, codes-past, Going, next-there, next-past, block-codes, block-ran, if-unread, Chosen, chosen-there, chosen-ran, Looping, loop-ran, loop-spent, loop-unread, loop-done, Round, round-ends, round-there, round-goes, round-stops}
@@ -586,3 +589,91 @@ module _ (addresses tags regs xmms values bs : List ℕ) (fill flags at : ℕ) w
         mulx-done addresses tags regs xmms values fill flags at _ _ _ _ _ t r (mulx-low t r (w .operands)) (mulx-src t r (w .operands))
         (w .found) (w .valid) lo hi (w .is-lo) (w .is-hi) (w .after) values′ (w .is-after) b _ u (w .high fill flags xmms)
         h regs″ values″ (c ∙ ap (put-regs u hi) (a ∙ sym (w .is-after))) d
+
+-- ---- instructions on xmms: what their functions are asked, and that these run them
+module _ (bs : List ℕ) (at : ℕ) (i : InsAt bs at) where
+  pub ins-starts : at < length bs
+  ins-starts = omega (arith, ins-inside (i .1), i .2)
+
+  abbrev byte : ℕ → ℕ
+  byte n = byte-at bs (at + n)
+
+  -- the kinds of two quads
+  abbrev Quads : Type 0
+  Quads = (byte-at bs at ≡ 0x0f) ⊎ ((byte-at bs at ≡ 0x10) ⊎ (byte-at bs at ≡ 0x14))
+
+  pub quads-asked : Quads → (at + 3 ≤ length bs) × ((byte 1 < 16) × ((byte 2 < 16) × (is-quads (byte-at bs at) ≡ true)))
+  quads-asked q =
+      let w = quads-stood bs at (i .0) (i .1) (i .2) _ q refl in
+      (w .stood .operands, (w .xmm, (w .other, quads-kind _ q)))
+
+  pub shifts-asked : 0x11 ≤ byte-at bs at → byte-at bs at < 0x13 → (at + 3 ≤ length bs) × ((byte 1 < 16) × (is-shifts (byte-at bs at) ≡ true))
+  shifts-asked l m =
+      let w = shifts-stood bs at (i .0) (i .1) (i .2) _ l m refl in
+      (w .stood .operands, (w .xmm, shifts-kind _ l m))
+
+  pub shuffle-asked : byte-at bs at ≡ 0x13 → (at + 4 ≤ length bs) × ((byte 1 < 16) × (byte 2 < 16))
+  shuffle-asked q = let w = shuffle-stood bs at (i .0) (i .1) (i .2) q in (w .stood .operands, (w .xmm, w .other))
+
+  pub word-shift-asked : byte-at bs at ≡ 0x18 → (at + 4 ≤ length bs) × ((byte 1 < 16) × (byte 2 < 16))
+  word-shift-asked q = let w = word-shift-stood bs at (i .0) (i .1) (i .2) q in (w .stood .operands, (w .xmm, w .other))
+
+  module _ (addresses tags values : List ℕ) (cells : Cells addresses tags values) where
+    pub extract-asked : byte-at bs at ≡ 0x15 → OperandsFrom 1 bs (at + 3) × ((byte 1 < 16) × Cells addresses tags values)
+    extract-asked q = let w = extract-stood bs at (i .0) (i .1) (i .2) q in (w .stood .operands, (w .xmm, cells))
+
+    pub inserts-asked :
+        0x16 ≤ byte-at bs at → byte-at bs at < 0x18 →
+        OperandsFrom 1 bs (at + 3) × ((byte 1 < 16) × (Cells addresses tags values × (is-inserts (byte-at bs at) ≡ true)))
+    inserts-asked l m =
+        let w = inserts-stood bs at (i .0) (i .1) (i .2) _ l m refl in
+        (w .stood .operands, (w .xmm, (cells, inserts-kind _ l m)))
+
+  -- of those that look at xmms alone: a run of j that ends at b and leaves xmms′ is that of what stands there
+  module _ (env : Env) (regs xmms values xmms′ : List ℕ) (flags : ℕ) (r : Exit) where
+    abbrev Lanes : Instruction → ℕ → Type 0
+    Lanes j b =
+        ((env : Env) (regs values : List ℕ) (flags : ℕ) →
+        Ran (run-ins env at j (held regs xmms flags values)) b r (held regs xmms′ flags values)) →
+        RunsIns env bs at (held regs xmms flags values) r (held regs xmms′ flags values)
+
+    lanes : (j : Instruction) (b : ℕ) → Stood bs at j 0 b → Lanes j b
+    lanes j b w ran = ran-stood bs at j 0 b w env _ _ r (ran env regs values flags)
+
+    pub shifts-ran : 0x11 ≤ byte-at bs at → byte-at bs at < 0x13 → Lanes (shifts-ins (byte-at bs at) (byte 1) (byte 2)) (at + 3)
+    shifts-ran l m = lanes _ _ (shifts-stood bs at (i .0) (i .1) (i .2) _ l m refl .stood)
+
+    pub shuffle-ran : byte-at bs at ≡ 0x13 → Lanes (Pshufd (byte 1) (byte 2) (byte 3)) (at + 4)
+    shuffle-ran q = lanes _ _ (shuffle-stood bs at (i .0) (i .1) (i .2) q .stood)
+
+    pub word-shift-ran : byte-at bs at ≡ 0x18 → Lanes (VPSLLDQ (byte 1) (byte 2) (byte 3)) (at + 4)
+    word-shift-ran q = lanes _ _ (word-shift-stood bs at (i .0) (i .1) (i .2) q .stood)
+
+  -- of the others
+  module _ (addresses tags regs xmms values : List ℕ) (fill flags : ℕ) (r : Exit) where
+    pub quads-ran :
+        (xmms′ : List ℕ) (flags′ : ℕ) → Quads →
+        ((addresses tags regs values : List ℕ) →
+        Ran (run-ins (environment addresses tags fill) at (quads-ins (byte-at bs at) (byte 1) (byte 2)) (held regs xmms flags values))
+        (at + 3) r (held regs xmms′ flags′ values)) →
+        RunsIns (environment addresses tags fill) bs at (held regs xmms flags values) r (held regs xmms′ flags′ values)
+    quads-ran xmms′ flags′ q ran =
+        ran-stood bs at _ 0 _ (quads-stood bs at (i .0) (i .1) (i .2) _ q refl .stood) _ _ _ r (ran addresses tags regs values)
+
+    pub extract-ran :
+        (regs′ values′ : List ℕ) → byte-at bs at ≡ 0x15 →
+        ((fill flags : ℕ) →
+        Ran (run-ins (environment addresses tags fill) at (Pextrq (operand-at bs (at + 3)) (byte 1) (byte 2)) (held regs xmms flags values))
+        (behind bs (at + 3)) r (held regs′ xmms flags values′)) →
+        RunsIns (environment addresses tags fill) bs at (held regs xmms flags values) r (held regs′ xmms flags values′)
+    extract-ran regs′ values′ q ran =
+        ran-stood bs at _ 1 _ (extract-stood bs at (i .0) (i .1) (i .2) q .stood) _ _ _ r (ran fill flags)
+
+    pub inserts-ran :
+        (xmms′ : List ℕ) → 0x16 ≤ byte-at bs at → byte-at bs at < 0x18 →
+        ((fill flags : ℕ) →
+        Ran (run-ins (environment addresses tags fill) at (inserts-ins (byte-at bs at) (byte 1) (operand-at bs (at + 3)) (byte 2))
+        (held regs xmms flags values)) (behind bs (at + 3)) r (held regs xmms′ flags values)) →
+        RunsIns (environment addresses tags fill) bs at (held regs xmms flags values) r (held regs xmms′ flags values)
+    inserts-ran xmms′ l m ran =
+        ran-stood bs at _ 1 _ (inserts-stood bs at (i .0) (i .1) (i .2) _ l m refl .stood) _ _ _ r (ran fill flags)

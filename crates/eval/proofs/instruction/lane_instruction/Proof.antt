@@ -1,162 +1,47 @@
 -- Each kind stands as an instruction of its family, whose function runs it. Assumes nothing.
-use mathlib.Core.Path.{refl}
-use mathlib.Core.Logic.{inl, inr, ⊎-elim}
+use mathlib.Core.Path.{_≡_}
+use mathlib.Core.Logic.{_⊎_, inl, inr, ⊎-elim}
 use native.Mathlib.Omega.{arith}
 use borrow.Author.Needs.{needs}
-use Rattle.code.proofs.Families.{ins-inside, which-quads, quads-kind, quads-stood, shifts-kind, shifts-stood, shuffle-stood, word-shift-stood, extract-stood, inserts-kind, inserts-stood}
+use Rattle.code.specs.Records.{byte-at}
+use Rattle.code.proofs.Families.{which-quads}
 use Rattle.eval.proofs.OtherKinds.{past-15}
-use Rattle.eval.proofs.InstructionLaws.{ran-stood}
+use Rattle.eval.proofs.Asked.{ins-starts, quads-asked, quads-ran, shifts-asked, shifts-ran, shuffle-asked, shuffle-ran, word-shift-asked, word-shift-ran, extract-asked, extract-ran, inserts-asked, inserts-ran}
 use Rattle.eval.proofs.instruction.lane_instruction.Statement.{statement}
 use Rattle.eval.proofs.instruction.lane_instruction.Tie as tie
 
-shared-slice-read-match : tie.Need-shared-slice-read-match
-shared-slice-read-match c =
-    let s = c .before .before .before .before .before in
-    omega (arith, ins-inside (s .pre .0 .1), s .pre .0 .2)
+-- what was asked, where the kind is read
+abbrev start : tie.After-shared-slice-known4 → tie.Start
+start c = c .before .before .before .before .before
 
-shuffle-requires : tie.Need-shuffle-requires
-shuffle-requires c κs =
-    let s = c .before .before .before .before .before .before .before in
-    let kind = c .before .match in
-    let w = shuffle-stood _ _ _ (s .pre .0 .1) (s .pre .0 .2) (kind .keys2) in
-    (w .stood .operands, (w .xmm, w .other))
-
-extract-requires : tie.Need-extract-requires
-extract-requires c κs =
-    let back8 = c .before .before .before .before .before .before .before .before in
-    let s = back8 .before in
-    let kind = c .before .before .before .match in
-    let w = extract-stood _ _ _ (s .pre .0 .1) (s .pre .0 .2) (kind .keys3) in
-    (w .stood .operands, (w .xmm, s .pre .1 .1))
-
-shift-by-word-requires : tie.Need-shift-by-word-requires
-shift-by-word-requires c κs =
-    let s = c .before .before .before .before .before .before .before in
-    let kind = c .before .match in
-    let w = word-shift-stood _ _ _ (s .pre .0 .1) (s .pre .0 .2) (kind .keys4) in
-    (w .stood .operands, (w .xmm, w .other))
-
-shift-words-requires : tie.Need-shift-words-requires
-shift-words-requires c κs =
-    let back8 = c .before .before .before .before .before .before .before .before in
-    let s = back8 .before .before in
-    let if2 = c .before .before .if2 in
-    let if3 = c .before .if3 in
-    let w = shifts-stood _ _ _ (s .pre .0 .1) (s .pre .0 .2) _ (if2 .left) (if3 .taken) refl in
-    (w .stood .operands, (w .xmm, shifts-kind _ (if2 .left) (if3 .taken)))
-
-insert-requires : tie.Need-insert-requires
-insert-requires c κs =
-    let back8 = c .before .before .before .before .before .before .before .before in
-    let s = back8 .before .before .before .before .before in
-    let kind = c .before .before .before .before .before .before .before .match in
-    let if3 = c .before .before .before .before .if3 in
-    let if4 = c .before .before .before .if4 in
-    let low = past-15 _ (if3 .left) (kind .rest .0 .0 .1) (kind .rest .0 .0 .0 .1) (kind .rest .0 .1) in
-    let w = inserts-stood _ _ _ (s .pre .0 .1) (s .pre .0 .2) _ low (if4 .taken) refl in
-    (w .stood .operands, (w .xmm, (s .pre .1 .1, inserts-kind _ low (if4 .taken))))
-
-two-quads-requires : tie.Need-two-quads-requires
-two-quads-requires c κs =
-    let s = c .before .before .before .before .before .before .before .before in
-    let kind = c .before .before .match in
-    let q = which-quads _ (s .pre .1 .0 .0) (⊎-elim (λ w. inr (w .keys1)) (λ w. inl (w .2 .taken)) (kind .came)) in
-    let w = quads-stood _ _ _ (s .pre .0 .1) (s .pre .0 .2) _ q refl in
-    (w .stood .operands, (w .xmm, (w .other, quads-kind _ q)))
-
-returns : tie.Need-returns
-returns c =
-    let s = c .before .before .before .before .before .before .before .before in
-    let kind = c .before .before .match in
-    let ran = c .shuffle in
-    let w = shuffle-stood _ _ _ (s .pre .0 .1) (s .pre .0 .2) (kind .keys2) in
-    ran-stood _ _ _ _ _ (w .stood) _ _ _ _ (ran .ensures _ _ _ _)
-
-same-length : tie.Need-same-length
-same-length c = search needs
-
-returns-2 : tie.Need-returns-2
-returns-2 c =
-    let back8 = c .before .before .before .before .before .before .before .before in
-    let s = back8 .before .before .before .before in
-    let kind = c .before .before .before .before .before .before .match in
-    let ran = c .before .before .extract in
-    let w = extract-stood _ _ _ (s .pre .0 .1) (s .pre .0 .2) (kind .keys3) in
-    ran-stood _ _ _ _ _ (w .stood) _ _ _ _ (ran .ensures (s .args .fill) (s .args .flags .now))
-
-returns-3 : tie.Need-returns-3
-returns-3 c =
-    let s = c .before .before .before .before .before .before .before .before in
-    let kind = c .before .before .match in
-    let ran = c .shift-by-word in
-    let w = word-shift-stood _ _ _ (s .pre .0 .1) (s .pre .0 .2) (kind .keys4) in
-    ran-stood _ _ _ _ _ (w .stood) _ _ _ _ (ran .ensures _ _ _ _)
-
-returns-4 : tie.Need-returns-4
-returns-4 c =
-    let back8 = c .before .before .before .before .before .before .before .before in
-    let s = back8 .before .before .before in
-    let if2 = c .before .before .before .if2 in
-    let if3 = c .before .before .if3 in
-    let ran = c .shift-words in
-    let w = shifts-stood _ _ _ (s .pre .0 .1) (s .pre .0 .2) _ (if2 .left) (if3 .taken) refl in
-    ran-stood _ _ _ _ _ (w .stood) _ _ _ _ (ran .ensures _ _ _ _)
-
-same-length-2 : tie.Need-same-length-2
-same-length-2 c = search needs
-
-returns-5 : tie.Need-returns-5
-returns-5 c =
-    let back8 = c .before .before .before .before .before .before .before .before in
-    let s = back8 .before .before .before .before .before .before in
-    let kind = c .before .before .before .before .before .before .before .before .match in
-    let if3 = c .before .before .before .before .before .if3 in
-    let if4 = c .before .before .before .before .if4 in
-    let ran = c .insert in
-    let low = past-15 _ (if3 .left) (kind .rest .0 .0 .1) (kind .rest .0 .0 .0 .1) (kind .rest .0 .1) in
-    let w = inserts-stood _ _ _ (s .pre .0 .1) (s .pre .0 .2) _ low (if4 .taken) refl in
-    ran-stood _ _ _ _ _ (w .stood) _ _ _ _ (ran .ensures (s .args .fill) (s .args .flags .now))
-
-returns-6 : tie.Need-returns-6
-returns-6 c =
-    let s = c .before .before .before .before .before .before .before in
-    absurd (omega (arith, c .if1 .taken, s .pre .1 .0 .0))
-
-returns-7 : tie.Need-returns-7
-returns-7 c =
-    let back8 = c .before .before .before .before .before .before .before .before in
-    let s = back8 .before .before in
-    let kind = c .before .before .before .before .match in
-    absurd (kind .rest .1 (omega (arith, c .if4 .left, s .pre .1 .0 .1)))
-
-returns-8 : tie.Need-returns-8
-returns-8 c =
-    let back8 = c .before .before .before .before .before .before .before .before in
-    let s = back8 .before in
-    let kind = c .before .before .before .match in
-    let ran = c .two-quads in
-    let q = which-quads _ (s .pre .1 .0 .0) (⊎-elim (λ w. inr (w .keys1)) (λ w. inl (w .2 .taken)) (kind .came)) in
-    let w = quads-stood _ _ _ (s .pre .0 .1) (s .pre .0 .2) _ q refl in
-    ran-stood _ _ _ _ _ (w .stood) _ _ _ _ (ran .ensures _ _ _ _)
+-- which kinds come to the first arm
+quads :
+    (c : tie.At-match-came) →
+    let a = start (c .before) .args in
+    let k = byte-at (a .code .now) (a .at) in
+    (k ≡ 0x0f) ⊎ ((k ≡ 0x10) ⊎ (k ≡ 0x14))
+quads c = which-quads _ (start (c .before) .pre .1 .0 .0) (⊎-elim (λ w. inr (w .keys1)) (λ w. inl (w .2 .taken)) (c .match .came))
 
 pub lane-instruction-spec : {M : Type 1} → statement M
 lane-instruction-spec =
     tie.close
     (tie.spec
-    shared-slice-read-match
-    shuffle-requires
-    extract-requires
-    shift-by-word-requires
-    shift-words-requires
-    insert-requires
-    two-quads-requires
-    returns
-    same-length
-    returns-2
-    returns-3
-    returns-4
-    same-length-2
-    returns-5
-    returns-6
-    returns-7
-    returns-8)
+    (λ c. search ins-starts)
+    (λ c κs. shuffle-asked _ _ (start (c .before .before) .pre .0) (search))
+    (λ c κs. let asked = start (c .before .before .before .before) .pre in extract-asked _ _ (asked .0) _ _ _ (asked .1 .1) (search))
+    (λ c κs. word-shift-asked _ _ (start (c .before .before) .pre .0) (search))
+    (λ c κs. shifts-asked _ _ (start (c .before .before .before .before .before) .pre .0) (search) (search))
+    (λ c κs.
+    let asked = start (c .before .before .before .before .before .before .before .before) .pre in
+    inserts-asked _ _ (asked .0) _ _ _ (asked .1 .1) (search past-15) (search))
+    (λ c κs. quads-asked _ _ (start (c .before .before .before) .pre .0) (quads (c .before .before)))
+    (λ c. search shuffle-ran)
+    (λ c. search needs) (λ c. search extract-ran)
+    (λ c. search word-shift-ran)
+    (λ c. search shifts-ran)
+    (λ c. search needs) (λ c. search (inserts-ran, past-15))
+    (λ c. absurd (omega (arith, c .if1 .taken, start (c .before .before) .pre .1 .0 .0)))
+    (λ c.
+    let asked = start (c .before .before .before .before .before) .pre in
+    absurd (c .before .before .before .before .match .rest .1 (omega (arith, c .if4 .left, asked .1 .0 .1))))
+    (λ c. let kind = quads (c .before .before .before) in search quads-ran))
