@@ -1,7 +1,7 @@
 -- Laying out and reading are inverse to each other: what is read of a layout is what was laid out, and the layout of what is read is of the kind,
 -- the bytes and the operands that were read. Each instruction and each kind computes. Assumes nothing.
 use Prim.Native.Nat.{ℕ, zero, suc}
-use mathlib.Core.Path.{_≡_, refl}
+use mathlib.Core.Path.{_≡_, refl, subst}
 use mathlib.Core.Bool.{Bool, true, _&&_}
 use mathlib.Core.List.{List, [], _∷_, _++_, map}
 use native.Mathlib.Omega.{arith}
@@ -139,6 +139,20 @@ module _ {A : Type 0} (f g : ℕ → A) where
 
   ocmp-same : answers f 0x30 6 ≡ answers g 0x30 6 → (k : ℕ) → is-ocmp k ≡ true → f k ≡ g k
   ocmp-same e k h = let w = between-true 0x30 0x35 k h in same-within f g 6 0x30 e k (w .0) (omega (arith, w .1))
+
+-- what a function says of the instructions of some bytes and operands, in the order of their kinds
+abbrev pub of-each : {A : Type 0} → (Instruction → A) → List ℕ → List Operand → List A
+of-each f bytes os = answers (λ k. f (ins-of k bytes os)) 0x01 last-ins
+
+-- two that say the same there say the same of every instruction: so a law of all instructions is one equation that antt computes
+pub every-ins : {A : Type 0} (f g : Instruction → A) → ((bytes : List ℕ) (os : List Operand) → of-each f bytes os ≡ of-each g bytes os)
+    → (i : Instruction) → f i ≡ g i
+every-ins f g e i =
+    let l = layout i in
+    let bytes = values (l .body) in
+    let of : ℕ → Instruction = λ k. ins-of k bytes (l .operands) in
+    subst (λ (x : Instruction). f x ≡ g x) (ins-read i)
+    (ins-same (λ k. f (of k)) (λ k. g (of k)) (e bytes (l .operands)) (l .kind) (ins-agrees i .right))
 
 -- the instruction of a kind, and the comparison of a kind, are laid out so
 module _ (k : ℕ) (bytes : List ℕ) (os : List Operand) where
