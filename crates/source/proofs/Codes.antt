@@ -8,16 +8,16 @@ use mathlib.Core.Option.{Option, none, some}
 use lib.IntN.{ℤ}
 use Rattle.machine.specs.Memory.{Memory, LoadsMem64}
 use Rattle.code.specs.declared.tree.Instruction.{Instruction}
-use Rattle.code.specs.declared.tree.Instruction.the-variants.{Mov64, Add64, AddLea64, AddCarry64, Adcx64, Adox64, Sub64, Mul64, Mulx64, IMul64, Xor64, And64, Shr64, Shl64, Paddd, Pxor, Pslld, Psrld, Pshufd, Pcmpeqd, Pextrq, Pinsrd, Pinsrq, VPSLLDQ}
 use Rattle.code.specs.declared.tree.Ocmp.{Ocmp}
 use Rattle.code.specs.Tree.{Code, Ins, Block, IfElse, While, Codes, ⟨⟩, _∷ᶜ_}
+use Rattle.code.proofs.Layouts.{every-ins}
 use Rattle.code.specs.WellFormed.{WfOcmp, WfCode, WfCodes}
 use Rattle.eval.specs.Config.{Env, Config, with-flags, End, ends, done, fault, spent, continue, and-then}
 use Rattle.eval.specs.Config as Config
 use Rattle.eval.specs.Instructions as Run
 use Rattle.eval.specs.Running as Running
 use Rattle.source.specs.Source as Source
-use Rattle.source.specs.Source.{State, St, choose, eval-ins}
+use Rattle.source.specs.Source.{State, St, with-ok, choose, eval-ins}
 use Rattle.source.specs.Log.{Note, Event, passed, failed, starved, event, events, first-bad, Logged, after, if-some, returned, check, note-ocmp, log-ocmp, log-while, log-code, log-codes}
 use Rattle.source.specs.Correspondence.{IntToNat64, state-of}
 use Rattle.source.proofs.OperandLaws.{Held, valid-ocmp-is, eval-ocmp-is}
@@ -46,32 +46,12 @@ clear-some log none k c h = tt
 clear-some log (some u) k c h = h u c
 
 module _ (load-mem64 : ℤ → Memory → ℕ) (int-to-nat64 : ℤ → ℕ) (fill : ℕ) where
+  -- a state whose ok is clear is one with ok made clear, and from there each instruction computes
   ins-clear : (i : Instruction) (s : State) → s .ok ≡ false → eval-ins load-mem64 int-to-nat64 fill i s .1 .ok ≡ false
-  unfolding eval-ins
-  ins-clear (Mov64 dst src) s e = bind-clear _ _ s e
-  ins-clear (Add64 dst src) s e = bind-clear _ _ s e
-  ins-clear (AddLea64 dst src1 src2) s e = bind-clear _ _ s e
-  ins-clear (AddCarry64 dst src) s e = bind-clear _ _ s e
-  ins-clear (Adcx64 dst src) s e = bind-clear _ _ s e
-  ins-clear (Adox64 dst src) s e = bind-clear _ _ s e
-  ins-clear (Sub64 dst src) s e = bind-clear _ _ s e
-  ins-clear (Mul64 src) s e = bind-clear _ _ s e
-  ins-clear (Mulx64 dst-hi dst-lo src) s e = bind-clear _ _ s e
-  ins-clear (IMul64 dst src) s e = bind-clear _ _ s e
-  ins-clear (Xor64 dst src) s e = bind-clear _ _ s e
-  ins-clear (And64 dst src) s e = bind-clear _ _ s e
-  ins-clear (Shr64 dst amt) s e = bind-clear _ _ s e
-  ins-clear (Shl64 dst amt) s e = bind-clear _ _ s e
-  ins-clear (Paddd dst src) s e = bind-clear _ _ s e
-  ins-clear (Pxor dst src) s e = bind-clear _ _ s e
-  ins-clear (Pslld dst amt) s e = bind-clear _ _ s e
-  ins-clear (Psrld dst amt) s e = bind-clear _ _ s e
-  ins-clear (Pshufd dst src permutation) s e = bind-clear _ _ s e
-  ins-clear (Pcmpeqd dst src) s e = bind-clear _ _ s e
-  ins-clear (Pextrq dst src index) s e = bind-clear _ _ s e
-  ins-clear (Pinsrd dst src index) s e = bind-clear _ _ s e
-  ins-clear (Pinsrq dst src index) s e = bind-clear _ _ s e
-  ins-clear (VPSLLDQ dst src count) s e = bind-clear _ _ s e
+  unfolding eval-ins Source._>>=_
+  ins-clear i s e =
+      ap (λ b. eval-ins load-mem64 int-to-nat64 fill i (with-ok b s) .1 .ok) e
+      ∙ every-ins (λ i. eval-ins load-mem64 int-to-nat64 fill i (with-ok false s) .1 .ok) (λ i. false) (λ bytes os. refl) i
 
   clear-ocmp : (q : ℕ) (c : Ocmp) (f g : State → Logged) → Clears f → Clears g → Clears (log-ocmp load-mem64 int-to-nat64 fill q c f g)
   unfolding note-ocmp check Source.check

@@ -18,6 +18,7 @@ use Rattle.machine.specs.declared.Operand.{Operand}
 use Rattle.machine.specs.declared.Operand.the-variants.{OConst, OReg, OMem}
 use Rattle.code.specs.declared.tree.Instruction.{Instruction}
 use Rattle.code.specs.declared.tree.Instruction.the-variants.{Mov64, Add64, AddLea64, AddCarry64, Adcx64, Adox64, Sub64, Mul64, Mulx64, IMul64, Xor64, And64, Shr64, Shl64, Paddd, Pxor, Pslld, Psrld, Pshufd, Pcmpeqd, Pextrq, Pinsrd, Pinsrq, VPSLLDQ}
+use Rattle.code.proofs.Layouts.{every-ins}
 use Rattle.code.specs.WellFormed.{WfOperand, WfTwo, WfIns}
 use Rattle.eval.specs.Instructions.{add-flags, two-word, two-flags, quads-word, quads-flags, shifts-word, inserts-word}
 use Rattle.eval.specs.Config.{Env, Config, with-regs, with-xmms, with-flags, End, ends, done, fault}
@@ -377,27 +378,5 @@ module _ (load-mem64 : ℤ → Memory → ℕ) (int-to-nat64 : ℤ → ℕ) (fil
   pub erase-ins : (i : Instruction) (s : State) → note-ins load-mem64 int-to-nat64 fill i s .0 ≡ Source.eval-ins load-mem64 int-to-nat64 fill i s
   unfolding note-ins Source.eval-ins _>>=_ Source._>>=_ quiet check check-imm
       update-operand Source.update-operand update-operand-preserve-flags Source.update-operand-preserve-flags
-  erase-ins (Mov64 dst src) s = refl
-  erase-ins (Add64 dst src) s = refl
-  erase-ins (AddLea64 dst src1 src2) s = refl
-  erase-ins (AddCarry64 dst src) s = refl
-  erase-ins (Adcx64 dst src) s = refl
-  erase-ins (Adox64 dst src) s = refl
-  erase-ins (Sub64 dst src) s = refl
-  erase-ins (Mul64 src) s = refl
-  erase-ins (Mulx64 dst-hi dst-lo src) s = refl
-  erase-ins (IMul64 dst src) s = refl
-  erase-ins (Xor64 dst src) s = refl
-  erase-ins (And64 dst src) s = refl
-  erase-ins (Shr64 dst amt) s = refl
-  erase-ins (Shl64 dst amt) s = refl
-  erase-ins (Paddd dst src) s = refl
-  erase-ins (Pxor dst src) s = refl
-  erase-ins (Pslld dst amt) s = refl
-  erase-ins (Psrld dst amt) s = refl
-  erase-ins (Pshufd dst src permutation) s = refl
-  erase-ins (Pcmpeqd dst src) s = refl
-  erase-ins (Pextrq dst src index) s = refl
-  erase-ins (Pinsrd dst src index) s = refl
-  erase-ins (Pinsrq dst src index) s = refl
-  erase-ins (VPSLLDQ dst src count) s = refl
+  erase-ins i s =
+      every-ins (λ i. note-ins load-mem64 int-to-nat64 fill i s .0) (λ i. Source.eval-ins load-mem64 int-to-nat64 fill i s) (λ bytes os. refl) i
