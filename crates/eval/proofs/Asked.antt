@@ -14,7 +14,9 @@ use Rattle.words.specs.Types.{quad32, extract-nat64}
 use Rattle.words.specs.declared.Quad32.{Quad32}
 use Rattle.machine.specs.Registers.{reg-at, Rsp, xmm-at, set-xmm}
 use Rattle.machine.specs.Operands.{eval-maddr}
-use Rattle.machine.specs.Cells.{find-cell, index-of}
+use Rattle.machine.specs.Cells.{Verdict, accepted, verdict, check-cells, find-cell, index-of}
+use Rattle.machine.specs.declared.Checked.{Checked}
+use Rattle.machine.specs.declared.Checked.the-variants.{Accepted, Refused}
 use Rattle.machine.specs.declared.reg.Reg.{Reg}
 use Rattle.machine.specs.declared.Found.{Found}
 use Rattle.machine.specs.declared.Found.the-variants.{At, Nothing}
@@ -25,6 +27,7 @@ use Rattle.code.specs.Spells.{OperandBytes, OperandsFrom, Stands}
 use Rattle.code.specs.declared.tree.Instruction.{Instruction}
 use Rattle.code.specs.declared.tree.Instruction.the-variants.{AddLea64, Mul64, Mulx64, Pshufd, VPSLLDQ, Pextrq}
 use Rattle.code.specs.Families.{is-two, is-quads, is-shifts, is-inserts, two-ins, quads-ins, shifts-ins, inserts-ins}
+use Rattle.code.specs.Reader.{check-code}
 use Rattle.code.specs.Forms.{form-of}
 use Rattle.code.specs.declared.records.Form.{Form}
 use Rattle.code.specs.declared.records.Form.the-variants.{Const, Register, Memory}
@@ -32,7 +35,9 @@ use Rattle.code.proofs.Frames.{operand-frame}
 use Rattle.code.proofs.CodeFrames.{ocmp-frame}
 use Rattle.code.proofs.Families.{Stood, ins-inside, quads-kind, shifts-kind, inserts-kind, quads-stood, shifts-stood, shuffle-stood, word-shift-stood, extract-stood, inserts-stood}
 use Rattle.code.proofs.Forms.{constant-is, register-is, register-below}
-use Rattle.eval.specs.Config.{Env, Config, with-flags}
+use Rattle.eval.specs.Config.{Env, Config, with-flags, ends}
+use Rattle.eval.specs.Config as Config
+use Rattle.eval.specs.Running.{run-of}
 use Rattle.eval.specs.Instructions.{checks-amount, two-word, two-flags, inserts-word, run-ins}
 use Rattle.eval.specs.Promises.{environment, held, Cells, CodeAt, CodesAt, InsAt, OcmpAt, codes-from, Loads, Resolves, no-slot, put-regs, put-values, comparison, Compares, ComparesAt, Ran, Runs, RunsIns, RunsAll}
 use Rattle.eval.specs.declared.exit.Exit.{Exit}
@@ -43,6 +48,7 @@ use Rattle.eval.proofs.OperandLaws.{load-constant, load-register, load-
 use Rattle.eval.proofs.InstructionLaws.{exit, ran-stood, load-at, slot-at, plus-none, two-unread, two-amount, two-unwritten, two-done, lea-unread, lea-unread-second, lea-unwritten, lea-done, mul-unread, mul-done, mulx-unread, mulx-unwritten, mulx-unresolved, mulx-done}
 use Rattle.eval.proofs.LaneLaws.{extract-unwritten, extract-done, inserts-unread, inserts-done}
 use Rattle.eval.proofs.ComparisonLaws.{stands-inside, first-unread, second-unread, compared}
+use Rattle.eval.proofs.RunLaws.{code-refused, cells-refused}
 use Rattle.eval.proofs.CycleLaws.{code-frame, starts, has-length, block-inside, choice-inside, loop-inside, how-done, ins-ran, codes-past, Going, next-there, next-past, block-codes, block-ran, if-unread, Chosen, chosen-there, chosen-ran, Looping, loop-ran, loop-spent, loop-unread, loop-done, Round, round-ends, round-there, round-goes, round-stops}
 
 -- ---- a structure: the places of its lengths fit, inside the bytes, of which there are fewer than 2 ^ 63
@@ -677,3 +683,17 @@ module _ (bs : List ℕ) (at : ℕ) (i : InsAt bs at) where
         RunsIns (environment addresses tags fill) bs at (held regs xmms flags values) r (held regs xmms′ flags values)
     inserts-ran xmms′ l m ran =
         ran-stood bs at _ 1 _ (inserts-stood bs at (i .0) (i .1) (i .2) _ l m refl .stood) _ _ _ r (ran fill flags)
+
+-- ---- what a check answered is the verdict of its definition
+pub is-accepted : (v : Checked) (w : Verdict) → verdict v ≡ w → v ≡ Accepted → w ≡ accepted
+is-accepted v w is e = sym is ∙ ap verdict e
+
+module _ (bs addresses tags : List ℕ) (fill fuel : ℕ) (s : Config) (v : Checked) (is-code : verdict v ≡ check-code bs) where
+  pub refused-code : (n p : ℕ) → v ≡ Refused n p → ends (Config.refused n p) s ≡ run-of bs (environment addresses tags fill) fuel s
+  refused-code n p e = code-refused bs _ fuel s n p (sym is-code ∙ ap verdict e)
+
+  pub refused-cells :
+      v ≡ Accepted → (u : Checked) → verdict u ≡ check-cells addresses tags (s .values) → (n i : ℕ) → u ≡ Refused n i →
+      ends (Config.refused n i) s ≡ run-of bs (environment addresses tags fill) fuel s
+  refused-cells e u is n i f =
+      cells-refused bs _ fuel s (is-accepted v _ is-code e) n i (sym is ∙ ap verdict f)

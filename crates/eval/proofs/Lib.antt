@@ -5,7 +5,7 @@ pub mod InstructionLaws
 pub mod LaneLaws
 pub mod ComparisonLaws
 pub mod CycleLaws
-pub mod Asked
 pub mod RunLaws
+pub mod Asked
 pub mod InputLaws
 pub mod Fuel
