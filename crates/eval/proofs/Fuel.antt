@@ -20,6 +20,10 @@ Kept (refused n p) t r = r ≡ ends (refused n p) t
 abbrev Keeps : End → End → Type 0
 Keeps e r = Kept (e .how) (e .config) r
 
+-- so does each run of k, in l
+abbrev EachKeeps : (Config → End) → (Config → End) → Type 0
+EachKeeps k l = (s : Config) → Keeps (k s) (l s)
+
 keeps-same : (o : Outcome) (t : Config) → Kept o t (ends o t)
 unfolding Kept
 keeps-same done t = refl
@@ -31,7 +35,9 @@ keeps-spent : (p : ℕ) (t : Config) (r : End) → Kept (spent p) t r
 unfolding Kept
 keeps-spent p t r = tt
 
-keeps-then : (o : Outcome) (t : Config) (r : End) (k l : Config → End) → Kept o t r → ((u : Config) → Keeps (k u) (l u)) → Keeps (continue o t k) (and-then r l)
+keeps-then :
+    (o : Outcome) (t : Config) (r : End) (k l : Config → End) →
+    Kept o t r → EachKeeps k l → Keeps (continue o t k) (and-then r l)
 unfolding Kept continue
 keeps-then done t r k l e h = subst⁻¹ (λ x. Keeps (k t) (and-then x l)) e (h t)
 keeps-then (fault n p) t r k l e h = ap (λ x. and-then x l) e
@@ -43,25 +49,23 @@ unfolding check
 keeps-check true n p s e r h = h
 keeps-check false n p s e r h = keeps-same (fault n p) s
 
-keeps-choose : (b : Bool) (f g f′ g′ : Config → End)
-    → ((t : Config) → Keeps (f t) (f′ t))
-    → ((t : Config) → Keeps (g t) (g′ t))
-    → (t : Config) → Keeps (choose b f g t) (choose b f′ g′ t)
+keeps-choose :
+    (b : Bool) (f g f′ g′ : Config → End) → EachKeeps f f′ → EachKeeps g g′ → EachKeeps (choose b f g) (choose b f′ g′)
 unfolding choose
 keeps-choose true f g f′ g′ F G t = F t
 keeps-choose false f g f′ g′ F G t = G t
 
 module _ (env : Env) where
-  keeps-ocmp : (q : ℕ) (c : Ocmp) (f g f′ g′ : Config → End)
-      → ((t : Config) → Keeps (f t) (f′ t))
-      → ((t : Config) → Keeps (g t) (g′ t))
-      → (s : Config) → Keeps (run-ocmp env q c f g s) (run-ocmp env q c f′ g′ s)
+  keeps-ocmp :
+      (q : ℕ) (c : Ocmp) (f g f′ g′ : Config → End) →
+      EachKeeps f f′ → EachKeeps g g′ → EachKeeps (run-ocmp env q c f g) (run-ocmp env q c f′ g′)
   unfolding run-ocmp
   keeps-ocmp q c f g f′ g′ F G s =
       keeps-check (valid-ocmp env c s) 31 q s _ _ (keeps-choose (eval-ocmp env c s) f g f′ g′ F G (with-flags (env .fill) s))
 
-  keeps-rounds : (body : ℕ → Config → End) → ((f g : ℕ) → f ≤ g → (t : Config) → Keeps (body f t) (body g t))
-      → (p q : ℕ) (c : Ocmp) (f g : ℕ) → f ≤ g → (s : Config) → Keeps (rounds env body p q c f s) (rounds env body p q c g s)
+  keeps-rounds :
+      (body : ℕ → Config → End) → ((f g : ℕ) → f ≤ g → EachKeeps (body f) (body g)) →
+      (p q : ℕ) (c : Ocmp) (f g : ℕ) → f ≤ g → EachKeeps (rounds env body p q c f) (rounds env body p q c g)
   unfolding rounds
   keeps-rounds body h p q c zero g le s = keeps-spent p s _
   keeps-rounds body h p q c (suc f) zero le s = absurd (not-suc-le-zero le)
@@ -72,13 +76,13 @@ module _ (env : Env) where
   mutual
     unfolding run-code run-codes
 
-    keeps-code : (c : Code) (f g : ℕ) → f ≤ g → (s : Config) → Keeps (run-code env c f s) (run-code env c g s)
+    keeps-code : (c : Code) (f g : ℕ) → f ≤ g → EachKeeps (run-code env c f) (run-code env c g)
     keeps-code (Ins p i) f g le s = keeps-same _ _
     keeps-code (Block p cs) f g le s = keeps-codes cs f g le s
     keeps-code (IfElse p q c a b) f g le s = keeps-ocmp q c _ _ _ _ (keeps-code a f g le) (keeps-code b f g le) s
     keeps-code (While p q c b) f g le s = keeps-rounds _ (keeps-code b) p q c f g le s
 
-    keeps-codes : (cs : Codes) (f g : ℕ) → f ≤ g → (s : Config) → Keeps (run-codes env cs f s) (run-codes env cs g s)
+    keeps-codes : (cs : Codes) (f g : ℕ) → f ≤ g → EachKeeps (run-codes env cs f) (run-codes env cs g)
     keeps-codes ⟨⟩ f g le s = keeps-same _ _
     keeps-codes (c ∷ᶜ cs) f g le s = keeps-then _ _ _ _ _ (keeps-code c f g le s) (keeps-codes cs f g le)
 

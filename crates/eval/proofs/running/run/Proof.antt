@@ -41,4 +41,5 @@ run-spec =
     (λ c. search needs) (λ c. (search refused-cells, is-input (c .before .before .before .before .before .before .before .before .before .before .before)))
     (λ c. search needs)
     (λ c κs. (search is-accepted, is-accepted _ _ (c .before .before .before .check-cells .ensures) (c .before .enum-told2 .given .1)))
-    (λ c. search needs) (λ c. (search, is-input (c .before .before .before .before .before .before .before .before .before .before .before .before .before .before))))
+    (λ c. search needs)
+    (λ c. (search, is-input (c .before .before .before .before .before .before .before .before .before .before .before .before .before .before))))
