@@ -1,4 +1,5 @@
--- What the functions are asked, said of what their calls have answered: laws by which `search` closes it. Assumes nothing.
+-- What the functions are asked, said of what their calls have answered, so that `search` finds it: laws of operands, comparisons,
+-- instructions, structures and checks, in this order. Assumes nothing.
 use Prim.Native.Nat.{ℕ, _+_, _-_, _*_, _%_, _^_, _≤_, _<_}
 use mathlib.Core.Path.{_≡_, refl, sym, ap, _∙_}
 use mathlib.Core.Bool.{Bool, true, false, _&&_, cond}
@@ -50,221 +51,6 @@ use Rattle.eval.proofs.LaneLaws.{extract-unwritten, extract-done, inser
 use Rattle.eval.proofs.ComparisonLaws.{stands-inside, first-unread, second-unread, compared}
 use Rattle.eval.proofs.RunLaws.{code-refused, cells-refused}
 use Rattle.eval.proofs.CycleLaws.{code-frame, starts, has-length, block-inside, choice-inside, loop-inside, how-done, ins-ran, codes-past, Going, next-there, next-past, block-codes, block-ran, if-unread, Chosen, chosen-there, chosen-ran, Looping, loop-ran, loop-spent, loop-unread, loop-done, Round, round-ends, round-there, round-goes, round-stops}
-
--- ---- a structure: the places of its lengths fit, inside the bytes, of which there are fewer than 2 ^ 63
-module _ (bs : List ℕ) (at : ℕ) (c : CodeAt bs at) (k : 0x20 ≤ byte-at bs at) where
-  pub length-inside : at + 1 + 4 ≤ length bs
-  length-inside = omega (arith, has-length bs at c k)
-
-  -- what is behind the first length is measured less than the structure
-  pub behind-less : (fuel m : ℕ) → fuel + (length bs - (at + 1)) ≡ m → fuel + (length bs - (at + 5)) < m
-  behind-less fuel m is = omega (arith, has-length bs at c k)
-
-  module _ (room : length bs * 1 < 2 ^ 63) where
-    pub length-fits : Fits w64 (at + 1)
-    length-fits = omega (arith, has-length bs at c k)
-
-    pub behind-fits : Fits w64 (at + 5)
-    behind-fits = omega (arith, has-length bs at c k)
-
-pub while-kind :
-    (bs : List ℕ) (at : ℕ) → CodeAt bs at →
-    0x20 ≤ byte-at bs at → (byte-at bs at ≡ 0x20 → ⊥) → (byte-at bs at ≡ 0x21 → ⊥) → byte-at bs at ≡ 0x22
-while-kind bs at c = code-frame bs at c .kinds
-
--- ---- a Block of n bytes
-module _ (bs : List ℕ) (at n : ℕ) (c : CodeAt bs at) (k : byte-at bs at ≡ 0x20) (size : n ≡ number-at 4 bs (at + 1)) where
-  pub block-fits : length bs * 1 < 2 ^ 63 → Fits w64 (at + 5 + n)
-  block-fits room = omega (arith, block-inside bs at c k)
-
-  pub codes-of-block : CodesAt bs (at + 5) (at + 5 + n)
-  codes-of-block = block-codes bs at _ k (ap (λ (m : ℕ). at + 5 + m) size) c
-
-pub block-done :
-    (env : Env) (bs : List ℕ) (at n fuel : ℕ) (s : Config) (r : Exit) (t : Config) →
-    byte-at bs at ≡ 0x20 → n ≡ number-at 4 bs (at + 1) →
-    RunsAll env bs (at + 5) (at + 5 + n) fuel s r t → Runs env bs at fuel s r t
-block-done env bs at n fuel s r t k size ran =
-    block-ran env bs at _ fuel s k (ap (λ (m : ℕ). at + 5 + m) size) r t ran
-
--- ---- a list of codes, at the code that is next
-module _ (env : Env) (bs : List ℕ) (from e fuel : ℕ) (s₀ : Config) (at : ℕ) (s : Config) (g : Going env bs from e fuel s₀ at s)
-    (c : CodesAt bs from e) (l : at < e) where
-  pub next-code : CodeAt bs at
-  next-code = next-there env bs from e fuel s₀ at s g l (c .inside)
-
-  pub next-ins : byte-at bs at < 0x20 → InsAt bs at
-  next-ins k = (next-code .end, code-frame bs at next-code .ins k, next-code .inside)
-
-  -- it is measured less than the list
-  pub next-less : (m : ℕ) → fuel + (length bs - from) ≡ m → fuel + (length bs - (at + 1)) < m
-  next-less m is = omega (arith, starts bs at next-code, g .past)
-
-  -- what was run leaves less of the list
-  pub rest-less : (r : Exit) (t : Config) → Runs env bs at fuel s r t → r .number ≡ 0 → e - r .place < e - at
-  rest-less r t ran z = let p = next-past env bs from e fuel s₀ at s g r t ran l z in omega (arith, p .0, p .1)
-
-  pub rest-less-ins :
-      (r : Exit) (t : Config) → RunsIns env bs at s r t → byte-at bs at < 0x20 → r .number ≡ 0 → e - r .place < e - at
-  rest-less-ins r t ran k z = rest-less r t (ins-ran env bs at fuel s r t k ran) z
-
--- ---- a comparison, which answers x whatever fill word, flags and xmms are
-abbrev Answers : List ℕ → List ℕ → List ℕ → ℕ → List ℕ → List ℕ → Compared → Type 0
-Answers addresses tags bs at regs values x =
-    (fill flags : ℕ) (xmms : List ℕ) → ComparesAt (environment addresses tags fill) bs at (held regs xmms flags values) x
-
--- x goes on behind it
-pub record GoesOn (bs : List ℕ) (at : ℕ) (x : Compared) : Type 0 where
-  pub next : (e : ℕ) → Stands is-ocmp bs at e → x .next ≡ e
-
-pub goes-on :
-    {addresses tags bs regs values : List ℕ} {at : ℕ} {x : Compared} → Answers addresses tags bs at regs values x → GoesOn bs at x
-goes-on a = record { next = λ e h. a 0 0 [] e h .next }
-
--- ---- an IfElse
-module _ (bs : List ℕ) (at : ℕ) (kind : byte-at bs at ≡ 0x21) where
-  pub choice-structure : 0x20 ≤ byte-at bs at
-  choice-structure = omega arith
-
-  module _ (c : CodeAt bs at) where
-    pub choice-test : OcmpAt bs (at + 9)
-    choice-test = let w = choice-inside bs at c kind in (w .mid, w .stands, omega (arith, w .within))
-
-    pub other-length-inside : at + 5 + 4 ≤ length bs
-    other-length-inside = let w = choice-inside bs at c kind in omega arith
-
-    module _ (room : length bs * 1 < 2 ^ 63) where
-      pub test-fits : Fits w64 (at + 9)
-      test-fits = let w = choice-inside bs at c kind in omega arith
-
-      -- the first part of n bytes, and the second of o
-      module _ (x : Compared) (g : GoesOn bs (at + 9) x) (n : ℕ) (size : n ≡ number-at 4 bs (at + 1)) where
-        pub second-fits : Fits w64 (x .next + n)
-        second-fits = let w = choice-inside bs at c kind in omega (arith, w .within, g .next (w .mid) (w .stands))
-
-        pub choice-fits : (o : ℕ) → o ≡ number-at 4 bs (at + 5) → Fits w64 (x .next + n + o)
-        choice-fits o other = let w = choice-inside bs at c kind in omega (arith, w .within, g .next (w .mid) (w .stands))
-
-pub choice-unread :
-    (addresses tags bs regs xmms values : List ℕ) (fill at fuel flags : ℕ) (x : Compared) →
-    byte-at bs at ≡ 0x21 → Answers addresses tags bs (at + 9) regs values x → 1 < x .how →
-    Runs (environment addresses tags fill) bs at fuel (held regs xmms flags values) (exit (x .how) (at + 9)) (held regs xmms flags values)
-choice-unread addresses tags bs regs xmms values fill at fuel flags x kind a h =
-    if-unread _ bs at fuel _ kind x (a fill flags xmms) h
-
--- the part that it goes on with, where the evaluator has come to it with the measure m
-pub record Branch (env : Env) (bs : List ℕ) (at fuel m : ℕ) (s : Config) (x : Compared) (part behind end : ℕ) : Type 0 where
-  pub chosen : Chosen env bs at s x part behind end
-  pub code : CodeAt bs at
-  pub cells : Cells (env .addresses) (env .tags) (s .values)
-  pub measured : fuel + (length bs - (at + 5)) ≡ m
-
-module _ (env : Env) (bs : List ℕ) (at fuel m : ℕ) (s : Config) (x : Compared) (part behind end : ℕ)
-    (w : Branch env bs at fuel m s x part behind end) where
-  -- its code, and that there are codes to its end, which begin behind the test
-  there : CodeAt bs part × CodesAt bs (codes-from bs part) behind × (at + 9 < part)
-  there = chosen-there env bs at fuel s x part behind end (w .chosen) (w .code)
-
-  pub branch-code : CodeAt bs part
-  branch-code = there .0
-
-  module _ (p : ℕ) (is : p ≡ codes-from bs part) where
-    pub branch-codes : CodesAt bs p behind
-    branch-codes = rw is (there .1)
-
-    pub branch-less : fuel + (length bs - p) < m
-    branch-less = omega (arith, w .measured, starts bs part (there .0), there .2, codes-past bs part)
-
-    module _ (read : x .how ≤ 1) (r : Exit) (t : Config) (ran : RunsAll env bs p behind fuel (with-flags (env .fill) s) r t) where
-      pub branch-stops : (r .number ≡ 0 → ⊥) → Runs env bs at fuel s r t
-      branch-stops h =
-          chosen-ran env bs at fuel s x part behind end (w .chosen) read r t (rw is at ran) r refl (λ z. absurd (h z))
-
-      pub branch-done : r .number ≡ 0 → Runs env bs at fuel s (exit 0 end) t
-      branch-done h =
-          chosen-ran env bs at fuel s x part behind end (w .chosen) read r t (rw is at ran)
-          (exit 0 end) (sym (how-done r h)) (λ _. refl)
-
--- ---- a While
-module _ (bs : List ℕ) (at : ℕ) (kind : byte-at bs at ≡ 0x22) where
-  pub loop-structure : 0x20 ≤ byte-at bs at
-  loop-structure = omega arith
-
-  pub loop-test : CodeAt bs at → OcmpAt bs (at + 5)
-  loop-test c = let w = loop-inside bs at c kind in (w .mid, w .stands, omega (arith, w .within))
-
-pub loop-starts : (env : Env) (bs : List ℕ) (at fuel : ℕ) (s : Config) → Looping env bs at fuel s fuel s
-loop-starts env bs at fuel s = record { same = λ _ _ _. refl; long = refl; less = omega arith }
-
-pub loop-is-spent :
-    (env : Env) (bs : List ℕ) (at fuel : ℕ) (s₀ : Config) (left : ℕ) (s : Config) → Looping env bs at fuel s₀ left s →
-    byte-at bs at ≡ 0x22 → left ≡ 0 → Runs env bs at fuel s₀ (exit 1 at) s
-loop-is-spent env bs at fuel s₀ left s l kind z =
-    loop-ran env bs at fuel s₀ left s l (exit 1 at) s (loop-spent env bs at left s kind z) (λ _ _ _ y. absurd (omega (arith, y)))
-
-pub loop-is-unread :
-    (addresses tags bs regs xmms values : List ℕ) (fill at fuel left flags : ℕ) (s₀ : Config) (x : Compared) →
-    Looping (environment addresses tags fill) bs at fuel s₀ left (held regs xmms flags values) →
-    byte-at bs at ≡ 0x22 → (left ≡ 0 → ⊥) → Answers addresses tags bs (at + 5) regs values x → 1 < x .how →
-    Runs (environment addresses tags fill) bs at fuel s₀ (exit (x .how) (at + 5)) (held regs xmms flags values)
-loop-is-unread addresses tags bs regs xmms values fill at fuel left flags s₀ x l kind some-fuel a h =
-    loop-ran _ bs at fuel s₀ left _ l _ _ (loop-unread _ bs at left _ kind some-fuel x (a fill flags xmms) h)
-    (λ _ _ _ z. absurd (omega (arith, z)))
-
--- a round, where the evaluator has come to it with the measure m
-pub record Turn (env : Env) (bs : List ℕ) (at fuel m : ℕ) (s₀ : Config) (left : ℕ) (s : Config) (x : Compared) (end : ℕ) : Type 0 where
-  pub round : Round env bs at left s x end
-  pub looping : Looping env bs at fuel s₀ left s
-  pub code : CodeAt bs at
-  pub cells : Cells (env .addresses) (env .tags) (s₀ .values)
-  pub measured : fuel + (length bs - (at + 5)) ≡ m
-
-module _ (env : Env) (bs : List ℕ) (at fuel m : ℕ) (s₀ : Config) (left : ℕ) (s : Config) (x : Compared) (end : ℕ)
-    (w : Turn env bs at fuel m s₀ left s x end) where
-  pub turn-fits : length bs * 1 < 2 ^ 63 → Fits w64 end
-  turn-fits room =
-      let l = loop-inside bs at (w .code) (w .round .kind) in
-      omega (arith, l .within, w .round .compared (l .mid) (l .stands) .next, w .round .end-is)
-
-  -- the body's code, and that there are codes to its end, which begin behind the test
-  body-there : CodeAt bs (x .next) × CodesAt bs (codes-from bs (x .next)) end × (at + 5 < x .next)
-  body-there = round-there env bs at left s x end (w .round) (w .code)
-
-  pub body-code : CodeAt bs (x .next)
-  body-code = body-there .0
-
-  module _ (p : ℕ) (is : p ≡ codes-from bs (x .next)) where
-    pub body-codes : CodesAt bs p end
-    body-codes = rw is (body-there .1)
-
-    pub body-less : left - 1 + (length bs - p) < m
-    body-less =
-        omega (arith, w .measured, w .looping .less, starts bs (x .next) (body-there .0), body-there .2, codes-past bs (x .next))
-
-    module _ (read : x .how ≤ 1) (holds : x .how ≡ 0 → ⊥) (r : Exit) (t : Config)
-        (ran : RunsAll env bs p end (left - 1) (with-flags (env .fill) s) r t) where
-      pub turn-stops : (r .number ≡ 0 → ⊥) → Runs env bs at fuel s₀ r t
-      turn-stops h =
-          loop-ran env bs at fuel s₀ left s (w .looping) r t
-          (round-stops env bs at left s x end (w .round) read holds r t (rw is at ran) h) (λ _ _ _ z. absurd (h z))
-
-      pub turn-goes : r .number ≡ 0 → length (t .values) ≡ length (s .values) → Looping env bs at fuel s₀ (left - 1) t
-      turn-goes h long =
-          let goes = round-goes env bs at left s x end (w .round) read holds r t (rw is at ran) h in
-          record {
-            same = λ c e y. w .looping .same c e y ∙ goes c e y;
-            long = long ∙ w .looping .long;
-            less = omega (arith, w .looping .less);
-          }
-
-pub turn-done :
-    (env : Env) (bs : List ℕ) (at fuel m : ℕ) (s₀ : Config) (left : ℕ) (regs xmms values : List ℕ) (flags : ℕ) (x : Compared)
-    (end : ℕ) → Turn env bs at fuel m s₀ left (held regs xmms flags values) x end →
-    x .how ≡ 0 → Runs env bs at fuel s₀ (exit 0 end) (held regs xmms (env .fill) values)
-turn-done env bs at fuel m s₀ left regs xmms values flags x end w h =
-    let r = w .round in
-    loop-ran env bs at fuel s₀ left _ (w .looping) _ _ (loop-done env bs at left _ (r .kind) (r .some-fuel) x (r .compared) h)
-    (λ c e y _. round-ends env bs at left _ x end r c e y)
 
 -- ---- an operand, of which a form was decoded, and the place next behind it
 abbrev Finds : List ℕ → List ℕ → List ℕ → List ℕ → ℕ → Found → Type 0
@@ -683,6 +469,221 @@ module _ (bs : List ℕ) (at : ℕ) (i : InsAt bs at) where
         RunsIns (environment addresses tags fill) bs at (held regs xmms flags values) r (held regs xmms′ flags values)
     inserts-ran xmms′ l m ran =
         ran-stood bs at _ 1 _ (inserts-stood bs at (i .0) (i .1) (i .2) _ l m refl .stood) _ _ _ r (ran fill flags)
+
+-- ---- a structure: the places of its lengths fit, inside the bytes, of which there are fewer than 2 ^ 63
+module _ (bs : List ℕ) (at : ℕ) (c : CodeAt bs at) (k : 0x20 ≤ byte-at bs at) where
+  pub length-inside : at + 1 + 4 ≤ length bs
+  length-inside = omega (arith, has-length bs at c k)
+
+  -- what is behind the first length is measured less than the structure
+  pub behind-less : (fuel m : ℕ) → fuel + (length bs - (at + 1)) ≡ m → fuel + (length bs - (at + 5)) < m
+  behind-less fuel m is = omega (arith, has-length bs at c k)
+
+  module _ (room : length bs * 1 < 2 ^ 63) where
+    pub length-fits : Fits w64 (at + 1)
+    length-fits = omega (arith, has-length bs at c k)
+
+    pub behind-fits : Fits w64 (at + 5)
+    behind-fits = omega (arith, has-length bs at c k)
+
+pub while-kind :
+    (bs : List ℕ) (at : ℕ) → CodeAt bs at →
+    0x20 ≤ byte-at bs at → (byte-at bs at ≡ 0x20 → ⊥) → (byte-at bs at ≡ 0x21 → ⊥) → byte-at bs at ≡ 0x22
+while-kind bs at c = code-frame bs at c .kinds
+
+-- ---- a Block of n bytes
+module _ (bs : List ℕ) (at n : ℕ) (c : CodeAt bs at) (k : byte-at bs at ≡ 0x20) (size : n ≡ number-at 4 bs (at + 1)) where
+  pub block-fits : length bs * 1 < 2 ^ 63 → Fits w64 (at + 5 + n)
+  block-fits room = omega (arith, block-inside bs at c k)
+
+  pub codes-of-block : CodesAt bs (at + 5) (at + 5 + n)
+  codes-of-block = block-codes bs at _ k (ap (λ (m : ℕ). at + 5 + m) size) c
+
+pub block-done :
+    (env : Env) (bs : List ℕ) (at n fuel : ℕ) (s : Config) (r : Exit) (t : Config) →
+    byte-at bs at ≡ 0x20 → n ≡ number-at 4 bs (at + 1) →
+    RunsAll env bs (at + 5) (at + 5 + n) fuel s r t → Runs env bs at fuel s r t
+block-done env bs at n fuel s r t k size ran =
+    block-ran env bs at _ fuel s k (ap (λ (m : ℕ). at + 5 + m) size) r t ran
+
+-- ---- a list of codes, at the code that is next
+module _ (env : Env) (bs : List ℕ) (from e fuel : ℕ) (s₀ : Config) (at : ℕ) (s : Config) (g : Going env bs from e fuel s₀ at s)
+    (c : CodesAt bs from e) (l : at < e) where
+  pub next-code : CodeAt bs at
+  next-code = next-there env bs from e fuel s₀ at s g l (c .inside)
+
+  pub next-ins : byte-at bs at < 0x20 → InsAt bs at
+  next-ins k = (next-code .end, code-frame bs at next-code .ins k, next-code .inside)
+
+  -- it is measured less than the list
+  pub next-less : (m : ℕ) → fuel + (length bs - from) ≡ m → fuel + (length bs - (at + 1)) < m
+  next-less m is = omega (arith, starts bs at next-code, g .past)
+
+  -- what was run leaves less of the list
+  pub rest-less : (r : Exit) (t : Config) → Runs env bs at fuel s r t → r .number ≡ 0 → e - r .place < e - at
+  rest-less r t ran z = let p = next-past env bs from e fuel s₀ at s g r t ran l z in omega (arith, p .0, p .1)
+
+  pub rest-less-ins :
+      (r : Exit) (t : Config) → RunsIns env bs at s r t → byte-at bs at < 0x20 → r .number ≡ 0 → e - r .place < e - at
+  rest-less-ins r t ran k z = rest-less r t (ins-ran env bs at fuel s r t k ran) z
+
+-- ---- a comparison, which answers x whatever fill word, flags and xmms are
+abbrev Answers : List ℕ → List ℕ → List ℕ → ℕ → List ℕ → List ℕ → Compared → Type 0
+Answers addresses tags bs at regs values x =
+    (fill flags : ℕ) (xmms : List ℕ) → ComparesAt (environment addresses tags fill) bs at (held regs xmms flags values) x
+
+-- x goes on behind it
+pub record GoesOn (bs : List ℕ) (at : ℕ) (x : Compared) : Type 0 where
+  pub next : (e : ℕ) → Stands is-ocmp bs at e → x .next ≡ e
+
+pub goes-on :
+    {addresses tags bs regs values : List ℕ} {at : ℕ} {x : Compared} → Answers addresses tags bs at regs values x → GoesOn bs at x
+goes-on a = record { next = λ e h. a 0 0 [] e h .next }
+
+-- ---- an IfElse
+module _ (bs : List ℕ) (at : ℕ) (kind : byte-at bs at ≡ 0x21) where
+  pub choice-structure : 0x20 ≤ byte-at bs at
+  choice-structure = omega arith
+
+  module _ (c : CodeAt bs at) where
+    pub choice-test : OcmpAt bs (at + 9)
+    choice-test = let w = choice-inside bs at c kind in (w .mid, w .stands, omega (arith, w .within))
+
+    pub other-length-inside : at + 5 + 4 ≤ length bs
+    other-length-inside = let w = choice-inside bs at c kind in omega arith
+
+    module _ (room : length bs * 1 < 2 ^ 63) where
+      pub test-fits : Fits w64 (at + 9)
+      test-fits = let w = choice-inside bs at c kind in omega arith
+
+      -- the first part of n bytes, and the second of o
+      module _ (x : Compared) (g : GoesOn bs (at + 9) x) (n : ℕ) (size : n ≡ number-at 4 bs (at + 1)) where
+        pub second-fits : Fits w64 (x .next + n)
+        second-fits = let w = choice-inside bs at c kind in omega (arith, w .within, g .next (w .mid) (w .stands))
+
+        pub choice-fits : (o : ℕ) → o ≡ number-at 4 bs (at + 5) → Fits w64 (x .next + n + o)
+        choice-fits o other = let w = choice-inside bs at c kind in omega (arith, w .within, g .next (w .mid) (w .stands))
+
+pub choice-unread :
+    (addresses tags bs regs xmms values : List ℕ) (fill at fuel flags : ℕ) (x : Compared) →
+    byte-at bs at ≡ 0x21 → Answers addresses tags bs (at + 9) regs values x → 1 < x .how →
+    Runs (environment addresses tags fill) bs at fuel (held regs xmms flags values) (exit (x .how) (at + 9)) (held regs xmms flags values)
+choice-unread addresses tags bs regs xmms values fill at fuel flags x kind a h =
+    if-unread _ bs at fuel _ kind x (a fill flags xmms) h
+
+-- the part that it goes on with, where the evaluator has come to it with the measure m
+pub record Branch (env : Env) (bs : List ℕ) (at fuel m : ℕ) (s : Config) (x : Compared) (part behind end : ℕ) : Type 0 where
+  pub chosen : Chosen env bs at s x part behind end
+  pub code : CodeAt bs at
+  pub cells : Cells (env .addresses) (env .tags) (s .values)
+  pub measured : fuel + (length bs - (at + 5)) ≡ m
+
+module _ (env : Env) (bs : List ℕ) (at fuel m : ℕ) (s : Config) (x : Compared) (part behind end : ℕ)
+    (w : Branch env bs at fuel m s x part behind end) where
+  -- its code, and that there are codes to its end, which begin behind the test
+  there : CodeAt bs part × CodesAt bs (codes-from bs part) behind × (at + 9 < part)
+  there = chosen-there env bs at fuel s x part behind end (w .chosen) (w .code)
+
+  pub branch-code : CodeAt bs part
+  branch-code = there .0
+
+  module _ (p : ℕ) (is : p ≡ codes-from bs part) where
+    pub branch-codes : CodesAt bs p behind
+    branch-codes = rw is (there .1)
+
+    pub branch-less : fuel + (length bs - p) < m
+    branch-less = omega (arith, w .measured, starts bs part (there .0), there .2, codes-past bs part)
+
+    module _ (read : x .how ≤ 1) (r : Exit) (t : Config) (ran : RunsAll env bs p behind fuel (with-flags (env .fill) s) r t) where
+      pub branch-stops : (r .number ≡ 0 → ⊥) → Runs env bs at fuel s r t
+      branch-stops h =
+          chosen-ran env bs at fuel s x part behind end (w .chosen) read r t (rw is at ran) r refl (λ z. absurd (h z))
+
+      pub branch-done : r .number ≡ 0 → Runs env bs at fuel s (exit 0 end) t
+      branch-done h =
+          chosen-ran env bs at fuel s x part behind end (w .chosen) read r t (rw is at ran)
+          (exit 0 end) (sym (how-done r h)) (λ _. refl)
+
+-- ---- a While
+module _ (bs : List ℕ) (at : ℕ) (kind : byte-at bs at ≡ 0x22) where
+  pub loop-structure : 0x20 ≤ byte-at bs at
+  loop-structure = omega arith
+
+  pub loop-test : CodeAt bs at → OcmpAt bs (at + 5)
+  loop-test c = let w = loop-inside bs at c kind in (w .mid, w .stands, omega (arith, w .within))
+
+pub loop-starts : (env : Env) (bs : List ℕ) (at fuel : ℕ) (s : Config) → Looping env bs at fuel s fuel s
+loop-starts env bs at fuel s = record { same = λ _ _ _. refl; long = refl; less = omega arith }
+
+pub loop-is-spent :
+    (env : Env) (bs : List ℕ) (at fuel : ℕ) (s₀ : Config) (left : ℕ) (s : Config) → Looping env bs at fuel s₀ left s →
+    byte-at bs at ≡ 0x22 → left ≡ 0 → Runs env bs at fuel s₀ (exit 1 at) s
+loop-is-spent env bs at fuel s₀ left s l kind z =
+    loop-ran env bs at fuel s₀ left s l (exit 1 at) s (loop-spent env bs at left s kind z) (λ _ _ _ y. absurd (omega (arith, y)))
+
+pub loop-is-unread :
+    (addresses tags bs regs xmms values : List ℕ) (fill at fuel left flags : ℕ) (s₀ : Config) (x : Compared) →
+    Looping (environment addresses tags fill) bs at fuel s₀ left (held regs xmms flags values) →
+    byte-at bs at ≡ 0x22 → (left ≡ 0 → ⊥) → Answers addresses tags bs (at + 5) regs values x → 1 < x .how →
+    Runs (environment addresses tags fill) bs at fuel s₀ (exit (x .how) (at + 5)) (held regs xmms flags values)
+loop-is-unread addresses tags bs regs xmms values fill at fuel left flags s₀ x l kind some-fuel a h =
+    loop-ran _ bs at fuel s₀ left _ l _ _ (loop-unread _ bs at left _ kind some-fuel x (a fill flags xmms) h)
+    (λ _ _ _ z. absurd (omega (arith, z)))
+
+-- a round, where the evaluator has come to it with the measure m
+pub record Turn (env : Env) (bs : List ℕ) (at fuel m : ℕ) (s₀ : Config) (left : ℕ) (s : Config) (x : Compared) (end : ℕ) : Type 0 where
+  pub round : Round env bs at left s x end
+  pub looping : Looping env bs at fuel s₀ left s
+  pub code : CodeAt bs at
+  pub cells : Cells (env .addresses) (env .tags) (s₀ .values)
+  pub measured : fuel + (length bs - (at + 5)) ≡ m
+
+module _ (env : Env) (bs : List ℕ) (at fuel m : ℕ) (s₀ : Config) (left : ℕ) (s : Config) (x : Compared) (end : ℕ)
+    (w : Turn env bs at fuel m s₀ left s x end) where
+  pub turn-fits : length bs * 1 < 2 ^ 63 → Fits w64 end
+  turn-fits room =
+      let l = loop-inside bs at (w .code) (w .round .kind) in
+      omega (arith, l .within, w .round .compared (l .mid) (l .stands) .next, w .round .end-is)
+
+  -- the body's code, and that there are codes to its end, which begin behind the test
+  body-there : CodeAt bs (x .next) × CodesAt bs (codes-from bs (x .next)) end × (at + 5 < x .next)
+  body-there = round-there env bs at left s x end (w .round) (w .code)
+
+  pub body-code : CodeAt bs (x .next)
+  body-code = body-there .0
+
+  module _ (p : ℕ) (is : p ≡ codes-from bs (x .next)) where
+    pub body-codes : CodesAt bs p end
+    body-codes = rw is (body-there .1)
+
+    pub body-less : left - 1 + (length bs - p) < m
+    body-less =
+        omega (arith, w .measured, w .looping .less, starts bs (x .next) (body-there .0), body-there .2, codes-past bs (x .next))
+
+    module _ (read : x .how ≤ 1) (holds : x .how ≡ 0 → ⊥) (r : Exit) (t : Config)
+        (ran : RunsAll env bs p end (left - 1) (with-flags (env .fill) s) r t) where
+      pub turn-stops : (r .number ≡ 0 → ⊥) → Runs env bs at fuel s₀ r t
+      turn-stops h =
+          loop-ran env bs at fuel s₀ left s (w .looping) r t
+          (round-stops env bs at left s x end (w .round) read holds r t (rw is at ran) h) (λ _ _ _ z. absurd (h z))
+
+      pub turn-goes : r .number ≡ 0 → length (t .values) ≡ length (s .values) → Looping env bs at fuel s₀ (left - 1) t
+      turn-goes h long =
+          let goes = round-goes env bs at left s x end (w .round) read holds r t (rw is at ran) h in
+          record {
+            same = λ c e y. w .looping .same c e y ∙ goes c e y;
+            long = long ∙ w .looping .long;
+            less = omega (arith, w .looping .less);
+          }
+
+pub turn-done :
+    (env : Env) (bs : List ℕ) (at fuel m : ℕ) (s₀ : Config) (left : ℕ) (regs xmms values : List ℕ) (flags : ℕ) (x : Compared)
+    (end : ℕ) → Turn env bs at fuel m s₀ left (held regs xmms flags values) x end →
+    x .how ≡ 0 → Runs env bs at fuel s₀ (exit 0 end) (held regs xmms (env .fill) values)
+turn-done env bs at fuel m s₀ left regs xmms values flags x end w h =
+    let r = w .round in
+    loop-ran env bs at fuel s₀ left _ (w .looping) _ _ (loop-done env bs at left _ (r .kind) (r .some-fuel) x (r .compared) h)
+    (λ c e y _. round-ends env bs at left _ x end r c e y)
 
 -- ---- what a check answered is the verdict of its definition
 pub is-accepted : (v : Checked) (w : Verdict) → verdict v ≡ w → v ≡ Accepted → w ≡ accepted

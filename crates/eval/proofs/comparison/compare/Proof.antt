@@ -1,6 +1,5 @@
 -- `compare` meets its contract: both operands are read where their records lie, and `holds` compares their words.
 use mathlib.Core.List.{[]}
-use borrow.Author.Needs.{needs}
 use Rattle.eval.proofs.Asked.{ocmp-starts, ocmp-fits, first-operand, second-operand, says-unread, says-unread-second, says-holds, says-fails}
 use Rattle.eval.proofs.comparison.compare.Statement.{statement}
 use Rattle.eval.proofs.comparison.compare.Tie as tie
