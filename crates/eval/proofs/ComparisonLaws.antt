@@ -50,9 +50,6 @@ module _ (env : Env) (s : Config) (bs : List ℕ) (at e : ℕ) (stands : Stands 
       ▹ tt)
       (byte-at bs at) (w .low) (omega (arith, w .high))
 
-  pub second-there : (a : Loaded) → Loads env s one (behind bs (at + 1)) a → OperandBytes bs (a .next)
-  second-there a la = subst (OperandBytes bs) (sym (la .next)) (ocmp-frame bs at e stands inside .operands .second)
-
   module _ (a b : Loaded) (la : Loads env s one (behind bs (at + 1)) a)
       (lb : Loads env s (operand-at bs (a .next)) (behind bs (a .next)) b) where
     second : Loads env s other (behind bs (behind bs (at + 1))) b

@@ -59,10 +59,6 @@ loop-inside bs at c k =
     let w = code-frame bs at c .loop k in
     record { mid = w .0; stands = w .1; past = w .2; within = omega (arith, w .3, c .inside) }
 
--- cells whose values were written
-pub still-cells : (xs ts vs ws : List ℕ) → Cells xs ts vs → length ws ≡ length vs → Cells xs ts ws
-still-cells xs ts vs ws c h = record { searchable = c .searchable; long = h ∙ c .long }
-
 -- ---- what follows an exit
 stopped :
     (b : Bool) (n p : ℕ) (s : Config) (k : Config → End) →
