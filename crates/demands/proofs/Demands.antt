@@ -18,7 +18,7 @@ use Rattle.source.proofs.Correspondence.{correspondence}
 use Rattle.source.proofs.Upstream.{text}
 use Rattle.bytemachine.specs.Follows.{IsStart}
 use Rattle.bytemachine.proofs.Follows.{follows-of, start-of}
-use Rattle.demands.specs.Demands.{ran, cells, Demand1, Demand2, Demand3, Demands, Claim}
+use Rattle.demands.specs.Demands.{ran, cells, Demand1, Demand2, Demand3, Claim}
 
 read-refused : (r : Read Code) (n p : ℕ) → verdict-of r ≡ cells-refused n p → r ≡ trouble n p
 unfolding verdict-of

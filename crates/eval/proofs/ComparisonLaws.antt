@@ -1,13 +1,13 @@
 -- What a comparison's record says, of the words of its two operands: the six kinds are taken once. Assumes nothing.
-use Prim.Native.Nat.{ℕ, _+_, _≤_, _<_}
-use mathlib.Core.Path.{_≡_, refl, sym, ap, subst, _∙_}
+use Prim.Native.Nat.{ℕ, _+_, _≤_}
+use mathlib.Core.Path.{_≡_, refl, subst, _∙_}
 use mathlib.Core.Bool.{Bool, true, _&&_, cond}
 use mathlib.Core.List.{List}
 use native.Mathlib.Omega.{arith}
 use lib.ListN.{length}
 use Rattle.machine.specs.declared.Operand.{Operand}
 use Rattle.code.specs.Records.{is-ocmp, byte-at, behind, operand-at, ocmp-at}
-use Rattle.code.specs.Spells.{OperandBytes, Stands}
+use Rattle.code.specs.Spells.{Stands}
 use Rattle.code.proofs.KindLaws.{each, _▹_}
 use Rattle.code.proofs.CodeFrames.{ocmp-operands, ocmp-frame}
 use Rattle.eval.specs.Config.{Env, Config}

@@ -11,14 +11,14 @@ use lib.Dec.{eqb}
 use lib.ListN.{length}
 use Rattle.code.specs.declared.tree.Ocmp.{Ocmp}
 use Rattle.code.specs.Tree.{Code, Codes, ⟨⟩, _∷ᶜ_}
-use Rattle.code.specs.Records.{is-ins, is-ocmp, byte-at, number-at, ins-at, ocmp-at}
+use Rattle.code.specs.Records.{is-ocmp, byte-at, number-at, ocmp-at}
 use Rattle.code.specs.Spells.{Stands, Spells, SpellsAll}
 use Rattle.code.proofs.Sound.{stands-past}
 use Rattle.code.proofs.CodeFrames.{Frame, frame, ins-there, block-there, if-there, while-there, first-there, none-there, list-of-one, structure-long}
 use Rattle.eval.specs.Config.{Env, Config, with-flags, Outcome, done, fault, spent, refused, End, ends, continue, and-then, check, choose}
-use Rattle.eval.specs.Instructions.{run-ins, valid-ocmp, eval-ocmp}
+use Rattle.eval.specs.Instructions.{valid-ocmp, eval-ocmp}
 use Rattle.eval.specs.Running.{run-ocmp, rounds, run-code, run-codes}
-use Rattle.eval.specs.Promises.{how, Ran, RunsIns, Compares, ComparesAt, Cells, CodeAt, CodesAt, codes-from, Runs, RunsAll}
+use Rattle.eval.specs.Promises.{how, Ran, RunsIns, Compares, ComparesAt, CodeAt, CodesAt, codes-from, Runs, RunsAll}
 use Rattle.eval.specs.declared.exit.Exit.{Exit}
 use Rattle.eval.specs.declared.comparison.Compared.{Compared}
 use Rattle.eval.proofs.InstructionLaws.{exit}

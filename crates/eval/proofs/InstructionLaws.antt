@@ -13,8 +13,7 @@ use Rattle.words.specs.Sums.{sum-mod, mul-div, mul-mod}
 use Rattle.machine.specs.declared.Operand.{Operand}
 use Rattle.code.specs.declared.tree.Instruction.{Instruction}
 use Rattle.code.specs.declared.tree.Instruction.the-variants.{AddLea64, Mul64, Mulx64}
-use Rattle.code.specs.Records.{is-ins, ins-at, operand-at, behind}
-use Rattle.code.specs.Spells.{Stands}
+use Rattle.code.specs.Records.{operand-at, behind}
 use Rattle.code.specs.Families.{is-two, two-ins}
 use Rattle.code.proofs.Passing.{and-both}
 use Rattle.code.proofs.Families.{after, Stood, same-two}

@@ -1,5 +1,5 @@
 -- How an instruction on an xmm ends, from the quads that were read. Assumes nothing.
-use Prim.Native.Nat.{ℕ, _+_, _%_, _≤_, _<_}
+use Prim.Native.Nat.{ℕ, _%_, _≤_, _<_}
 use mathlib.Core.Path.{_≡_, refl, _∙_}
 use mathlib.Core.Bool.{true}
 use mathlib.Core.List.{List}
@@ -15,10 +15,9 @@ use Rattle.code.specs.declared.tree.Instruction.{Instruction}
 use Rattle.code.specs.declared.tree.Instruction.the-variants.{Pshufd, Pextrq, VPSLLDQ}
 use Rattle.code.specs.Families.{is-quads, is-shifts, is-inserts, quads-ins, shifts-ins, inserts-ins}
 use Rattle.code.proofs.Families.{by-quads-ins, by-shifts-ins, by-inserts-ins}
-use Rattle.eval.specs.Config.{Env, Config, End, ends, done, check}
+use Rattle.eval.specs.Config.{Env, Config, ends, done, check}
 use Rattle.eval.specs.Instructions.{quads-word, quads-flags, shifts-word, inserts-word, eval-operand, act, run-ins}
 use Rattle.eval.specs.Promises.{environment, held, Loads, Resolves, put-regs, put-values, how, Ran}
-use Rattle.eval.specs.declared.exit.Exit.{Exit}
 use Rattle.eval.specs.declared.operand.Loaded.{Loaded}
 use Rattle.eval.specs.declared.operand.Slot.{Slot}
 use Rattle.eval.proofs.Shapes.{read-check, write-xmm}

@@ -23,7 +23,6 @@ use Rattle.code.specs.Forms.{form-of}
 use Rattle.code.specs.declared.records.Form.{Form}
 use Rattle.code.specs.declared.records.Form.the-variants.{Memory}
 use Rattle.code.proofs.Forms.{memory-is}
-use Rattle.code.proofs.Passing.{never}
 use Rattle.eval.specs.Config.{Env, Config, with-values}
 use Rattle.eval.specs.Instructions.{cell-of, valid-operand, eval-operand, valid-dst-operand, update-operand}
 use Rattle.eval.specs.Promises.{environment, held, Cells, Loads, Resolves, no-slot}

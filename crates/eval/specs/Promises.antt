@@ -8,7 +8,6 @@ use lib.Dec.{eqb, ltb, leb}
 use lib.ListN.{length, getD, set}
 use Rattle.machine.specs.Cells.{Searchable}
 use Rattle.machine.specs.declared.Operand.{Operand}
-use Rattle.code.specs.declared.tree.Instruction.{Instruction}
 use Rattle.code.specs.declared.tree.Ocmp.{Ocmp}
 use Rattle.code.specs.Tree.{Code, Codes}
 use Rattle.code.specs.Records.{is-ins, is-ocmp, byte-at, ins-at, ocmp-at}

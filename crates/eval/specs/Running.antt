@@ -6,7 +6,7 @@ use Rattle.machine.specs.Cells.{accepted as cells-accepted, refused as cells-re
 use Rattle.code.specs.declared.tree.Ocmp.{Ocmp}
 use Rattle.code.specs.Tree.{Code, Ins, Block, IfElse, While, Codes, ⟨⟩, _∷ᶜ_}
 use Rattle.code.specs.Reader.{Read, got, trouble, parse}
-use Rattle.eval.specs.Config.{Env, Config, with-flags, End, ends, done, spent, refused, continue, and-then, check, choose}
+use Rattle.eval.specs.Config.{Env, Config, with-flags, End, ends, done, spent, refused, and-then, check, choose}
 use Rattle.eval.specs.Instructions.{run-ins, valid-ocmp, eval-ocmp}
 
 module _ (env : Env) where

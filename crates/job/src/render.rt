@@ -2,7 +2,6 @@
 ghost use mathlib.Core.Path.{_≡_};
 ghost use Prim.Native.Nat.{_≤_};
 ghost use lib.ListN.{length};
-ghost use mathlib.Core.List.{_++_};
 ghost use Rattle.eval.specs.Config.{config, end-of};
 ghost use Rattle.job.specs.Text.{render as rendered, end-lines};
 ghost use Rattle.job.specs.Written.{Wrote};

@@ -15,7 +15,6 @@ use Rattle.words.specs.Flags.{cf, overflow, update-cf, update-of}
 use Rattle.machine.specs.Registers.{Rax, Rdx, reg-at, set-reg, xmm-at, set-xmm}
 use Rattle.machine.specs.Memory.{Memory, LoadsMem64}
 use Rattle.machine.specs.declared.Operand.{Operand}
-use Rattle.machine.specs.declared.Operand.the-variants.{OConst, OReg, OMem}
 use Rattle.code.specs.declared.tree.Instruction.{Instruction}
 use Rattle.code.specs.declared.tree.Instruction.the-variants.{Mov64, Add64, AddLea64, AddCarry64, Adcx64, Adox64, Sub64, Mul64, Mulx64, IMul64, Xor64, And64, Shr64, Shl64, Paddd, Pxor, Pslld, Psrld, Pshufd, Pcmpeqd, Pextrq, Pinsrd, Pinsrq, VPSLLDQ}
 use Rattle.code.proofs.Layouts.{every-ins}

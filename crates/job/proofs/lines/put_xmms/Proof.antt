@@ -1,6 +1,5 @@
 -- In each turn the xmm from i on are left to print. The numbers of an xmm's words stay below 64.
 use Prim.Native.Nat.{_+_, _*_, _-_, _≤_}
-use mathlib.Core.Path.{_≡_}
 use native.Mathlib.Omega.{arith}
 use Rattle.job.specs.Text.{xmm-lines}
 use Rattle.job.proofs.Writing.{Left, left-all, left-less, left-none}
