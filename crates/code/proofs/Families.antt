@@ -49,9 +49,21 @@ same-among {A} f g ns h k m = by-among (λ (n : ℕ). f n ≡ g n) ns (each-same
     each-same (n ∷ ns) h = (cc, each-same ns (cc))
 
 -- a kind that is another than each of some is none of them
-pub none-among : (k : ℕ) (ns : List ℕ) → EachOf (λ (n : ℕ). k ≡ n → ⊥) ns → among ns k ≡ false
+none-among : (k : ℕ) (ns : List ℕ) → EachOf (λ (n : ℕ). k ≡ n → ⊥) ns → among ns k ≡ false
 none-among k [] h = refl
 none-among k (n ∷ ns) h = rw (ne-eqb k n (h .0)) (none-among k ns (h .1))
+
+-- and where a match has those kinds as its arms, in their order, the last arm knows it: as pairs to the left
+abbrev pub Behind : (ℕ → Type 0) → Type 0 → List ℕ → Type 0
+Behind P A [] = A
+Behind P A (n ∷ ns) = Behind P (A × P n) ns
+
+behind-each : (P : ℕ → Type 0) (A : Type 0) (ns : List ℕ) → Behind P A ns → A × EachOf P ns
+behind-each P A [] h = (h, tt)
+behind-each P A (n ∷ ns) h = let w = behind-each P (A × P n) ns h in (w .0 .0, (w .0 .1, w .1))
+
+pub none-matched : (A : Type 0) (k : ℕ) (ns : List ℕ) → Behind (λ (n : ℕ). k ≡ n → ⊥) A ns → among ns k ≡ false
+none-matched A k ns h = none-among k ns (behind-each (λ (n : ℕ). k ≡ n → ⊥) A ns h .1)
 
 -- a test that passes at each of some kinds
 abbrev passes : (ℕ → Bool) → List ℕ → Bool

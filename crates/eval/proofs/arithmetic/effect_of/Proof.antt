@@ -3,8 +3,7 @@ use mathlib.Core.Path.{sym, _∙_}
 use Rattle.eval.specs.Instructions.{two-word, two-flags}
 use Rattle.code.specs.Families.{twos}
 use Rattle.code.proofs.Passing.{never}
-use Rattle.code.proofs.KindLaws.{_▹_}
-use Rattle.code.proofs.Families.{none-among}
+use Rattle.code.proofs.Families.{none-matched}
 use Rattle.eval.proofs.InstructionLaws.{plus-none}
 use borrow.Author.Needs.{needs}
 use Rattle.eval.proofs.arithmetic.effect_of.Statement.{statement}
@@ -104,14 +103,7 @@ unfolding two-word two-flags
 returns-11 c = record { word-is = rw (c .before .match .keys11) (c .ishl64 .ensures); flags-is = rw (c .before .match .keys11) }
 
 returns-12 : tie.Need-returns-12
-returns-12 c =
-    let r = c .match .rest in
-    let six = r .0 .0 .0 .0 .0 in
-    absurd
-    (never (sym (c .before .pre)
-    ∙ none-among _ twos
-    (six .0 .0 .0 .0 .0 .1 ▹ six .0 .0 .0 .0 .1 ▹ six .0 .0 .0 .1 ▹ six .0 .0 .1 ▹ six .0 .1 ▹ six .1
-    ▹ r .0 .0 .0 .0 .1 ▹ r .0 .0 .0 .1 ▹ r .0 .0 .1 ▹ r .0 .1 ▹ r .1 ▹ tt)))
+returns-12 c = absurd (never (sym (c .before .pre) ∙ none-matched _ _ twos (c .match .rest)))
 
 pub effect-of-spec : {M : Type 1} → statement M
 effect-of-spec =
