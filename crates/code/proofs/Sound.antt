@@ -27,7 +27,7 @@ operands-le (suc n) bs at e h = omega (arith, behind-past bs at, operands-le n b
 pub stands-past : (allowed : ℕ → Bool) (bs : List ℕ) (at e : ℕ) → Stands allowed bs at e → at < e
 stands-past allowed bs at e s = omega (arith, behind-past bs at, s .head .inside)
 
-pub record Found (d : ℕ) (bs : List ℕ) (e at : ℕ) (c : Code) (m : ℕ) : Type 0 where
+pub record Sound (d : ℕ) (bs : List ℕ) (e at : ℕ) (c : Code) (m : ℕ) : Type 0 where
   pub spells : Spells c bs at m
   pub nests : Nests c d
   pub past : at < m
@@ -102,8 +102,8 @@ third k s x y = omega arith
 
 -- parts and lists of codes, each code read by `one`
 module _ (one : One) (d : ℕ) (bs : List ℕ)
-    (sound-one : (e at : ℕ) (c : Code) (m : ℕ) → one e at ≡ got c m → Found d bs e at c m) where
-  pub part-sound : (e at : ℕ) (c : Code) (m : ℕ) → read-part one e at ≡ got c m → Found d bs e at c e × (m ≡ e)
+    (sound-one : (e at : ℕ) (c : Code) (m : ℕ) → one e at ≡ got c m → Sound d bs e at c m) where
+  pub part-sound : (e at : ℕ) (c : Code) (m : ℕ) → read-part one e at ≡ got c m → Sound d bs e at c e × (m ≡ e)
   unfolding read-part
   part-sound e at c m h =
       let w = went-on (one e at) _ c m h in
@@ -111,7 +111,7 @@ module _ (one : One) (d : ℕ) (bs : List ℕ)
       let g = got-same (w .0) c e m (t .1) in
       let f = sound-one e at (w .0) (w .1) (w .2) in
       let q : w .1 ≡ e = eqb-true _ _ (not-false _ (t .0)) in
-      (subst (λ (x : ℕ). Found d bs e at c x) q (subst (λ (x : Code). Found d bs e at x (w .1)) (g .0) f), sym (g .1))
+      (subst (λ (x : ℕ). Sound d bs e at c x) q (subst (λ (x : Code). Sound d bs e at x (w .1)) (g .0) f), sym (g .1))
 
   abbrev All : ℕ → ℕ → Codes → ℕ → Type 0
   All e at cs m = SpellsAll cs bs at e × NestsAll cs d × (m ≡ e)
@@ -124,7 +124,7 @@ module _ (one : One) (d : ℕ) (bs : List ℕ)
 
   all-more :
       (e at : ℕ) (c : Code) (next : ℕ) (cs′ : Codes) (last : ℕ) (cs : Codes) (m : ℕ) →
-      Found d bs e at c next → All e next cs′ last → got (c ∷ᶜ cs′) last ≡ got cs m → All e at cs m
+      Sound d bs e at c next → All e next cs′ last → got (c ∷ᶜ cs′) last ≡ got cs m → All e at cs m
   unfolding SpellsAll NestsAll
   all-more e at c next cs′ last cs m f a h =
       let g = got-same (c ∷ᶜ cs′) cs last m h in
@@ -148,7 +148,7 @@ module _ (one : One) (d : ℕ) (bs : List ℕ)
 
   -- the structures
   block-sound :
-      (e at : ℕ) (c : Code) (m : ℕ) → byte-at bs at ≡ 0x20 → at + 5 ≤ e → read-block one bs e at ≡ got c m → Found (suc d) bs e at c m
+      (e at : ℕ) (c : Code) (m : ℕ) → byte-at bs at ≡ 0x20 → at + 5 ≤ e → read-block one bs e at ≡ got c m → Sound (suc d) bs e at c m
   unfolding read-block Spells Nests
   block-sound e at c m k l h =
       let size = number-at 4 bs (at + 1) in
@@ -158,7 +158,7 @@ module _ (one : One) (d : ℕ) (bs : List ℕ)
       let a = codes-sound size (at + 5 + size) (at + 5) (w .0) (w .1) (omega arith) (omega arith) (w .2) in
       let g = got-same (Block at (w .0)) c (w .1) m (w .3) in
       let q : m ≡ at + 5 + size = omega (arith, a .2, g .1) in
-      subst (λ (x : Code). Found (suc d) bs e at x m) (g .0)
+      subst (λ (x : Code). Sound (suc d) bs e at x m) (g .0)
       (record {
         spells =
             (record { place = refl; kind = k; ends = q }, subst (λ (x : ℕ). SpellsAll (w .0) bs (at + 5) x) (sym q) (a .0));
@@ -168,7 +168,7 @@ module _ (one : One) (d : ℕ) (bs : List ℕ)
       })
 
   while-sound :
-      (e at : ℕ) (c : Code) (m : ℕ) → byte-at bs at ≡ 0x22 → read-while one bs e at ≡ got c m → Found (suc d) bs e at c m
+      (e at : ℕ) (c : Code) (m : ℕ) → byte-at bs at ≡ 0x22 → read-while one bs e at ≡ got c m → Sound (suc d) bs e at c m
   unfolding read-while Spells Nests
   while-sound e at c m k h =
       let size = number-at 4 bs (at + 1) in
@@ -180,7 +180,7 @@ module _ (one : One) (d : ℕ) (bs : List ℕ)
       let b = part-sound (w .1 + size) (w .1) (v .0) (v .1) (v .2) in
       let g = got-same (While at (at + 5) (w .0) (v .0)) c (v .1) m (v .3) in
       let q : m ≡ w .1 + size = omega (arith, b .1, g .1) in
-      subst (λ (x : Code). Found (suc d) bs e at x m) (g .0)
+      subst (λ (x : Code). Sound (suc d) bs e at x m) (g .0)
       (record {
         spells = (
           w .1,
@@ -194,7 +194,7 @@ module _ (one : One) (d : ℕ) (bs : List ℕ)
       })
 
   if-sound :
-      (e at : ℕ) (c : Code) (m : ℕ) → byte-at bs at ≡ 0x21 → read-if one bs e at ≡ got c m → Found (suc d) bs e at c m
+      (e at : ℕ) (c : Code) (m : ℕ) → byte-at bs at ≡ 0x21 → read-if one bs e at ≡ got c m → Sound (suc d) bs e at c m
   unfolding read-if Spells Nests
   if-sound e at c m k h =
       let size = number-at 4 bs (at + 1) in
@@ -210,7 +210,7 @@ module _ (one : One) (d : ℕ) (bs : List ℕ)
       let g = got-same (IfElse at (at + 9) (w .0) (v .0) (u .0)) c (u .1) m (u .3) in
       let q : m ≡ w .1 + size + other = omega (arith, b .1, n .1, g .1) in
       let x : v .1 + other ≡ m = omega (arith, n .1, g .1) in
-      subst (λ (x : Code). Found (suc d) bs e at x m) (g .0)
+      subst (λ (x : Code). Sound (suc d) bs e at x m) (g .0)
       (record {
         spells = (
           w .1,
@@ -226,7 +226,7 @@ module _ (one : One) (d : ℕ) (bs : List ℕ)
 
   structure-sound :
       (e at : ℕ) (c : Code) (m : ℕ) → is-structure (byte-at bs at) ≡ true → behind bs at ≤ e →
-      read-structure one bs e at ≡ got c m → Found (suc d) bs e at c m
+      read-structure one bs e at ≡ got c m → Sound (suc d) bs e at c m
   unfolding read-structure
   structure-sound e at c m k l h =
       let s = between-true 0x20 0x22 (byte-at bs at) k in
@@ -241,12 +241,12 @@ module _ (one : One) (d : ℕ) (bs : List ℕ)
 
   ins-sound :
       (e at : ℕ) (c : Code) (m : ℕ) → is-ins (byte-at bs at) ≡ true →
-      read-with is-code (Ins at (ins-at bs at)) bs e at ≡ got c m → Found (suc d) bs e at c m
+      read-with is-code (Ins at (ins-at bs at)) bs e at ≡ got c m → Sound (suc d) bs e at c m
   unfolding Spells Nests
   ins-sound e at c m k h =
       let w = with-sound is-code (Ins at (ins-at bs at)) bs e at c m h in
       let s = w .1 in
-      subst (λ (x : Code). Found (suc d) bs e at x m) (w .0)
+      subst (λ (x : Code). Sound (suc d) bs e at x m) (w .0)
       (record {
         spells =
             record {
@@ -264,7 +264,7 @@ module _ (one : One) (d : ℕ) (bs : List ℕ)
       })
 
   body-sound :
-      (e at : ℕ) (c : Code) (m : ℕ) → is-code (byte-at bs at) ≡ true → read-body one bs e at ≡ got c m → Found (suc d) bs e at c m
+      (e at : ℕ) (c : Code) (m : ℕ) → is-code (byte-at bs at) ≡ true → read-body one bs e at ≡ got c m → Sound (suc d) bs e at c m
   unfolding read-body
   body-sound e at c m k h =
       ⊎-elim
@@ -274,7 +274,7 @@ module _ (one : One) (d : ℕ) (bs : List ℕ)
       structure-sound e at c m (or-right _ _ k (w .0)) (ltb-false _ _ (t .0)) (t .1))
       (either (is-ins (byte-at bs at)) _ _ (got c m) h)
 
-pub code-sound : (d : ℕ) (bs : List ℕ) (e at : ℕ) (c : Code) (m : ℕ) → read-code d bs e at ≡ got c m → Found d bs e at c m
+pub code-sound : (d : ℕ) (bs : List ℕ) (e at : ℕ) (c : Code) (m : ℕ) → read-code d bs e at ≡ got c m → Sound d bs e at c m
 unfolding read-code
 code-sound zero bs e at c m h =
     let w = kind-passed is-code bs e at (trouble 5 at) c m h in

@@ -6,6 +6,8 @@ use mathlib.Core.Bool.{Bool, true, false, not, cond}
 use mathlib.Core.List.{List, [], _∷_}
 use lib.Dec.{eqb, ltb, leb}
 use lib.ListN.{length, getD, set}
+use denote.Ref.{RefT, now}
+use denote.Triple.Both.{Both}
 use Rattle.machine.specs.Cells.{Searchable}
 use Rattle.machine.specs.declared.Operand.{Operand}
 use Rattle.code.specs.declared.tree.Ocmp.{Ocmp}
@@ -142,3 +144,33 @@ Runs env bs at fuel s r t = (c : Code) (e : ℕ) → Spells c bs at e → Ran (r
 -- an exit from s to t is that of the list of codes between two places, whichever it is
 abbrev pub RunsAll : Env → List ℕ → ℕ → ℕ → ℕ → Config → Exit → Config → Type 0
 RunsAll env bs from e fuel s r t = (cs : Codes) → SpellsAll cs bs from e → Ran (run-codes env cs fuel s) e r t
+
+-- ---- the cycle, of what it is lent
+-- a lent value, as it is given and as it is left
+abbrev Lent : Type 0 → Type 0
+Lent A = Both (RefT A) (RefT A)
+
+module _ (code : Lent (List ℕ)) (fill : ℕ) (regs xmms : Lent (List ℕ)) (flags : Lent ℕ) (addresses tags values : Lent (List ℕ)) where
+  -- the environment that is lent
+  abbrev env : Env
+  env = environment (now (addresses .entry)) (now (tags .entry)) fill
+
+  -- the configuration that is given
+  abbrev given : Config
+  given = held (now (regs .entry)) (now (xmms .entry)) (now (flags .entry)) (now (values .entry))
+
+  -- the configuration that is left
+  abbrev left : Config
+  left = held (now (regs .exit)) (now (xmms .exit)) (now (flags .exit)) (now (values .exit))
+
+  -- what is left, and the exit, are those of the instruction at a place
+  abbrev pub EvaluatesIns : ℕ → Exit → Type 0
+  EvaluatesIns at r = RunsIns env (now (code .entry)) at given r left
+
+  -- those of the code at a place, with fuel
+  abbrev pub Evaluates : ℕ → ℕ → Exit → Type 0
+  Evaluates at fuel r = Runs env (now (code .entry)) at fuel given r left
+
+  -- those of the list of codes between two places, with fuel
+  abbrev pub EvaluatesAll : ℕ → ℕ → ℕ → Exit → Type 0
+  EvaluatesAll from end fuel r = RunsAll env (now (code .entry)) from end fuel given r left

@@ -3,7 +3,7 @@
 ghost use mathlib.Core.Path.{_≡_};
 ghost use Prim.Native.Nat.{_≤_};
 ghost use Rattle.code.specs.Records.{byte-at};
-ghost use Rattle.eval.specs.Promises.{environment, held, Cells, CodeAt, CodesAt, codes-from, Runs, RunsAll};
+ghost use Rattle.eval.specs.Promises.{Cells, CodeAt, CodesAt, codes-from, Evaluates, EvaluatesAll};
 use crate::comparison::compare;
 use crate::exit::Exit;
 use crate::instruction::instruction;
@@ -33,11 +33,7 @@ pub fn eval_codes(
 ) -> Exit
     requires { ⌜ CodesAt (now code) from end ⌝ }
     requires { ⌜ Cells (now addresses) (now tags) (now values) ⌝ }
-    ensures { λ r. ⌜
-        RunsAll (environment (now (addresses .entry)) (now (tags .entry)) fill) (now (code .entry)) from end fuel
-        (held (now (regs .entry)) (now (xmms .entry)) (now (flags .entry)) (now (values .entry))) r
-        (held (now (regs .exit)) (now (xmms .exit)) (now (flags .exit)) (now (values .exit)))
-        ⌝ }
+    ensures { λ r. ⌜ EvaluatesAll code fill regs xmms flags addresses tags values from end fuel r ⌝ }
 {
     let mut next = from;
     while next < end {
@@ -88,11 +84,7 @@ fn eval_code(
     requires { ⌜ CodeAt (now code) at ⌝ }
     requires { ⌜ 0x20 ≤ byte-at (now code) at ⌝ }
     requires { ⌜ Cells (now addresses) (now tags) (now values) ⌝ }
-    ensures { λ r. ⌜
-        Runs (environment (now (addresses .entry)) (now (tags .entry)) fill) (now (code .entry)) at fuel
-        (held (now (regs .entry)) (now (xmms .entry)) (now (flags .entry)) (now (values .entry))) r
-        (held (now (regs .exit)) (now (xmms .exit)) (now (flags .exit)) (now (values .exit)))
-        ⌝ }
+    ensures { λ r. ⌜ Evaluates code fill regs xmms flags addresses tags values at fuel r ⌝ }
 {
     let kind = code[at];
     if kind == 0x20 {
@@ -155,11 +147,7 @@ fn eval_if_else(
     requires { ⌜ CodeAt (now code) at ⌝ }
     requires { ⌜ byte-at (now code) at ≡ 0x21 ⌝ }
     requires { ⌜ Cells (now addresses) (now tags) (now values) ⌝ }
-    ensures { λ r. ⌜
-        Runs (environment (now (addresses .entry)) (now (tags .entry)) fill) (now (code .entry)) at fuel
-        (held (now (regs .entry)) (now (xmms .entry)) (now (flags .entry)) (now (values .entry))) r
-        (held (now (regs .exit)) (now (xmms .exit)) (now (flags .exit)) (now (values .exit)))
-        ⌝ }
+    ensures { λ r. ⌜ Evaluates code fill regs xmms flags addresses tags values at fuel r ⌝ }
 {
     let test = at + 9;
     let compared = compare(code, test, regs, addresses, tags, values);
@@ -212,11 +200,7 @@ fn eval_while(
     requires { ⌜ CodeAt (now code) at ⌝ }
     requires { ⌜ byte-at (now code) at ≡ 0x22 ⌝ }
     requires { ⌜ Cells (now addresses) (now tags) (now values) ⌝ }
-    ensures { λ r. ⌜
-        Runs (environment (now (addresses .entry)) (now (tags .entry)) fill) (now (code .entry)) at fuel
-        (held (now (regs .entry)) (now (xmms .entry)) (now (flags .entry)) (now (values .entry))) r
-        (held (now (regs .exit)) (now (xmms .exit)) (now (flags .exit)) (now (values .exit)))
-        ⌝ }
+    ensures { λ r. ⌜ Evaluates code fill regs xmms flags addresses tags values at fuel r ⌝ }
 {
     let mut left = fuel;
     while left != 0 {

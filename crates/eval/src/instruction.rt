@@ -1,7 +1,7 @@
 // One instruction, by its kind: in two levels, so that each stays small.
 ghost use Prim.Native.Nat.{_≤_, _<_};
 ghost use lib.ListN.{getD};
-ghost use Rattle.eval.specs.Promises.{environment, held, Cells, InsAt, RunsIns};
+ghost use Rattle.eval.specs.Promises.{Cells, InsAt, EvaluatesIns};
 use crate::exit::Exit;
 use crate::lanes::extract;
 use crate::lanes::insert;
@@ -29,11 +29,7 @@ fn lane_instruction(
     requires { ⌜ InsAt (now code) at ⌝ }
     requires { ⌜ (0x0f ≤ getD (now code) at 0) × (getD (now code) at 0 < 0x19) ⌝ }
     requires { ⌜ Cells (now addresses) (now tags) (now values) ⌝ }
-    ensures { λ r. ⌜
-        RunsIns (environment (now (addresses .entry)) (now (tags .entry)) fill) (now (code .entry)) at
-        (held (now (regs .entry)) (now (xmms .entry)) (now (flags .entry)) (now (values .entry))) r
-        (held (now (regs .exit)) (now (xmms .exit)) (now (flags .exit)) (now (values .exit)))
-        ⌝ }
+    ensures { λ r. ⌜ EvaluatesIns code fill regs xmms flags addresses tags values at r ⌝ }
 {
     match code[at] {
         0x0f | 0x10 | 0x14 => two_quads(code, at, fill, xmms, flags),
@@ -63,11 +59,7 @@ pub fn instruction(
 ) -> Exit
     requires { ⌜ InsAt (now code) at ⌝ }
     requires { ⌜ Cells (now addresses) (now tags) (now values) ⌝ }
-    ensures { λ r. ⌜
-        RunsIns (environment (now (addresses .entry)) (now (tags .entry)) fill) (now (code .entry)) at
-        (held (now (regs .entry)) (now (xmms .entry)) (now (flags .entry)) (now (values .entry))) r
-        (held (now (regs .exit)) (now (xmms .exit)) (now (flags .exit)) (now (values .exit)))
-        ⌝ }
+    ensures { λ r. ⌜ EvaluatesIns code fill regs xmms flags addresses tags values at r ⌝ }
 {
     let kind = code[at];
     if is_two(kind) {

@@ -17,14 +17,18 @@ use tally::tell;
 // No file has as many jobs: a proved loop has to end, and nothing says that a file does.
 const MOST: u64 = 100_000;
 
-enum Step {
-    Tried(Tally),
+// What was tried, or that the file has ended.
+enum Trial {
+    Made(Tally),
     End,
 }
 
 // Whether the definition's output of a job is the stored text.
 fn agrees(input: &[u8], text: &[u8]) -> bool
-    ensures { λ r. ⌜ (r ≡ true → output (now (input .entry)) ≡ now (text .entry)) × (output (now (input .entry)) ≡ now (text .entry) → r ≡ true) ⌝ }
+    ensures { λ r. ⌜
+        (r ≡ true → output (now (input .entry)) ≡ now (text .entry))
+        × (output (now (input .entry)) ≡ now (text .entry) → r ≡ true)
+        ⌝ }
 {
     let mut addresses = [0u64; 1024];
     let mut tags = [0u8; 1024];
@@ -35,22 +39,22 @@ fn agrees(input: &[u8], text: &[u8]) -> bool
 }
 
 // Tries the file's next job. No text is empty, so one of no bytes is the end of the file.
-fn try_next(fd: i32, tally: Tally) -> Step {
+fn try_next(fd: i32, tally: Tally) -> Trial {
     let mut input = io::large_buffer();
     let mut text = io::large_buffer();
     let n = read_part(fd, &mut input);
     let m = read_part(fd, &mut text);
     if m == 0 {
-        return Step::End;
+        return Trial::End;
     }
-    Step::Tried(counted(tally, agrees(&input[..n], &text[..m])))
+    Trial::Made(counted(tally, agrees(&input[..n], &text[..m])))
 }
 
 fn try_all(fd: i32) -> Tally {
     let mut tally = none_yet();
     let mut left = MOST;
     while left > 0 {
-        let Step::Tried(next) = try_next(fd, tally) else {
+        let Trial::Made(next) = try_next(fd, tally) else {
             return tally;
         };
         tally = next;

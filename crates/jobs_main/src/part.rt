@@ -1,13 +1,7 @@
 // The parts of a stored file: a job's bytes and its text by turns, each behind its length in four bytes, low first.
 
-ghost use Prim.Native.Nat.{_<_};
 ghost use Rattle.io.specs.Counts.{Counts};
-
-fn wide(byte: u8) -> usize
-    ensures { λ r. ⌜ r < 256 ⌝ }
-{
-    byte as usize
-}
+use code::number4;
 
 fn read_length(fd: i32) -> usize {
     let mut four = [0u8; 4];
@@ -15,7 +9,7 @@ fn read_length(fd: i32) -> usize {
     if got < 4 {
         return 0;
     }
-    wide(four[0]) + 256 * (wide(four[1]) + 256 * (wide(four[2]) + 256 * wide(four[3])))
+    number4(&four, 0)
 }
 
 // Puts the file's next part at the start of `buf` and answers its length: 0 where the file has ended, or the part is too long.
