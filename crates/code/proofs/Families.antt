@@ -5,7 +5,6 @@ use mathlib.Core.Path.{_≡_, refl, sym, subst}
 use mathlib.Core.Bool.{Bool, true, false, _&&_, _||_}
 use mathlib.Core.List.{List, [], _∷_, map}
 use mathlib.Core.Logic.{_⊎_, inl, inr, ⊎-elim}
-use native.Mathlib.Nat.{eq-or-lt-of-le}
 use native.Mathlib.Omega.{arith}
 use borrow.Author.Tests.{ne-eqb, eqb-true}
 use lib.Dec.{eqb}
@@ -92,18 +91,9 @@ lane-kinds k is none lea mul mulx =
     let v = between-true 0x0f 0x18 k l in
     (v .0, omega arith)
 
--- which kinds are those of two quads
-pub which-quads : (k : ℕ) → 0x0f ≤ k → (k < 0x11) ⊎ (k ≡ 0x14) → (k ≡ 0x0f) ⊎ ((k ≡ 0x10) ⊎ (k ≡ 0x14))
-which-quads k m (inl h) = ⊎-elim (λ e. inl (sym e)) (λ l. inr (inl (omega arith))) (eq-or-lt-of-le m)
-which-quads k m (inr h) = inr (inr h)
-
-pub quads-kind : (k : ℕ) → (k ≡ 0x0f) ⊎ ((k ≡ 0x10) ⊎ (k ≡ 0x14)) → is-quads k ≡ true
-quads-kind k (inl e) = rw e
-quads-kind k (inr (inl e)) = rw e
-quads-kind k (inr (inr e)) = rw e
-
-pub shifts-kind : (k : ℕ) → 0x11 ≤ k → k < 0x13 → is-shifts k ≡ true
-shifts-kind k l m = within is-shifts 2 0x11 refl k l m
+-- a kind that is n is of n's family
+pub in-family : (ns : List ℕ) (n : ℕ) → among ns n ≡ true → (k : ℕ) → k ≡ n → among ns k ≡ true
+in-family ns n h k e = rw e h
 
 pub inserts-kind : (k : ℕ) → 0x16 ≤ k → k < 0x18 → is-inserts k ≡ true
 inserts-kind k l m = within is-inserts 2 0x16 refl k l m
@@ -267,13 +257,13 @@ module _ (bs : List ℕ) (at e : ℕ) (st : Stands is-ins bs at e) (l : e ≤ le
         }
 
   pub quads-stood :
-      (k : ℕ) → (k ≡ 0x0f) ⊎ ((k ≡ 0x10) ⊎ (k ≡ 0x14)) → byte-at bs at ≡ k → TwoXmms (quads-ins k (byte 1) (byte 2)) 0 (at + 3)
+      (k : ℕ) → is-quads k ≡ true → byte-at bs at ≡ k → TwoXmms (quads-ins k (byte 1) (byte 2)) 0 (at + 3)
   unfolding quads-ins operands-at shaped same body-length operand-count register-fields
-  quads-stood k h q = two-xmms k 0 q (shape-among quads 2 0 (1 ∷ 2 ∷ []) refl k (quads-kind k h))
+  quads-stood k h q = two-xmms k 0 q (shape-among quads 2 0 (1 ∷ 2 ∷ []) refl k h)
 
-  pub shifts-stood : (k : ℕ) → 0x11 ≤ k → k < 0x13 → byte-at bs at ≡ k → OneXmm (shifts-ins k (byte 1) (byte 2)) 0 (at + 3)
+  pub shifts-stood : (k : ℕ) → is-shifts k ≡ true → byte-at bs at ≡ k → OneXmm (shifts-ins k (byte 1) (byte 2)) 0 (at + 3)
   unfolding shifts-ins operands-at shaped same body-length operand-count register-fields
-  shifts-stood k l m q = one-xmm k 0 q (shape-among shifts 2 0 (1 ∷ []) refl k (shifts-kind k l m))
+  shifts-stood k h q = one-xmm k 0 q (shape-among shifts 2 0 (1 ∷ []) refl k h)
 
   pub shuffle-stood : byte-at bs at ≡ 0x13 → TwoXmms (Pshufd (byte 1) (byte 2) (byte 3)) 0 (at + 4)
   unfolding operands-at shaped same body-length operand-count register-fields
@@ -288,6 +278,6 @@ module _ (bs : List ℕ) (at e : ℕ) (st : Stands is-ins bs at e) (l : e ≤ le
   extract-stood q = one-xmm 0x15 1 q (shape-of 0x15 2 1 (1 ∷ []) refl)
 
   pub inserts-stood :
-      (k : ℕ) → 0x16 ≤ k → k < 0x18 → byte-at bs at ≡ k → OneXmm (inserts-ins k (byte 1) (operand-at bs (at + 3)) (byte 2)) 1 (at + 3)
+      (k : ℕ) → is-inserts k ≡ true → byte-at bs at ≡ k → OneXmm (inserts-ins k (byte 1) (operand-at bs (at + 3)) (byte 2)) 1 (at + 3)
   unfolding inserts-ins operands-at shaped same body-length operand-count register-fields
-  inserts-stood k l m q = one-xmm k 1 q (shape-among inserts 2 1 (1 ∷ []) refl k (inserts-kind k l m))
+  inserts-stood k h q = one-xmm k 1 q (shape-among inserts 2 1 (1 ∷ []) refl k h)

@@ -4,7 +4,6 @@ use Prim.Native.Nat.{ℕ, _+_, _-_, _*_, _%_, _^_, _≤_, _<_}
 use mathlib.Core.Path.{_≡_, refl, sym, ap, _∙_}
 use mathlib.Core.Bool.{Bool, true, false, _&&_, cond}
 use mathlib.Core.List.{List, []}
-use mathlib.Core.Logic.{_⊎_}
 use native.Mathlib.Omega.{arith}
 use lib.Dec.{eqb, leb}
 use lib.ListN.{length, getD, set}
@@ -22,6 +21,7 @@ use Rattle.machine.specs.declared.reg.Reg.{Reg}
 use Rattle.machine.specs.declared.Found.{Found}
 use Rattle.machine.specs.declared.Found.the-variants.{At, Nothing}
 use Rattle.machine.specs.declared.Maddr.{Maddr}
+use Rattle.machine.specs.declared.Operand.{Operand}
 use Rattle.machine.specs.declared.Operand.the-variants.{OMem}
 use Rattle.code.specs.Records.{is-ocmp, byte-at, number-at, operand-at, ocmp-at, behind}
 use Rattle.code.specs.Spells.{OperandBytes, OperandsFrom, Stands}
@@ -34,7 +34,7 @@ use Rattle.code.specs.declared.records.Form.{Form}
 use Rattle.code.specs.declared.records.Form.the-variants.{Const, Register, Memory}
 use Rattle.code.proofs.Frames.{operand-frame}
 use Rattle.code.proofs.CodeFrames.{ocmp-frame}
-use Rattle.code.proofs.Families.{Stood, ins-inside, quads-kind, shifts-kind, inserts-kind, quads-stood, shifts-stood, shuffle-stood, word-shift-stood, extract-stood, inserts-stood}
+use Rattle.code.proofs.Families.{Stood, ins-inside, lane-kinds, two-stood, lea-stood, mul-stood, mulx-stood, quads-stood, shifts-stood, shuffle-stood, word-shift-stood, extract-stood, inserts-stood}
 use Rattle.code.proofs.Forms.{constant-is, register-is, register-below}
 use Rattle.eval.specs.Config.{Env, Config, with-flags, ends}
 use Rattle.eval.specs.Config as Config
@@ -165,29 +165,29 @@ module _ (bs : List ℕ) (at : ℕ) (o : OcmpAt bs at) where
   second-operand next is = rw is (ocmp-frame bs at (o .0) (o .1) (o .2) .operands .second)
 
   -- its answer, from what was loaded of its operands
-  module _ (addresses tags regs xmms values : List ℕ) (fill flags e : ℕ) (stands : Stands is-ocmp bs at e) (a b : Loaded)
-      (one : Loaded-at addresses tags regs values bs (at + 1) a) (two : Loaded-at addresses tags regs values bs (a .next) b) where
-    abbrev Says : ℕ → Type 0
-    Says n = Compares (environment addresses tags fill) (held regs xmms flags values) (ocmp-at bs at) e (record { how = n; next = b .next })
+  module _ (addresses tags regs xmms values : List ℕ) (fill flags e : ℕ) (stands : Stands is-ocmp bs at e) (a : Loaded)
+      (one : Loaded-at addresses tags regs values bs (at + 1) a) where
+    abbrev Says : ℕ → ℕ → Type 0
+    Says n next = Compares (environment addresses tags fill) (held regs xmms flags values) (ocmp-at bs at) e (record { how = n; next = next })
 
     inside : e ≤ length bs
     inside = stands-inside bs at (o .0) (o .1) (o .2) e stands
 
-    pub says-unread : (a .number ≡ 0 → ⊥) → Says (a .number)
-    says-unread h = first-unread _ _ bs at e stands inside a b (one fill flags xmms) (two fill flags xmms) h
+    pub says-unread : (a .number ≡ 0 → ⊥) → Says (a .number) (a .next)
+    says-unread h = first-unread _ _ bs at e stands inside a (one fill flags xmms) h
 
-    module _ (x : a .number ≡ 0) where
-      pub says-unread-second : (b .number ≡ 0 → ⊥) → Says (b .number)
+    module _ (x : a .number ≡ 0) (b : Loaded) (two : Loaded-at addresses tags regs values bs (a .next) b) where
+      pub says-unread-second : (b .number ≡ 0 → ⊥) → Says (b .number) (b .next)
       says-unread-second h = second-unread _ _ bs at e stands inside a b (one fill flags xmms) (two fill flags xmms) x h
 
       module _ (y : b .number ≡ 0) (h : Bool) (is : h ≡ comparison (byte-at bs at) (a .word) (b .word)) where
-        says : Says (cond h 1 0)
+        says : Says (cond h 1 0) (b .next)
         says = compared _ _ bs at e stands inside a b (one fill flags xmms) (two fill flags xmms) x y h (sym is)
 
-        pub says-holds : h ≡ true → Says 1
+        pub says-holds : h ≡ true → Says 1 (b .next)
         says-holds k = rw k at says
 
-        pub says-fails : h ≡ false → Says 0
+        pub says-fails : h ≡ false → Says 0 (b .next)
         says-fails k = rw k at says
 
 -- a destination, and a source behind it, of an instruction of two operands
@@ -382,7 +382,7 @@ module _ (addresses tags regs xmms values bs : List ℕ) (fill flags at : ℕ) w
         (w .found) (w .valid) lo hi (w .is-lo) (w .is-hi) (w .after) values′ (w .is-after) b _ u (w .high fill flags xmms)
         h regs″ values″ (c ∙ ap (put-regs u hi) (a ∙ sym (w .is-after))) d
 
--- ---- instructions on xmms: what their functions are asked, and that these run them
+-- ---- an instruction: what its function is asked, and that this runs it
 module _ (bs : List ℕ) (at : ℕ) (i : InsAt bs at) where
   pub ins-starts : at < length bs
   ins-starts = omega (arith, ins-inside (i .1), i .2)
@@ -390,19 +390,48 @@ module _ (bs : List ℕ) (at : ℕ) (i : InsAt bs at) where
   abbrev byte : ℕ → ℕ
   byte n = byte-at bs (at + n)
 
-  -- the kinds of two quads
-  abbrev Quads : Type 0
-  Quads = (byte-at bs at ≡ 0x0f) ⊎ ((byte-at bs at ≡ 0x10) ⊎ (byte-at bs at ≡ 0x14))
+  -- where it has operands alone
+  module _ (addresses tags values : List ℕ) (cells : Cells addresses tags values) where
+    pub two-asked :
+        (two : Bool) → two ≡ is-two (byte-at bs at) → two ≡ true →
+        OperandsFrom 2 bs (at + 1) × ((is-two (byte-at bs at) ≡ true) × Cells addresses tags values)
+    two-asked two is h =
+        let k = sym is ∙ h in (two-stood bs at (i .0) (i .1) (i .2) _ k refl .operands, (k, cells))
 
-  pub quads-asked : Quads → (at + 3 ≤ length bs) × ((byte 1 < 16) × ((byte 2 < 16) × (is-quads (byte-at bs at) ≡ true)))
-  quads-asked q =
-      let w = quads-stood bs at (i .0) (i .1) (i .2) _ q refl in
-      (w .stood .operands, (w .xmm, (w .other, quads-kind _ q)))
+    pub lea-asked : byte-at bs at ≡ 0x03 → OperandsFrom 3 bs (at + 1) × Cells addresses tags values
+    lea-asked q = (lea-stood bs at (i .0) (i .1) (i .2) q .operands, cells)
 
-  pub shifts-asked : 0x11 ≤ byte-at bs at → byte-at bs at < 0x13 → (at + 3 ≤ length bs) × ((byte 1 < 16) × (is-shifts (byte-at bs at) ≡ true))
-  shifts-asked l m =
-      let w = shifts-stood bs at (i .0) (i .1) (i .2) _ l m refl in
-      (w .stood .operands, (w .xmm, shifts-kind _ l m))
+    pub mul-asked : byte-at bs at ≡ 0x08 → OperandsFrom 1 bs (at + 1) × Cells addresses tags values
+    mul-asked q = (mul-stood bs at (i .0) (i .1) (i .2) q .operands, cells)
+
+    pub mulx-asked : byte-at bs at ≡ 0x09 → OperandsFrom 3 bs (at + 1) × Cells addresses tags values
+    mulx-asked q = (mulx-stood bs at (i .0) (i .1) (i .2) q .operands, cells)
+
+    -- what is past 0e and has not a destination and a source is a lane's
+    pub lane-asked :
+        (two : Bool) → two ≡ is-two (byte-at bs at) → two ≡ false → 0x0e < byte-at bs at →
+        InsAt bs at × (((0x0f ≤ byte-at bs at) × (byte-at bs at < 0x19)) × Cells addresses tags values)
+    lane-asked two is h l =
+        let no : (n : ℕ) → n < 0x0f → byte-at bs at ≡ n → ⊥ = λ n m e. omega (arith, l, m, e) in
+        let k = lane-kinds _ (i .1 .head .kind) (sym is ∙ h) (no 0x03 (omega arith)) (no 0x08 (omega arith)) (no 0x09 (omega arith)) in
+        (i, (k, cells))
+
+  -- there is none but those
+  pub no-other :
+      (two : Bool) → two ≡ is-two (byte-at bs at) → two ≡ false → byte-at bs at ≤ 0x0e →
+      (byte-at bs at ≡ 0x03 → ⊥) → (byte-at bs at ≡ 0x08 → ⊥) → (byte-at bs at ≡ 0x09 → ⊥) → ⊥
+  no-other two is h l a b c = omega (arith, lane-kinds _ (i .1 .head .kind) (sym is ∙ h) a b c .0)
+
+  pub quads-asked :
+      is-quads (byte-at bs at) ≡ true → (at + 3 ≤ length bs) × ((byte 1 < 16) × ((byte 2 < 16) × (is-quads (byte-at bs at) ≡ true)))
+  quads-asked h =
+      let w = quads-stood bs at (i .0) (i .1) (i .2) _ h refl in
+      (w .stood .operands, (w .xmm, (w .other, h)))
+
+  pub shifts-asked : is-shifts (byte-at bs at) ≡ true → (at + 3 ≤ length bs) × ((byte 1 < 16) × (is-shifts (byte-at bs at) ≡ true))
+  shifts-asked h =
+      let w = shifts-stood bs at (i .0) (i .1) (i .2) _ h refl in
+      (w .stood .operands, (w .xmm, h))
 
   pub shuffle-asked : byte-at bs at ≡ 0x13 → (at + 4 ≤ length bs) × ((byte 1 < 16) × (byte 2 < 16))
   shuffle-asked q = let w = shuffle-stood bs at (i .0) (i .1) (i .2) q in (w .stood .operands, (w .xmm, w .other))
@@ -415,11 +444,11 @@ module _ (bs : List ℕ) (at : ℕ) (i : InsAt bs at) where
     extract-asked q = let w = extract-stood bs at (i .0) (i .1) (i .2) q in (w .stood .operands, (w .xmm, cells))
 
     pub inserts-asked :
-        0x16 ≤ byte-at bs at → byte-at bs at < 0x18 →
+        is-inserts (byte-at bs at) ≡ true →
         OperandsFrom 1 bs (at + 3) × ((byte 1 < 16) × (Cells addresses tags values × (is-inserts (byte-at bs at) ≡ true)))
-    inserts-asked l m =
-        let w = inserts-stood bs at (i .0) (i .1) (i .2) _ l m refl in
-        (w .stood .operands, (w .xmm, (cells, inserts-kind _ l m)))
+    inserts-asked h =
+        let w = inserts-stood bs at (i .0) (i .1) (i .2) _ h refl in
+        (w .stood .operands, (w .xmm, (cells, h)))
 
   -- of those that look at xmms alone: a run of j that ends at b and leaves xmms′ is that of what stands there
   module _ (env : Env) (regs xmms values xmms′ : List ℕ) (flags : ℕ) (r : Exit) where
@@ -432,8 +461,8 @@ module _ (bs : List ℕ) (at : ℕ) (i : InsAt bs at) where
     lanes : (j : Instruction) (b : ℕ) → Stood bs at j 0 b → Lanes j b
     lanes j b w ran = ran-stood bs at j 0 b w env _ _ r (ran env regs values flags)
 
-    pub shifts-ran : 0x11 ≤ byte-at bs at → byte-at bs at < 0x13 → Lanes (shifts-ins (byte-at bs at) (byte 1) (byte 2)) (at + 3)
-    shifts-ran l m = lanes _ _ (shifts-stood bs at (i .0) (i .1) (i .2) _ l m refl .stood)
+    pub shifts-ran : is-shifts (byte-at bs at) ≡ true → Lanes (shifts-ins (byte-at bs at) (byte 1) (byte 2)) (at + 3)
+    shifts-ran h = lanes _ _ (shifts-stood bs at (i .0) (i .1) (i .2) _ h refl .stood)
 
     pub shuffle-ran : byte-at bs at ≡ 0x13 → Lanes (Pshufd (byte 1) (byte 2) (byte 3)) (at + 4)
     shuffle-ran q = lanes _ _ (shuffle-stood bs at (i .0) (i .1) (i .2) q .stood)
@@ -443,14 +472,62 @@ module _ (bs : List ℕ) (at : ℕ) (i : InsAt bs at) where
 
   -- of the others
   module _ (addresses tags regs xmms values : List ℕ) (fill flags : ℕ) (r : Exit) where
+    abbrev first : Operand
+    first = operand-at bs (at + 1)
+
+    abbrev second : Operand
+    second = operand-at bs (behind bs (at + 1))
+
+    abbrev third : Operand
+    third = operand-at bs (behind bs (behind bs (at + 1)))
+
+    -- a run of j that ends at b, whatever the xmms are, is that of what stands there
+    abbrev WithXmms : Instruction → ℕ → List ℕ → ℕ → List ℕ → Type 0
+    WithXmms j b regs′ flags′ values′ =
+        (xmms : List ℕ) →
+        Ran (run-ins (environment addresses tags fill) at j (held regs xmms flags values)) b r (held regs′ xmms flags′ values′)
+
+    pub two-ran :
+        (regs′ values′ : List ℕ) (flags′ : ℕ) (two : Bool) → two ≡ is-two (byte-at bs at) → two ≡ true →
+        WithXmms (two-ins (byte-at bs at) first second) (behind bs (behind bs (at + 1))) regs′ flags′ values′ →
+        RunsIns (environment addresses tags fill) bs at (held regs xmms flags values) r (held regs′ xmms flags′ values′)
+    two-ran regs′ values′ flags′ two is h ran =
+        ran-stood bs at _ 2 _ (two-stood bs at (i .0) (i .1) (i .2) _ (sym is ∙ h) refl) _ _ _ r (ran xmms)
+
+    pub mul-ran :
+        (regs′ : List ℕ) (flags′ : ℕ) → byte-at bs at ≡ 0x08 →
+        WithXmms (Mul64 first) (behind bs (at + 1)) regs′ flags′ values →
+        RunsIns (environment addresses tags fill) bs at (held regs xmms flags values) r (held regs′ xmms flags′ values)
+    mul-ran regs′ flags′ q ran =
+        ran-stood bs at _ 1 _ (mul-stood bs at (i .0) (i .1) (i .2) q) _ _ _ r (ran xmms)
+
+    -- a run of j, behind three operands, whatever the fill word, the flags and the xmms are
+    abbrev WithFlags : Instruction → List ℕ → List ℕ → Type 0
+    WithFlags j regs′ values′ =
+        (fill flags : ℕ) (xmms : List ℕ) →
+        Ran (run-ins (environment addresses tags fill) at j (held regs xmms flags values))
+        (behind bs (behind bs (behind bs (at + 1)))) r (held regs′ xmms flags values′)
+
+    pub lea-ran :
+        (regs′ values′ : List ℕ) → byte-at bs at ≡ 0x03 → WithFlags (AddLea64 first second third) regs′ values′ →
+        RunsIns (environment addresses tags fill) bs at (held regs xmms flags values) r (held regs′ xmms flags values′)
+    lea-ran regs′ values′ q ran =
+        ran-stood bs at _ 3 _ (lea-stood bs at (i .0) (i .1) (i .2) q) _ _ _ r (ran fill flags xmms)
+
+    pub mulx-ran :
+        (regs′ values′ : List ℕ) → byte-at bs at ≡ 0x09 → WithFlags (Mulx64 first second third) regs′ values′ →
+        RunsIns (environment addresses tags fill) bs at (held regs xmms flags values) r (held regs′ xmms flags values′)
+    mulx-ran regs′ values′ q ran =
+        ran-stood bs at _ 3 _ (mulx-stood bs at (i .0) (i .1) (i .2) q) _ _ _ r (ran fill flags xmms)
+
     pub quads-ran :
-        (xmms′ : List ℕ) (flags′ : ℕ) → Quads →
+        (xmms′ : List ℕ) (flags′ : ℕ) → is-quads (byte-at bs at) ≡ true →
         ((addresses tags regs values : List ℕ) →
         Ran (run-ins (environment addresses tags fill) at (quads-ins (byte-at bs at) (byte 1) (byte 2)) (held regs xmms flags values))
         (at + 3) r (held regs xmms′ flags′ values)) →
         RunsIns (environment addresses tags fill) bs at (held regs xmms flags values) r (held regs xmms′ flags′ values)
-    quads-ran xmms′ flags′ q ran =
-        ran-stood bs at _ 0 _ (quads-stood bs at (i .0) (i .1) (i .2) _ q refl .stood) _ _ _ r (ran addresses tags regs values)
+    quads-ran xmms′ flags′ h ran =
+        ran-stood bs at _ 0 _ (quads-stood bs at (i .0) (i .1) (i .2) _ h refl .stood) _ _ _ r (ran addresses tags regs values)
 
     pub extract-ran :
         (regs′ values′ : List ℕ) → byte-at bs at ≡ 0x15 →
@@ -462,13 +539,13 @@ module _ (bs : List ℕ) (at : ℕ) (i : InsAt bs at) where
         ran-stood bs at _ 1 _ (extract-stood bs at (i .0) (i .1) (i .2) q .stood) _ _ _ r (ran fill flags)
 
     pub inserts-ran :
-        (xmms′ : List ℕ) → 0x16 ≤ byte-at bs at → byte-at bs at < 0x18 →
+        (xmms′ : List ℕ) → is-inserts (byte-at bs at) ≡ true →
         ((fill flags : ℕ) →
         Ran (run-ins (environment addresses tags fill) at (inserts-ins (byte-at bs at) (byte 1) (operand-at bs (at + 3)) (byte 2))
         (held regs xmms flags values)) (behind bs (at + 3)) r (held regs xmms′ flags values)) →
         RunsIns (environment addresses tags fill) bs at (held regs xmms flags values) r (held regs xmms′ flags values)
-    inserts-ran xmms′ l m ran =
-        ran-stood bs at _ 1 _ (inserts-stood bs at (i .0) (i .1) (i .2) _ l m refl .stood) _ _ _ r (ran fill flags)
+    inserts-ran xmms′ h ran =
+        ran-stood bs at _ 1 _ (inserts-stood bs at (i .0) (i .1) (i .2) _ h refl .stood) _ _ _ r (ran fill flags)
 
 -- ---- a structure: the places of its lengths fit, inside the bytes, of which there are fewer than 2 ^ 63
 module _ (bs : List ℕ) (at : ℕ) (c : CodeAt bs at) (k : 0x20 ≤ byte-at bs at) where
@@ -537,8 +614,8 @@ pub record GoesOn (bs : List ℕ) (at : ℕ) (x : Compared) : Type 0 where
   pub next : (e : ℕ) → Stands is-ocmp bs at e → x .next ≡ e
 
 pub goes-on :
-    {addresses tags bs regs values : List ℕ} {at : ℕ} {x : Compared} → Answers addresses tags bs at regs values x → GoesOn bs at x
-goes-on a = record { next = λ e h. a 0 0 [] e h .next }
+    {addresses tags bs regs values : List ℕ} {at : ℕ} {x : Compared} → Answers addresses tags bs at regs values x → x .how ≤ 1 → GoesOn bs at x
+goes-on a read = record { next = λ e h. a 0 0 [] e h .next read }
 
 -- ---- an IfElse
 module _ (bs : List ℕ) (at : ℕ) (kind : byte-at bs at ≡ 0x21) where
@@ -594,14 +671,14 @@ module _ (env : Env) (bs : List ℕ) (at fuel m : ℕ) (s : Config) (x : Compare
     pub branch-less : fuel + (length bs - p) < m
     branch-less = omega (arith, w .measured, starts bs part (there .0), there .2, codes-past bs part)
 
-    module _ (read : x .how ≤ 1) (r : Exit) (t : Config) (ran : RunsAll env bs p behind fuel (with-flags (env .fill) s) r t) where
+    module _ (r : Exit) (t : Config) (ran : RunsAll env bs p behind fuel (with-flags (env .fill) s) r t) where
       pub branch-stops : (r .number ≡ 0 → ⊥) → Runs env bs at fuel s r t
       branch-stops h =
-          chosen-ran env bs at fuel s x part behind end (w .chosen) read r t (rw is at ran) r refl (λ z. absurd (h z))
+          chosen-ran env bs at fuel s x part behind end (w .chosen) r t (rw is at ran) r refl (λ z. absurd (h z))
 
       pub branch-done : r .number ≡ 0 → Runs env bs at fuel s (exit 0 end) t
       branch-done h =
-          chosen-ran env bs at fuel s x part behind end (w .chosen) read r t (rw is at ran)
+          chosen-ran env bs at fuel s x part behind end (w .chosen) r t (rw is at ran)
           (exit 0 end) (sym (how-done r h)) (λ _. refl)
 
 -- ---- a While
@@ -643,7 +720,7 @@ module _ (env : Env) (bs : List ℕ) (at fuel m : ℕ) (s₀ : Config) (left : �
   pub turn-fits : length bs * 1 < 2 ^ 63 → Fits w64 end
   turn-fits room =
       let l = loop-inside bs at (w .code) (w .round .kind) in
-      omega (arith, l .within, w .round .compared (l .mid) (l .stands) .next, w .round .end-is)
+      omega (arith, l .within, w .round .compared (l .mid) (l .stands) .next (w .round .read), w .round .end-is)
 
   -- the body's code, and that there are codes to its end, which begin behind the test
   body-there : CodeAt bs (x .next) × CodesAt bs (codes-from bs (x .next)) end × (at + 5 < x .next)
@@ -660,16 +737,16 @@ module _ (env : Env) (bs : List ℕ) (at fuel m : ℕ) (s₀ : Config) (left : �
     body-less =
         omega (arith, w .measured, w .looping .less, starts bs (x .next) (body-there .0), body-there .2, codes-past bs (x .next))
 
-    module _ (read : x .how ≤ 1) (holds : x .how ≡ 0 → ⊥) (r : Exit) (t : Config)
+    module _ (holds : x .how ≡ 0 → ⊥) (r : Exit) (t : Config)
         (ran : RunsAll env bs p end (left - 1) (with-flags (env .fill) s) r t) where
       pub turn-stops : (r .number ≡ 0 → ⊥) → Runs env bs at fuel s₀ r t
       turn-stops h =
           loop-ran env bs at fuel s₀ left s (w .looping) r t
-          (round-stops env bs at left s x end (w .round) read holds r t (rw is at ran) h) (λ _ _ _ z. absurd (h z))
+          (round-stops env bs at left s x end (w .round) holds r t (rw is at ran) h) (λ _ _ _ z. absurd (h z))
 
       pub turn-goes : r .number ≡ 0 → length (t .values) ≡ length (s .values) → Looping env bs at fuel s₀ (left - 1) t
       turn-goes h long =
-          let goes = round-goes env bs at left s x end (w .round) read holds r t (rw is at ran) h in
+          let goes = round-goes env bs at left s x end (w .round) holds r t (rw is at ran) h in
           record {
             same = λ c e y. w .looping .same c e y ∙ goes c e y;
             long = long ∙ w .looping .long;

@@ -50,39 +50,40 @@ module _ (env : Env) (s : Config) (bs : List ℕ) (at e : ℕ) (stands : Stands 
       ▹ tt)
       (byte-at bs at) (w .low) (omega (arith, w .high))
 
+  -- the answer of a check that fails is its number
+  pub first-unread :
+      (a : Loaded) → Loads env s one (behind bs (at + 1)) a → (a .number ≡ 0 → ⊥) →
+      Compares env s (ocmp-at bs at) e (record { how = a .number; next = a .next })
+  first-unread a la h =
+      let w = fails (valid-operand env one s) (a .number) 31 (la .number) h in
+      record { how = rw (said refl .0, w .0) (w .1); next = λ l. absurd (omega (arith, w .1)) }
+
   module _ (a b : Loaded) (la : Loads env s one (behind bs (at + 1)) a)
-      (lb : Loads env s (operand-at bs (a .next)) (behind bs (a .next)) b) where
+      (lb : Loads env s (operand-at bs (a .next)) (behind bs (a .next)) b) (x : a .number ≡ 0) where
     second : Loads env s other (behind bs (behind bs (at + 1))) b
     second = subst (λ (z : ℕ). Loads env s (operand-at bs z) (behind bs z) b) (la .next) lb
 
     ends-there : b .next ≡ e
     ends-there = second .next ∙ ocmp-frame bs at e stands inside .operands .ends
 
-    -- the answer of a check that fails is its number, and the flags are left
-    pub first-unread : (a .number ≡ 0 → ⊥) → Compares env s (ocmp-at bs at) e (record { how = a .number; next = b .next })
-    first-unread h =
-        let w = fails (valid-operand env one s) (a .number) 31 (la .number) h in
-        record { how = rw (said refl .0, w .0) (w .1); next = ends-there }
+    one-read : valid-operand env one s ≡ true
+    one-read = passes (valid-operand env one s) (a .number) 31 (la .number) (λ e. omega arith) x
 
-    module _ (x : a .number ≡ 0) where
-      one-read : valid-operand env one s ≡ true
-      one-read = passes (valid-operand env one s) (a .number) 31 (la .number) (λ e. omega arith) x
+    pub second-unread : (b .number ≡ 0 → ⊥) → Compares env s (ocmp-at bs at) e (record { how = b .number; next = b .next })
+    second-unread h =
+        let w = fails (valid-operand env other s) (b .number) 31 (second .number) h in
+        record {
+          how = rw (said refl .0, one-read, w .0) (w .1);
+          next = λ _. ends-there;
+        }
 
-      pub second-unread : (b .number ≡ 0 → ⊥) → Compares env s (ocmp-at bs at) e (record { how = b .number; next = b .next })
-      second-unread h =
-          let w = fails (valid-operand env other s) (b .number) 31 (second .number) h in
-          record {
-            how = rw (said refl .0, one-read, w .0) (w .1);
-            next = ends-there;
-          }
-
-      pub compared :
-          b .number ≡ 0 →
-          (h : Bool) → comparison (byte-at bs at) (a .word) (b .word) ≡ h →
-          Compares env s (ocmp-at bs at) e (record { how = cond h 1 0; next = b .next })
-      compared y h k =
-          let other-read = passes (valid-operand env other s) (b .number) 31 (second .number) (λ e. omega arith) y in
-          record {
-            how = rw (said refl .0, one-read, other-read, said refl .1, ← (la .word x), ← (second .word y), k);
-            next = ends-there;
-          }
+    pub compared :
+        b .number ≡ 0 →
+        (h : Bool) → comparison (byte-at bs at) (a .word) (b .word) ≡ h →
+        Compares env s (ocmp-at bs at) e (record { how = cond h 1 0; next = b .next })
+    compared y h k =
+        let other-read = passes (valid-operand env other s) (b .number) 31 (second .number) (λ e. omega arith) y in
+        record {
+          how = rw (said refl .0, one-read, other-read, said refl .1, ← (la .word x), ← (second .word y), k);
+          next = λ _. ends-there;
+        }

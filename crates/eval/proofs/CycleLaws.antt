@@ -298,7 +298,7 @@ module _ (env : Env) (bs : List ℕ) (at fuel : ℕ) (s : Config) (k : byte-at b
       }
 
   -- the part that it goes on with, from its place to the place behind it
-  module _ (mid end part behind : ℕ) (a : mid ≡ x .next + number-at 4 bs (at + 1)) (b : end ≡ mid + number-at 4 bs (at + 5))
+  module _ (read : x .how ≤ 1) (mid end part behind : ℕ) (a : mid ≡ x .next + number-at 4 bs (at + 1)) (b : end ≡ mid + number-at 4 bs (at + 5))
       (way : ((x .how ≡ 1) × (part ≡ x .next) × (behind ≡ mid)) ⊎ ((x .how ≡ 1 → ⊥) × (part ≡ mid) × (behind ≡ end))) where
     -- both parts, where the code says that they stand
     parts :
@@ -307,7 +307,7 @@ module _ (env : Env) (bs : List ℕ) (at fuel : ℕ) (s : Config) (k : byte-at b
         (w .mid ≡ x .next) × (e ≡ end) × (Spells (w .yes-part) bs (x .next) mid) × (Spells (w .no-part) bs mid end)
     parts c e sp =
         let w = if-there c bs at e sp k in
-        let m : w .mid ≡ x .next = sym (compared (w .mid) (w .stands) .next) in
+        let m : w .mid ≡ x .next = sym (compared (w .mid) (w .stands) .next read) in
         let n : w .mid + number-at 4 bs (at + 1) ≡ mid = omega (arith, m, a) in
         let l : e ≡ end = omega (arith, w .ends, n, b) in
         (m, l, respelled (w .yes-part) bs _ _ _ _ m n (w .yes-spelled), respelled (w .no-part) bs _ _ _ _ n l (w .no-spelled))
@@ -334,7 +334,6 @@ module _ (env : Env) (bs : List ℕ) (at fuel : ℕ) (s : Config) (k : byte-at b
         way
 
     if-ran :
-        x .how ≤ 1 →
         (r : Exit) (t : Config) →
         RunsAll env bs (codes-from bs part) behind fuel (with-flags (env .fill) s) r t →
         (r′ : Exit) →
@@ -342,7 +341,7 @@ module _ (env : Env) (bs : List ℕ) (at fuel : ℕ) (s : Config) (k : byte-at b
         (r′ .number ≡ 0 → r′ .place ≡ end) →
         Runs env bs at fuel s r′ t
     unfolding run-code
-    if-ran v r t ran r′ o n c e sp =
+    if-ran r t ran r′ o n c e sp =
         let w = if-there c bs at e sp k in
         let p = parts c e sp in
         let here = compared (w .mid) (w .stands) in
@@ -360,10 +359,10 @@ module _ (env : Env) (bs : List ℕ) (at fuel : ℕ) (s : Config) (k : byte-at b
         start
         ∙ ⊎-elim
         (λ h.
-        ocmp-holds env (at + 9) (ocmp-at bs (at + 9)) s (w .mid) x here one other v (λ z. omega (arith, h .0, z))
+        ocmp-holds env (at + 9) (ocmp-at bs (at + 9)) s (w .mid) x here one other read (λ z. omega (arith, h .0, z))
         ∙ ran-part (w .yes-part) (rw (h .1, h .2) (p .2)))
         (λ h.
-        ocmp-fails env (at + 9) (ocmp-at bs (at + 9)) s (w .mid) x here one other v (h .0)
+        ocmp-fails env (at + 9) (ocmp-at bs (at + 9)) s (w .mid) x here one other read (h .0)
         ∙ ran-part (w .no-part) (rw (h .1, h .2) (p .3)))
         way
         in
@@ -376,6 +375,7 @@ module _ (env : Env) (bs : List ℕ) (at fuel : ℕ) (s : Config) (k : byte-at b
 pub record Chosen (env : Env) (bs : List ℕ) (at : ℕ) (s : Config) (x : Compared) (part behind end : ℕ) : Type 0 where
   pub kind : byte-at bs at ≡ 0x21
   pub compared : ComparesAt env bs (at + 9) s x
+  pub read : x .how ≤ 1
   pub mid : ℕ
   pub mid-is : mid ≡ x .next + number-at 4 bs (at + 1)
   pub end-is : end ≡ mid + number-at 4 bs (at + 5)
@@ -385,14 +385,14 @@ module _ (env : Env) (bs : List ℕ) (at fuel : ℕ) (s : Config) (x : Compared)
     (w : Chosen env bs at s x part behind end) where
   pub chosen-there : CodeAt bs at → CodeAt bs part × CodesAt bs (codes-from bs part) behind × (at + 9 < part)
   chosen-there =
-      part-there env bs at fuel s (w .kind) x (w .compared) (w .mid) end part behind (w .mid-is) (w .end-is) (w .way)
+      part-there env bs at fuel s (w .kind) x (w .compared) (w .read) (w .mid) end part behind (w .mid-is) (w .end-is) (w .way)
 
   -- the exit of the part, with another place where it is done
   pub chosen-ran :
-      x .how ≤ 1 → (r : Exit) (t : Config) → RunsAll env bs (codes-from bs part) behind fuel (with-flags (env .fill) s) r t →
+      (r : Exit) (t : Config) → RunsAll env bs (codes-from bs part) behind fuel (with-flags (env .fill) s) r t →
       (r′ : Exit) → how r′ ≡ how r → (r′ .number ≡ 0 → r′ .place ≡ end) → Runs env bs at fuel s r′ t
   chosen-ran =
-      if-ran env bs at fuel s (w .kind) x (w .compared) (w .mid) end part behind (w .mid-is) (w .end-is) (w .way)
+      if-ran env bs at fuel s (w .kind) x (w .compared) (w .read) (w .mid) end part behind (w .mid-is) (w .end-is) (w .way)
 
 -- ---- a While: what holds at the head of the loop over its rounds
 pub record Looping (env : Env) (bs : List ℕ) (at fuel : ℕ) (s₀ : Config) (left : ℕ) (s : Config) : Type 0 where
@@ -469,13 +469,13 @@ module _ (env : Env) (bs : List ℕ) (at left : ℕ) (s : Config) (k : byte-at b
         (omega (arith, z)) (λ y. omega (arith, y, z))
 
     -- the body, and where the While ends
-    module _ (end : ℕ) (a : end ≡ x .next + number-at 4 bs (at + 1)) where
+    module _ (read : x .how ≤ 1) (end : ℕ) (a : end ≡ x .next + number-at 4 bs (at + 1)) where
       body-spelled :
           (c : Code) (e : ℕ) (h : Spells c bs at e) →
           let w = while-there c bs at e h k in (e ≡ end) × (w .mid ≡ x .next) × Spells (w .body) bs (x .next) end
       body-spelled c e h =
           let w = while-there c bs at e h k in
-          let m : w .mid ≡ x .next = sym (compared (w .mid) (w .stands) .next) in
+          let m : w .mid ≡ x .next = sym (compared (w .mid) (w .stands) .next read) in
           let l : e ≡ end = omega (arith, w .ends, m, a) in
           (l, m, respelled (w .body) bs _ _ _ _ m l (w .spelled))
 
@@ -490,7 +490,7 @@ module _ (env : Env) (bs : List ℕ) (at left : ℕ) (s : Config) (k : byte-at b
           let there : CodeAt bs (x .next) = record { code = w .body; end = end; spelled = p .2; inside = l } in
           (there, part-codes bs (x .next) (w .body) end (p .2) l, omega (arith, p .1, stands-past is-ocmp bs (at + 5) (w .mid) (w .stands)))
 
-      module _ (v : x .how ≤ 1) (y : x .how ≡ 0 → ⊥) (r : Exit) (t : Config)
+      module _ (y : x .how ≡ 0 → ⊥) (r : Exit) (t : Config)
           (ran : RunsAll env bs (codes-from bs (x .next)) end (left - 1) (with-flags (env .fill) s) r t) where
         body-ran :
             (c : Code) (e : ℕ) (h : Spells c bs at e) →
@@ -503,7 +503,7 @@ module _ (env : Env) (bs : List ℕ) (at left : ℕ) (s : Config) (k : byte-at b
             let w = while-there c bs at e h k in
             tested c e h
             ∙ ocmp-holds env (at + 5) (ocmp-at bs (at + 5)) s (w .mid) x (compared (w .mid) (w .stands))
-            (round env (run-code env (w .body)) at (at + 5) (w .test) s (left - 1)) (ends done) v y
+            (round env (run-code env (w .body)) at (at + 5) (w .test) s (left - 1)) (ends done) read y
 
         body-exit :
             (c : Code) (e : ℕ) (h : Spells c bs at e) →
@@ -536,19 +536,20 @@ pub record Round (env : Env) (bs : List ℕ) (at left : ℕ) (s : Config) (x : C
   pub kind : byte-at bs at ≡ 0x22
   pub some-fuel : left ≡ 0 → ⊥
   pub compared : ComparesAt env bs (at + 5) s x
+  pub read : x .how ≤ 1
   pub end-is : end ≡ x .next + number-at 4 bs (at + 1)
 
 module _ (env : Env) (bs : List ℕ) (at left : ℕ) (s : Config) (x : Compared) (end : ℕ) (w : Round env bs at left s x end) where
   pub round-ends : (c : Code) (e : ℕ) → Spells c bs at e → end ≡ e
-  round-ends = loop-ends env bs at left s (w .kind) (w .some-fuel) x (w .compared) end (w .end-is)
+  round-ends = loop-ends env bs at left s (w .kind) (w .some-fuel) x (w .compared) (w .read) end (w .end-is)
 
   pub round-there : CodeAt bs at → CodeAt bs (x .next) × CodesAt bs (codes-from bs (x .next)) end × (at + 5 < x .next)
-  round-there = body-there env bs at left s (w .kind) (w .some-fuel) x (w .compared) end (w .end-is)
+  round-there = body-there env bs at left s (w .kind) (w .some-fuel) x (w .compared) (w .read) end (w .end-is)
 
-  module _ (v : x .how ≤ 1) (y : x .how ≡ 0 → ⊥) (r : Exit) (t : Config)
+  module _ (y : x .how ≡ 0 → ⊥) (r : Exit) (t : Config)
       (ran : RunsAll env bs (codes-from bs (x .next)) end (left - 1) (with-flags (env .fill) s) r t) where
     pub round-goes : r .number ≡ 0 → (c : Code) (e : ℕ) → Spells c bs at e → run-code env c left s ≡ run-code env c (left - 1) t
-    round-goes = loop-goes env bs at left s (w .kind) (w .some-fuel) x (w .compared) end (w .end-is) v y r t ran
+    round-goes = loop-goes env bs at left s (w .kind) (w .some-fuel) x (w .compared) (w .read) end (w .end-is) y r t ran
 
     pub round-stops : (r .number ≡ 0 → ⊥) → (c : Code) (e : ℕ) → Spells c bs at e → run-code env c left s ≡ ends (how r) t
-    round-stops = loop-stops env bs at left s (w .kind) (w .some-fuel) x (w .compared) end (w .end-is) v y r t ran
+    round-stops = loop-stops env bs at left s (w .kind) (w .some-fuel) x (w .compared) (w .read) end (w .end-is) y r t ran

@@ -37,6 +37,13 @@ shift-kinds = each (λ (k : ℕ). checks-amount k ≡ true) 2 0x0d (refl ▹ ref
 pub no-shift : (k : ℕ) → Not 0x0d k → Not 0x0e k → checks-amount k ≡ false
 no-shift k f g = rw (ne-eqb k 0x0d f, ne-eqb k 0x0e g)
 
--- from 13 to 17, the kinds that are none of the first three
-pub past-15 : (k : ℕ) → 0x13 ≤ k → Not 0x13 k → Not 0x14 k → Not 0x15 k → 0x16 ≤ k
-past-15 k l f g h = omega arith
+-- the kinds of lanes that are none up to 12, and none up to 15
+past-12 : (k : ℕ) → 0x0f ≤ k → Not 0x0f k → Not 0x10 k → Not 0x11 k → Not 0x12 k → 0x13 ≤ k
+past-12 k l a b c d = omega arith
+
+from-13 : (k : ℕ) → 0x13 ≤ k → Not 0x13 k → Not 0x14 k → Not 0x15 k → 0x16 ≤ k
+from-13 k l a b c = omega arith
+
+pub past-15 :
+    (k : ℕ) → 0x0f ≤ k → Not 0x0f k → Not 0x10 k → Not 0x11 k → Not 0x12 k → Not 0x13 k → Not 0x14 k → Not 0x15 k → 0x16 ≤ k
+past-15 k l a b c d = from-13 k (past-12 k l a b c d)

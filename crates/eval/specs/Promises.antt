@@ -110,10 +110,10 @@ comparison k a b =
 abbrev pub OcmpAt : List ℕ → ℕ → Type 0
 OcmpAt bs at = (e : ℕ) × Stands is-ocmp bs at e × (e ≤ length bs)
 
--- what a Compared says: 1 where it holds, 0 where it does not, or the number of the check that fails; and the place behind
+-- what a Compared says: 1 where it holds, 0 where it does not, or the number of the check that fails; where that passes, the place behind
 pub record Compares (env : Env) (s : Config) (c : Ocmp) (end : ℕ) (r : Compared) : Type 0 where
   pub how : r .how ≡ cond (valid-ocmp env c s) (cond (eval-ocmp env c s) 1 0) 31
-  pub next : r .next ≡ end
+  pub next : r .how ≤ 1 → r .next ≡ end
 
 -- a Compared from s is that of the comparison that stands at a place
 abbrev pub ComparesAt : Env → List ℕ → ℕ → Config → Compared → Type 0

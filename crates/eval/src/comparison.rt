@@ -7,8 +7,8 @@ ghost use Rattle.code.specs.Records.{is-ocmp};
 ghost use Rattle.eval.specs.Promises.{environment, held, Cells, comparison, OcmpAt, ComparesAt};
 use crate::operand::load;
 
-// 0 where it does not hold, 1 where it holds, or the number of the check that fails; and the place
-// behind.
+// 0 where it does not hold, 1 where it holds, or the number of the check that fails; and, where both
+// operands were read, the place behind.
 pub struct Compared {
     pub how: u8,
     pub next: usize,
@@ -49,14 +49,14 @@ pub fn compare(
 {
     let a = load(code, at + 1, regs, addresses, tags, values);
     let second = a.next;
-    let b = load(code, second, regs, addresses, tags, values);
-    let next = b.next;
     if a.number != 0 {
         return Compared {
             how: a.number,
-            next,
+            next: second,
         };
     }
+    let b = load(code, second, regs, addresses, tags, values);
+    let next = b.next;
     if b.number != 0 {
         return Compared {
             how: b.number,

@@ -9,8 +9,8 @@ compare-spec =
     tie.close
     (tie.spec
     (λ c. search ocmp-fits) (λ c κs. search first-operand)
-    (λ c κs. let next = c .load .ensures 0 0 [] .next in search second-operand)
     (λ c. search says-unread)
+    (λ c κs. let next = c .before .before .load .ensures 0 0 [] .next in search second-operand)
     (λ c. search says-unread-second)
     (λ c. search ocmp-starts) (λ c κs. search)
     (λ c. search says-holds)

@@ -134,6 +134,7 @@ branch t c =
           record {
             kind = start .pre .1 .1 .0;
             compared = x .ensures (start .args .fill) (start .args .flags .now) (start .args .xmms .now);
+            read = c .before .before .before .before .before .before .if1 .left;
             mid = x .result .next + size .result;
             mid-is = ap (λ (n : ℕ). x .result .next + n) (size .ensures .0);
             end-is = ap (λ (n : ℕ). x .result .next + size .result + n) (other .ensures .0);
@@ -205,6 +206,7 @@ turn t c =
             kind = start .pre .1 .1 .0;
             some-fuel = answer .before .before .before .loop-test .taken;
             compared = x .ensures (start .args .fill) (head .loop .flags) (head .loop .xmms);
+            read = c .before .if1 .left;
             end-is = ap (λ (n : ℕ). x .result .next + n) (c .number4 .ensures .0);
           };
       looping = head .loop .inv;
