@@ -4,6 +4,7 @@
 //!     bench                  the kernels, the growth of cost and the stack, as lines of fields divided by tabs
 //!     bench quick            the same with fewer steps
 //!     bench agree FILE...    holds the interpreters to the proved evaluator on stored jobs
+//!     bench write FOLDER     the kernels as jobs, for beside.c; prints their files and steps
 //!     bench stack N          one deep run of N rounds at the largest fuel
 
 // Only what calls the C library may use it: the interpreters are safe Rust.
@@ -53,17 +54,28 @@ fn line(group: &str, size: u64, kernel: &Kernel, times: u32) {
     println!("{group}\t{name}\t{size}\t{proved:.4}\t{plain:.4}\t{decoded:.4}");
 }
 
-fn kernels(steps: u64, times: u32) {
-    let all = [
+fn timed(steps: u64) -> [Kernel; 6] {
+    [
         kernels::straight(steps),
         kernels::mixed(steps),
         kernels::deep(steps),
         kernels::memory(steps, 16),
         kernels::memory(steps, 1024),
         kernels::scattered(steps, 1024),
-    ];
-    for kernel in &all {
+    ]
+}
+
+fn kernels(steps: u64, times: u32) {
+    for kernel in &timed(steps) {
         line("kernel", kernel.steps, kernel, times);
+    }
+}
+
+fn write(folder: &str, steps: u64) {
+    for kernel in &timed(steps) {
+        let path = format!("{folder}/{}", kernel.name.replace([' ', ','], ""));
+        std::fs::write(&path, jobs::written(kernel)).expect("a folder to write to");
+        println!("{path} {}", kernel.steps);
     }
 }
 
@@ -115,6 +127,7 @@ fn main() {
     let words: Vec<&str> = words.iter().map(String::as_str).collect();
     match words[..] {
         ["agree", ref paths @ ..] => paths.iter().for_each(|path| jobs::agree(path)),
+        ["write", folder] => write(folder, 4_000_000),
         ["stack", rounds] => deep_run(rounds.parse().expect("a number of rounds")),
         ["quick"] => {
             kernels(2_400_000, 5);

@@ -1,0 +1,53 @@
+/*
+ * Times two libraries in one program, in turn, over jobs: before_job and after_job are pokchrei_job of each, renamed by
+ * beside.sh. Arguments are jobs and their steps. A line for each: its name, and the least nanoseconds a step of both.
+ */
+#include <stdint.h>
+#include <stdio.h>
+#include <stdlib.h>
+#include <string.h>
+#include <time.h>
+
+enum { TURNS = 3, ROOM = 65536, MOST = 1 << 17 };
+
+typedef size_t job_function(const uint8_t *input, size_t input_length, uint8_t out[ROOM]);
+job_function before_job, after_job;
+
+static uint8_t input[MOST], texts[2][ROOM];
+
+/* The least of a time and of one more run, in nanoseconds of the processor. */
+static double least(double best, job_function *job, size_t input_length, uint8_t *out, size_t *length)
+{
+    struct timespec start, end;
+    clock_gettime(CLOCK_PROCESS_CPUTIME_ID, &start);
+    *length = job(input, input_length, out);
+    clock_gettime(CLOCK_PROCESS_CPUTIME_ID, &end);
+    double time = (end.tv_sec - start.tv_sec) * 1e9 + (end.tv_nsec - start.tv_nsec);
+    return time < best ? time : best;
+}
+
+static void compare(const char *path, double steps)
+{
+    FILE *file = fopen(path, "rb");
+    if (!file) exit(1);
+    size_t input_length = fread(input, 1, MOST, file);
+    fclose(file);
+    double before = 1e18, after = 1e18;
+    size_t lengths[2];
+    for (int turn = 0; turn < TURNS; turn++) {
+        before = least(before, before_job, input_length, texts[0], &lengths[0]);
+        after = least(after, after_job, input_length, texts[1], &lengths[1]);
+    }
+    const char *name = strrchr(path, '/') + 1;
+    if (lengths[0] != lengths[1] || memcmp(texts[0], texts[1], lengths[0])) {
+        fprintf(stderr, "%s: the two end otherwise\n", name);
+        exit(1);
+    }
+    printf("%s %.4f %.4f\n", name, before / steps, after / steps);
+}
+
+int main(int count, char **words)
+{
+    for (int i = 1; i + 1 < count; i += 2) compare(words[i], atof(words[i + 1]));
+    return 0;
+}
