@@ -11,7 +11,7 @@ use lib.Seq.{getD-set-other}
 use borrow.Author.Tests.{eqb-false, not-true}
 use Rattle.words.specs.Words.{Four}
 use Rattle.words.proofs.LaneLaws.{Quad}
-use Rattle.machine.specs.Registers.{xmm-at, set-xmm, Words}
+use Rattle.machine.specs.Registers.{xmm-at, set-xmm, WordsBelow}
 use Rattle.machine.specs.Operands.{eval-maddr, valid-dst}
 use Rattle.machine.specs.Cells.{find-cell, cell-value, set-cell, is-cell}
 use Rattle.machine.specs.Bytes.{ByteMemory, wrap, read-bytes, write-bytes}
@@ -29,8 +29,8 @@ use Rattle.bytemachine.specs.ByteMachine.{write as put-to, with-flags as
 
 -- what a run keeps: words are words, and the cells are accepted ones
 pub record Kept (env : Env) (s : Config) : Type 0 where
-  pub regs-words : Words 16 (2 ^ 64) (s .regs)
-  pub xmms-words : Words 64 (2 ^ 32) (s .xmms)
+  pub regs-words : WordsBelow 16 (2 ^ 64) (s .regs)
+  pub xmms-words : WordsBelow 64 (2 ^ 32) (s .xmms)
   pub cells : Accepted (env .addresses) (env .tags) (s .values)
 
 pub xmm-quad : {env : Env} {s : Config} (x : ℕ) → Kept env s → Quad (xmm-at (s .xmms) x)

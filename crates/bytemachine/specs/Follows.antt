@@ -3,7 +3,7 @@ use Prim.Native.Nat.{ℕ, _≤_, _^_}
 use mathlib.Core.Path.{_≡_}
 use mathlib.Core.Option.{some}
 use mathlib.Core.List.{List}
-use Rattle.machine.specs.Registers.{Rsp, reg-at, Words}
+use Rattle.machine.specs.Registers.{Rsp, reg-at, WordsBelow}
 use Rattle.machine.specs.Bytes.{ByteMemory, Agree, Outside64}
 use Rattle.code.specs.Tree.{Code}
 use Rattle.code.specs.Reader.{got, parse}
@@ -14,8 +14,8 @@ use Rattle.bytemachine.specs.ByteMachine.{BState, exec}
 
 -- what every start meets: sixteen registers of 64 bits, and sixteen times four words of 32
 pub record IsStart (s : Config) : Type 0 where
-  pub regs-words : Words 16 (2 ^ 64) (s .regs)
-  pub xmms-words : Words 64 (2 ^ 32) (s .xmms)
+  pub regs-words : WordsBelow 16 (2 ^ 64) (s .regs)
+  pub xmms-words : WordsBelow 64 (2 ^ 32) (s .xmms)
 
 -- the machine's start: that of the run, over a memory
 abbrev pub over-bytes : Config → ByteMemory → BState

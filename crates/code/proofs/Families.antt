@@ -22,9 +22,6 @@ use Rattle.code.proofs.Layouts.{Shape, shaped, shape-of}
 use Rattle.code.proofs.Frames.{inside}
 
 -- ---- which kinds are whose
-pub ins-kinds : {bs : List ℕ} {at e : ℕ} → Stands is-ins bs at e → (1 ≤ byte-at bs at) × (byte-at bs at ≤ last-ins)
-ins-kinds {bs} {at} {e} st = between-true 0x01 last-ins (byte-at bs at) (st .head .kind)
-
 or-cases : (a b : Bool) → (a || b) ≡ true → (a ≡ true) ⊎ (b ≡ true)
 or-cases true b h = inl refl
 or-cases false b h = inr h

@@ -7,7 +7,7 @@ use base.Fml.{Fml}
 use mir.Val.{Val}
 use denote.Shadow.{shadow}
 use denote.Array.{each}
-use Rattle.machine.specs.Registers.{Words}
+use Rattle.machine.specs.Registers.{WordsBelow}
 
 same-length : (xs : List ℕ) → length (map (λ (v : ℕ). v) xs) ≡ length xs
 same-length [] = refl
@@ -22,5 +22,5 @@ module _ (own : ℕ → List Val → Fml) (bound : ℕ) (some : 0 < bound) (belo
 
   pub words-of :
       (n : ℕ) (xs : List ℕ) (us : List Val) →
-      length (map (λ (v : ℕ). v) xs) ≡ n → shadow (each ℕ own (map (λ (v : ℕ). v) xs) us) → Words n bound xs
+      length (map (λ (v : ℕ). v) xs) ≡ n → shadow (each ℕ own (map (λ (v : ℕ). v) xs) us) → WordsBelow n bound xs
   words-of n xs us h s = record { many = sym (same-length xs) ∙ h; small = each-below xs us s }

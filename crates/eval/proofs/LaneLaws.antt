@@ -15,7 +15,7 @@ use Rattle.code.specs.declared.tree.Instruction.{Instruction}
 use Rattle.code.specs.declared.tree.Instruction.the-variants.{Pshufd, Pextrq, VPSLLDQ}
 use Rattle.code.specs.Families.{is-quads, is-shifts, is-inserts, quads-ins, shifts-ins, inserts-ins}
 use Rattle.code.proofs.Families.{by-quads-ins, by-shifts-ins, by-inserts-ins}
-use Rattle.eval.specs.Config.{Env, Config, ends, done, check}
+use Rattle.eval.specs.Config.{Env, Config, check}
 use Rattle.eval.specs.Instructions.{quads-word, quads-flags, shifts-word, inserts-word, eval-operand, act, run-ins}
 use Rattle.eval.specs.Promises.{environment, held, Loads, Resolves, put-regs, put-values, how, Ran}
 use Rattle.eval.specs.declared.operand.Loaded.{Loaded}

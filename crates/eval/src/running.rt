@@ -16,11 +16,11 @@ use machine::Checked;
 use machine::State;
 use machine::check_cells;
 
-fn answer_of(exit: Exit) -> Answer
-    ensures { λ r. ⌜ outcome r ≡ how «exit» ⌝ }
+fn answer_of(ended: Exit) -> Answer
+    ensures { λ r. ⌜ outcome r ≡ how ended ⌝ }
 {
-    let number = exit.number;
-    let place = exit.place;
+    let number = ended.number;
+    let place = ended.place;
     if number == 0 {
         return Answer::Done;
     }

@@ -4,7 +4,7 @@ use mathlib.Core.List.{List}
 use native.Mathlib.Nat.{one-le-pow, zero-lt-suc}
 use lib.ListN.{getD}
 use lib.Seq.{getD-drop}
-use Rattle.machine.specs.Registers.{Words}
+use Rattle.machine.specs.Registers.{WordsBelow}
 use Rattle.code.specs.WellFormed.{Bytes}
 use Rattle.code.proofs.NumberLaws.{number-lt}
 use Rattle.eval.specs.Inputs.{IsInput}
@@ -18,7 +18,7 @@ module _ (bs : List ℕ) (bytes : Bytes bs) where
   numbers-small size step (suc n) at zero = number-lt bs bytes size at
   numbers-small size step (suc n) at (suc i) = numbers-small size step n (at + step) i
 
-  numbers-words : (size step n at : ℕ) → Words n (256 ^ size) (numbers size step n bs at)
+  numbers-words : (size step n at : ℕ) → WordsBelow n (256 ^ size) (numbers size step n bs at)
   numbers-words size step n at = record { many = length-numbers size step n bs at; small = numbers-small size step n at }
 
   pub job-input : IsInput (code-of bs) (state-of bs) (setting-of bs)

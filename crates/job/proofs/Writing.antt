@@ -6,8 +6,8 @@ use mathlib.Core.List.{List, [], _∷_, _++_}
 use native.Mathlib.Omega.{arith}
 use native.Mathlib.Nat.{add-zero, add-suc, suc-add, le-of-lt}
 use native.Mathlib.Numerals.{add-one}
-use lib.ListN.{length, length-append, set, getD, take, drop}
-use lib.Seq.{sets, sets-eq, take-append-seam, length-take-le, take-suc, take-length}
+use lib.ListN.{length, length-append, set, getD, take}
+use lib.Seq.{sets, length-take-le, take-suc, take-length}
 use Rattle.job.specs.Written.{Wrote}
 
 sets-append : (l : List ℕ) (i : ℕ) (a b : List ℕ) → sets (sets l i a) (i + length a) b ≡ sets l i (a ++ b)

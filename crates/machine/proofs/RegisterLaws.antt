@@ -8,7 +8,7 @@ use lib.ListN.{length, getD, set, length-set}
 use lib.Seq.{getD-set-same, getD-set-other}
 use Rattle.words.specs.Words.{Four}
 use Rattle.words.proofs.LaneLaws.{Quad}
-use Rattle.machine.specs.Registers.{xmm-at, set-xmm, Words}
+use Rattle.machine.specs.Registers.{xmm-at, set-xmm, WordsBelow}
 
 -- ---- four words from k on
 module _ (ws : List ℕ) (k a b c d : ℕ) where
@@ -89,10 +89,10 @@ all-set P (w ∷ ws) zero v h f (suc j) = f (suc j)
 all-set P (w ∷ ws) (suc i) v h f zero = f zero
 all-set P (w ∷ ws) (suc i) v h f (suc j) = all-set P ws i v h (λ k. f (suc k)) j
 
-pub words-set : (n bound : ℕ) (ws : List ℕ) (i v : ℕ) → v < bound → Words n bound ws → Words n bound (set ws i v)
+pub words-set : (n bound : ℕ) (ws : List ℕ) (i v : ℕ) → v < bound → WordsBelow n bound ws → WordsBelow n bound (set ws i v)
 words-set n bound ws i v h w = record { many = rw length-set (w .many); small = all-set (λ (x : ℕ). x < bound) ws i v h (w .small) }
 
-pub words-set-xmm : (n : ℕ) (ws : List ℕ) (i : ℕ) (q : Four ℕ) → Quad q → Words n (2 ^ 32) ws → Words n (2 ^ 32) (set-xmm ws i q)
+pub words-set-xmm : (n : ℕ) (ws : List ℕ) (i : ℕ) (q : Four ℕ) → Quad q → WordsBelow n (2 ^ 32) ws → WordsBelow n (2 ^ 32) (set-xmm ws i q)
 unfolding set-xmm
 words-set-xmm n ws i q h w =
     words-set n (2 ^ 32) _ (4 * i + 3) (q .hi3) (h .hi3-lt)
@@ -100,7 +100,7 @@ words-set-xmm n ws i q h w =
     (words-set n (2 ^ 32) _ (4 * i + 1) (q .lo1) (h .lo1-lt) (words-set n (2 ^ 32) ws (4 * i) (q .lo0) (h .lo0-lt) w)))
 
 -- an xmm of words is a quad of words
-pub xmm-below : (n : ℕ) (ws : List ℕ) (i : ℕ) → Words n (2 ^ 32) ws → Quad (xmm-at ws i)
+pub xmm-below : (n : ℕ) (ws : List ℕ) (i : ℕ) → WordsBelow n (2 ^ 32) ws → Quad (xmm-at ws i)
 unfolding xmm-at
 xmm-below n ws i w =
     record { lo0-lt = w .small (4 * i); lo1-lt = w .small (4 * i + 1); hi2-lt = w .small (4 * i + 2); hi3-lt = w .small (4 * i + 3) }

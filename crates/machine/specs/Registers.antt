@@ -41,12 +41,12 @@ set-xmm xmms i q =
     set (set (set (set xmms (4 * i) (q .lo0)) (4 * i + 1) (q .lo1)) (4 * i + 2) (q .hi2)) (4 * i + 3) (q .hi3)
 
 -- n words, each below a bound
-pub record Words (n bound : ℕ) (ws : List ℕ) : Type 0 where
+pub record WordsBelow (n bound : ℕ) (ws : List ℕ) : Type 0 where
   pub many : length ws ≡ n
   pub small : (i : ℕ) → getD ws i 0 < bound
 
 -- what every value of the type State meets
 pub record IsState (s : State) : Type 0 where
-  pub regs-words : Words 16 (2 ^ 64) (s .regs)
-  pub xmms-words : Words 64 (2 ^ 32) (s .xmms)
+  pub regs-words : WordsBelow 16 (2 ^ 64) (s .regs)
+  pub xmms-words : WordsBelow 64 (2 ^ 32) (s .xmms)
   pub flags-word : s .flags < 2 ^ 64

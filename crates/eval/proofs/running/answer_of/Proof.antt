@@ -9,6 +9,6 @@ pub answer-of-spec : {M : Type 1} → statement M
 answer-of-spec =
     tie.close
     (tie.spec
-    (λ c. sym (how-done (c .before .args .exit) (c .if1 .taken)))
+    (λ c. sym (how-done (c .before .args .ended) (c .if1 .taken)))
     (λ c. search how-spent)
     (λ c. search how-fault))

@@ -1,6 +1,4 @@
 -- Each test decides its part of the conjunction.
-use Prim.Native.Nat.{ℕ}
-use mathlib.Core.Path.{_≡_}
 use borrow.Author.Tests.{eq-eqb, ne-eqb}
 use Rattle.job.proofs.lines.is_zero.Statement.{statement}
 use Rattle.job.proofs.lines.is_zero.Tie as tie

@@ -1,9 +1,8 @@
 -- In each turn the cells from i on are left to print.
 use Prim.Native.Nat.{_+_, _*_, _-_, _≤_}
-use mathlib.Core.Path.{_≡_}
 use native.Mathlib.Omega.{arith}
 use borrow.Author.Needs.{needs}
-use lib.ListN.{drop, length}
+use lib.ListN.{length}
 use Rattle.job.specs.Text.{cell-lines}
 use Rattle.job.proofs.Writing.{Left, left-all, left-less, left-none}
 use Rattle.job.proofs.Rests.{cells-from, cells-rest, cells-none}

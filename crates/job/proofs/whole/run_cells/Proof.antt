@@ -1,8 +1,6 @@
 -- The parts that are lent are as long as the job says.
-use Prim.Native.Nat.{_≤_}
 use mathlib.Core.Path.{_≡_, sym, _∙_}
 use native.Mathlib.Omega.{arith}
-use lib.ListN.{length}
 use lib.Seq.{length-take-le}
 use Rattle.job.specs.Job.{count-of}
 use Rattle.job.proofs.Outputs.{lent-part}
