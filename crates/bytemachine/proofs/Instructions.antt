@@ -26,7 +26,7 @@ use Rattle.code.specs.WellFormed.{WfTwo, WfIns}
 use Rattle.eval.specs.Config.{Env, Config, with-flags, with-regs, End, ends, done, fault, check}
 use Rattle.eval.specs.Instructions.{add-flags, two-word, two-flags, quads-word, quads-flags, shifts-word, inserts-word, eval-operand, update-operand, act, run-ins}
 use Rattle.eval.proofs.Shapes.{read-check, amount-check, write, write-xmm, write-halves, halves-kept}
-use Rattle.bytemachine.specs.ByteMachine.{BState, read, step}
+use Rattle.bytemachine.specs.ByteMachine.{BState, read, exec-ins}
 use Rattle.bytemachine.specs.ByteMachine.{write as put-to, with-flags as flagged, write-xmm as put-xmm, with-regs as regs-put}
 use Rattle.bytemachine.proofs.Operands.{Kept, xmm-quad, set-xmm-kept, with-flags-kept, operand-small, dst-valid, lay, reads, Follows, follows-flags, puts, put-flags}
 
@@ -130,8 +130,8 @@ module _ (env : Env) (memory : ByteMemory) where
         (record { same = ap (put-to dst-hi hi) (low .same) ∙ high .same; kept = high .kept; rsp = high .rsp ∙ low .rsp })
 
     -- ---- an instruction
-    pub follows-ins : (p : ℕ) (i : Instruction) → WfIns i → run-ins env p i s ≡ ends done t → Goes (step (env .fill) i (at s)) s t
-    unfolding WfIns run-ins act step two-word two-flags quads-word quads-flags shifts-word inserts-word
+    pub follows-ins : (p : ℕ) (i : Instruction) → WfIns i → run-ins env p i s ≡ ends done t → Goes (exec-ins (env .fill) i (at s)) s t
+    unfolding WfIns run-ins act exec-ins two-word two-flags quads-word quads-flags shifts-word inserts-word
     follows-ins p (Mov64 dst src) fits e = unflagged dst _ (combined p dst src (λ a b. b) (λ a b. s .flags) fits (λ a b h k. k) e)
     follows-ins p (Add64 dst src) fits e =
         combined p dst src (λ a b. sum-mod 64 (a + b)) (λ a b. add-flags (env .fill) (s .flags) a b 0) fits (λ a b h k. sum-mod-lt 64 _) e

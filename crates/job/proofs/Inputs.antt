@@ -12,14 +12,14 @@ use Rattle.job.specs.Job.{numbers, code-at, code-of, state-of, setting-o
 use Rattle.job.proofs.Outputs.{length-numbers}
 
 module _ (bs : List ℕ) (bytes : Bytes bs) where
-  numbers-small : (size step n at i : ℕ) → getD (numbers size step n bs at) i 0 < 256 ^ size
+  numbers-small : (size stride n at i : ℕ) → getD (numbers size stride n bs at) i 0 < 256 ^ size
   unfolding numbers
-  numbers-small size step zero at i = one-le-pow size 256 (zero-lt-suc 255)
-  numbers-small size step (suc n) at zero = number-lt bs bytes size at
-  numbers-small size step (suc n) at (suc i) = numbers-small size step n (at + step) i
+  numbers-small size stride zero at i = one-le-pow size 256 (zero-lt-suc 255)
+  numbers-small size stride (suc n) at zero = number-lt bs bytes size at
+  numbers-small size stride (suc n) at (suc i) = numbers-small size stride n (at + stride) i
 
-  numbers-words : (size step n at : ℕ) → WordsBelow n (256 ^ size) (numbers size step n bs at)
-  numbers-words size step n at = record { many = length-numbers size step n bs at; small = numbers-small size step n at }
+  numbers-words : (size stride n at : ℕ) → WordsBelow n (256 ^ size) (numbers size stride n bs at)
+  numbers-words size stride n at = record { many = length-numbers size stride n bs at; small = numbers-small size stride n at }
 
   pub job-input : IsInput (code-of bs) (state-of bs) (setting-of bs)
   job-input =

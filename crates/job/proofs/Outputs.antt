@@ -1,4 +1,4 @@
--- What the steps of a job leave is what the job's definition says: a refusal's line alone, or the rendered end of the run.
+-- What the parts of a job leave is what the job's definition says: a refusal's line alone, or the rendered end of the run.
 use Prim.Native.Nat.{ℕ, zero, suc, _+_, _-_, _≤_}
 use mathlib.Core.Path.{_≡_, refl, sym, ap, _∙_}
 use mathlib.Core.List.{List, _++_, append-nil}
@@ -15,14 +15,14 @@ use Rattle.job.specs.Text.{first-line, render}
 use Rattle.job.specs.Job.{numbers, fuel-of, fill-of, env-of, start-of, Holding, code-at, check-job, end-checked, run-of-job, printed, output, lent-list}
 use Rattle.job.specs.Written.{Wrote, Printed}
 
-pub length-numbers : (size step n : ℕ) (bs : List ℕ) (at : ℕ) → length (numbers size step n bs at) ≡ n
+pub length-numbers : (size stride n : ℕ) (bs : List ℕ) (at : ℕ) → length (numbers size stride n bs at) ≡ n
 unfolding numbers
-length-numbers size step zero bs at = refl
-length-numbers size step (suc n) bs at = ap suc (length-numbers size step n bs (at + step))
+length-numbers size stride zero bs at = refl
+length-numbers size stride (suc n) bs at = ap suc (length-numbers size stride n bs (at + stride))
 
 -- as many as the job says
-pub length-read : (size step n : ℕ) (bs : List ℕ) (at : ℕ) {xs : List ℕ} → xs ≡ numbers size step n bs at → length xs ≡ n
-length-read size step n bs at e = ap length e ∙ length-numbers size step n bs at
+pub length-read : (size stride n : ℕ) (bs : List ℕ) (at : ℕ) {xs : List ℕ} → xs ≡ numbers size stride n bs at → length xs ≡ n
+length-read size stride n bs at e = ap length e ∙ length-numbers size stride n bs at
 
 -- what stands behind the cells
 pub behind-cells :

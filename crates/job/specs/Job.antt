@@ -14,10 +14,10 @@ use Rattle.eval.specs.declared.answer.Setting.{Setting}
 use Rattle.eval.specs.Running.{run-of}
 use Rattle.job.specs.Text.{render}
 
--- n numbers of `size` bytes each, `step` bytes apart
+-- n numbers of `size` bytes each, `stride` bytes apart
 unfoldable pub numbers : ℕ → ℕ → ℕ → List ℕ → ℕ → List ℕ
-numbers size step zero bs at = []
-numbers size step (suc n) bs at = number-at size bs at ∷ numbers size step n bs (at + step)
+numbers size stride zero bs at = []
+numbers size stride (suc n) bs at = number-at size bs at ∷ numbers size stride n bs (at + stride)
 
 -- the fuel
 abbrev pub fuel-of : List ℕ → ℕ

@@ -11,16 +11,16 @@ use eval::Setting;
 use machine::Checked;
 use machine::State;
 
-// Numbers of eight bytes, `step` bytes apart.
-pub fn read_words(input: &[u8], from: usize, step: usize, to: &mut [u64])
-    requires { ⌜ (step ≤ 17) × (from + step * length (now to) + 8 ≤ length (now input) + step) ⌝ }
-    ensures { λ _. ⌜ now (to .exit) ≡ numbers 8 step (length (now (to .entry))) (now (input .entry)) from ⌝ }
+// Numbers of eight bytes, `stride` bytes apart.
+pub fn read_words(input: &[u8], from: usize, stride: usize, to: &mut [u64])
+    requires { ⌜ (stride ≤ 17) × (from + stride * length (now to) + 8 ≤ length (now input) + stride) ⌝ }
+    ensures { λ _. ⌜ now (to .exit) ≡ numbers 8 stride (length (now (to .entry))) (now (input .entry)) from ⌝ }
 {
     let mut at = from;
     let mut i = 0;
     while i < to.len() {
         to[i] = number8(input, at);
-        at += step;
+        at += stride;
         i += 1;
     }
 }

@@ -1,31 +1,31 @@
--- In each turn the first i numbers are read, and the next one stands i steps behind the first.
+-- In each turn the first i numbers are read, and the next one stands i strides behind the first.
 use Prim.Native.Nat.{_+_, _*_, _-_, _<_}
 use mathlib.Core.Path.{_≡_, ap, _∙_}
 use native.Mathlib.Omega.{arith}
 use borrow.Author.Needs.{needs}
 use lib.ListN.{length}
-use Rattle.job.proofs.Numbers.{Taken, taken-none, taken-more, taken-all, steps-more, steps-within}
+use Rattle.job.proofs.Numbers.{Taken, taken-none, taken-more, taken-all, strides-more, strides-within}
 use Rattle.code.specs.Records.{number-at}
 use Rattle.job.proofs.read.read_words.Statement.{statement}
 use Rattle.job.proofs.read.read_words.Tie as tie
 
 abbrev Inv-loop : tie.InvT-loop
-Inv-loop input from step to₀ at₀ i₀ to at i =
-    (at ≡ from + step * i) × Taken 8 step input from to₀ i to
+Inv-loop input from stride to₀ at₀ i₀ to at i =
+    (at ≡ from + stride * i) × Taken 8 stride input from to₀ i to
 
 abbrev μ-loop : tie.MeasureT-loop
-μ-loop input from step to₀ at₀ i₀ to at i = length to₀ - i
+μ-loop input from stride to₀ at₀ i₀ to at i = length to₀ - i
 
 loop-holds : tie.Need-loop-holds Inv-loop μ-loop
 loop-holds c =
     let args = c .before .before .args in
-    (omega arith, taken-none 8 (args .step) (args .input .now) (args .from) (args .to .now))
+    (omega arith, taken-none 8 (args .stride) (args .input .now) (args .from) (args .to .now))
 
 number8-requires : tie.Need-number8-requires Inv-loop μ-loop
 number8-requires c κs =
     let args = c .before .before .before .before .args in
     let inside : c .before .loop .i < length (args .to .now) = omega arith in
-    let within = steps-within (args .step) inside in
+    let within = strides-within (args .stride) inside in
     omega arith
 
 mul-to : tie.Need-mul-to Inv-loop μ-loop
@@ -38,7 +38,7 @@ add-at : tie.Need-add-at Inv-loop μ-loop
 add-at c =
     let args = c .before .before .before .before .before .args in
     let inside : c .before .before .loop .i < length (args .to .now) = omega arith in
-    let within = steps-within (args .step) inside in
+    let within = strides-within (args .stride) inside in
     omega arith
 
 add-i : tie.Need-add-i Inv-loop μ-loop
@@ -51,7 +51,7 @@ loop-again : tie.Need-loop-again Inv-loop μ-loop
 loop-again c =
     let args = c .before .before .before .before .before .args in
     let loop = c .before .before .loop in
-    let more = steps-more (args .step) (loop .i) in
+    let more = strides-more (args .stride) (loop .i) in
     let value = c .number8 .ensures ∙ ap (number-at 8 (args .input .now)) (loop .inv .0) in
     (omega arith, taken-more (loop .inv .1) (omega arith) value)
 
