@@ -1,4 +1,4 @@
-// How an instruction or a code of the run ended, in two numbers: the evaluator hands them back in registers.
+// How an instruction or a code of the run ended, in two numbers, which cost no match on the way.
 
 // 0, and the place behind the code that was done; 1, and the place of a While that found no fuel; or the number of the
 // check that failed, and its place.
