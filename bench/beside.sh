@@ -1,13 +1,12 @@
 #!/bin/sh
-# Times an earlier static library and this one in one program, at many placements: where a function lies moves its time
-# by more than what two versions differ by. At each placement every function of both gets an alignment of its own, from
-# a seed, and the two stand in turn before each other. Prints the mean nanoseconds a step of both, and the mean of the
-# ratios with its standard error.
+# Times an earlier static library and this one in one program, at many placements: where a library lies moves its time by
+# more than what two versions differ by. A placement puts both at offsets of their own from a page, the one or the other
+# first. Prints the mean nanoseconds a step of both, and the mean of the ratios with its standard error.
 #
-#     bench/beside.sh FOLDER [PLACEMENTS]     FOLDER has the earlier libcapi.a; 24 placements take half a minute
+#     bench/beside.sh FOLDER [PLACEMENTS]     FOLDER has the earlier libcapi.a; 32 placements take a minute
 set -eu
 earlier=$(cd "$1" && pwd)
-placements=${2:-24}
+placements=${2:-32}
 cd "$(dirname "$0")/.."
 rt staticlib capi >target/beside.say 2>&1 || { cat target/beside.say; exit 1; }
 cargo build --release --offline --quiet --manifest-path bench/Cargo.toml --target-dir target/bench
@@ -16,18 +15,23 @@ rm -rf "$work"
 mkdir -p "$work/jobs"
 jobs=$(target/bench/release/bench write "$work/jobs")
 
-# LIBRARY NAME SEED: one object, whose only name is NAME_job.
-place() {
+# LIBRARY NAME: one object, whose only name is NAME_job.
+whole() {
     ld -r --whole-archive -o "$work/whole.o" "$1"
-    aligned=$(objdump -h "$work/whole.o" |
-        awk -v seed="$3" 'BEGIN { srand(seed) } $2 ~ /^\.text\./ { print "--set-section-alignment " $2 "=" 2 ^ int(4 + 7 * rand()) }')
-    objcopy $aligned --redefine-sym pokchrei_job="$2_job" --keep-global-symbol="$2_job" "$work/whole.o" "$work/$2.o"
+    objcopy --redefine-sym pokchrei_job="$2_job" --keep-global-symbol="$2_job" "$work/whole.o" "$work/$2.o"
 }
 
-for seed in $(seq "$placements"); do
-    place "$earlier/libcapi.a" before "$seed"
-    place target/staticlib/libcapi.a after "$((seed + placements))"
-    if [ $((seed % 2)) -eq 0 ]; then order="before.o after.o"; else order="after.o before.o"; fi
+# NAME OFFSET: an object of code that ends OFFSET bytes behind the start of a page.
+pad() {
+    printf '.section .text.pad,"ax"\n.balign 4096\n.skip %d\n.section .note.GNU-stack,"",@progbits\n' "$2" | as -o "$work/$1.o" -
+}
+
+whole "$earlier/libcapi.a" before
+whole target/staticlib/libcapi.a after
+for i in $(seq "$placements"); do
+    pad one "$((i * 7919 % 256 * 16))"
+    pad other "$((i * 104729 % 256 * 16))"
+    if [ $((i % 2)) -eq 0 ]; then order="one.o before.o other.o after.o"; else order="one.o after.o other.o before.o"; fi
     (cd "$work" && cc -O2 -o beside ../../bench/beside.c $order)
     "$work/beside" $jobs
 done >"$work/times"

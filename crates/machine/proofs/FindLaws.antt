@@ -10,7 +10,7 @@ use borrow.Author.Tests.{ltb-true, ltb-false, eqb-true, eqb-false, eq-eqb}
 use lib.Dec.{eqb, ltb}
 use lib.IntN.{ℤ, pos, negsuc}
 use lib.ListN.{length, getD}
-use Rattle.machine.specs.Cells.{eqℤ, later, find-cell, Ascending, Searchable}
+use Rattle.machine.specs.Cells.{eqℤ, later, find-cell, Ascending, Part, Searchable}
 
 -- ---- one probe of the search
 module _ (xs : List ℕ) (up : Ascending xs) (m z : ℕ) (h : m < length xs) where
@@ -41,14 +41,14 @@ module _ (xs : List ℕ) (up : Ascending xs) (m z : ℕ) (h : m < length xs) whe
 pub only-there : (xs : List ℕ) → Ascending xs → (z m : ℕ) → m < length xs → getD xs m 0 ≡ z → (k : ℕ) → k < length xs → getD xs k 0 ≡ z → k ≡ m
 only-there xs up z m h e k l q = omega (arith, upper xs up m z h (omega arith) k q, upper xs up k z l (omega arith) m e)
 
--- the part that is left: an index with the address z lies in it
-pub record Part (xs : List ℕ) (z low high : ℕ) : Type 0 where
-  pub more : low < high
-  pub within : high ≤ length xs
-  pub only : (k : ℕ) → k < length xs → getD xs k 0 ≡ z → (low ≤ k) × (k < high)
-
+-- ---- the part that is left
 pub whole : (xs : List ℕ) (z : ℕ) → 0 < length xs → Part xs z 0 (length xs)
 whole xs z h = record { more = h; within = omega arith; only = λ k l e. (omega arith, l) }
+
+-- the cell at m begins above the address
+pub up-to : (xs : List ℕ) → Ascending xs → (z m : ℕ) → m < length xs → z < getD xs m 0 → Part xs z 0 (m + 1)
+up-to xs up z m h l =
+    record { more = omega arith; within = omega arith; only = λ k b e. (omega arith, omega (arith, lower xs up m z h l k b e)) }
 
 module _ (xs : List ℕ) (up : Ascending xs) (z low high m : ℕ) (part : Part xs z low high) (two : 1 < high - low) (is : m ≡ low + (high - low) / 2) where
   pub keep-upper : getD xs m 0 ≤ z → Part xs z m high

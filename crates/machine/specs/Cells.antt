@@ -66,6 +66,12 @@ later (some i) = some (suc i)
 abbrev pub Ascending : List ℕ → Type 0
 Ascending xs = (i j : ℕ) → i < j → j < length xs → getD xs i 0 < getD xs j 0
 
+-- the part that a search has left, from low to high: an index with the address z lies in it
+pub record Part (xs : List ℕ) (z low high : ℕ) : Type 0 where
+  pub more : low < high
+  pub within : high ≤ length xs
+  pub only : (k : ℕ) → k < length xs → getD xs k 0 ≡ z → (low ≤ k) × (k < high)
+
 -- what a search asks of the cells; accepted ones have it
 pub record Searchable (xs ts : List ℕ) : Type 0 where
   pub tags : length ts ≡ length xs

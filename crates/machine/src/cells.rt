@@ -17,7 +17,7 @@ ghost use lib.IntN.{pos};
 ghost use lib.ListN.{length, getD};
 ghost use Rattle.machine.specs.Operands.{NamesRegisters, eval-maddr};
 ghost use Rattle.machine.specs.Wide.{number};
-ghost use Rattle.machine.specs.Cells.{verdict, check-cells, check-from, cell-rule, is-tag, SameLengths, Ascending, Searchable, index-of, find-cell};
+ghost use Rattle.machine.specs.Cells.{verdict, check-cells, check-from, cell-rule, is-tag, SameLengths, Ascending, Part, Searchable, index-of, find-cell};
 
 // The largest value of a cell with this tag; 0 where it is no tag.
 fn largest(tag: u8) -> u64
@@ -96,15 +96,16 @@ pub fn check_cells(addresses: &[u64], tags: &[u8], values: &[u64]) -> Checked
     check_each(addresses, tags, values)
 }
 
-// The one index where an address can stand: halves the part that is left, one comparison each. Both ends move, so that this
-// is compiled to a branch, which a kernel's loop makes predictable, and not to a chain of conditional moves.
-fn only_place(addresses: &[u64], address: u64) -> usize
-    requires { ⌜ (0 < length (now addresses)) × Ascending (now addresses) ⌝ }
+// The one index where an address can stand, before `above`: halves the part that is left, one comparison each. Both ends move,
+// so that this is compiled to a branch, which a kernel's loop makes predictable, and not to a chain of conditional moves.
+fn only_place(addresses: &[u64], address: u64, above: usize) -> usize
+    requires { ⌜ Ascending (now addresses) ⌝ }
+    requires { ⌜ Part (now addresses) address 0 above ⌝ }
     ensures { λ r. ⌜ r < length (now (addresses .entry)) ⌝ }
     ensures { λ r. ⌜ ((k : ℕ) → k < length (now (addresses .entry)) → getD (now (addresses .entry)) k 0 ≡ address → k ≡ r) ⌝ }
 {
     let mut low = 0;
-    let mut high = addresses.len();
+    let mut high = above;
     while 1 < high - low {
         let middle = low + (high - low) / 2;
         if addresses[middle] <= address {
@@ -116,20 +117,25 @@ fn only_place(addresses: &[u64], address: u64) -> usize
     low
 }
 
-// The one index where an address can stand. Cells are mostly 64-bit words in a row, so that place is looked at first.
+// The one index where an address can stand. Cells are mostly 64-bit words in a row, so that place is looked at first. Where the
+// cell there begins above the address, only those before it are searched.
 fn place_of(addresses: &[u64], address: u64) -> usize
     requires { ⌜ (0 < length (now addresses)) × Ascending (now addresses) ⌝ }
     ensures { λ r. ⌜ r < length (now (addresses .entry)) ⌝ }
     ensures { λ r. ⌜ ((k : ℕ) → k < length (now (addresses .entry)) → getD (now (addresses .entry)) k 0 ≡ address → k ≡ r) ⌝ }
 {
+    let mut above = addresses.len();
     let guess = wrapping_sub_u64(address, addresses[0]) / 8;
     if guess < addresses.len() as u64 {
         let at = guess as usize;
         if addresses[at] == address {
             return at;
         }
+        if address < addresses[at] {
+            above = at + 1;
+        }
     }
-    only_place(addresses, address)
+    only_place(addresses, address, above)
 }
 
 // The index of the 64-bit cell at an address. Of 1,024 cells it looks at 13 addresses at most, at 3 where the first look is right,

@@ -3,18 +3,19 @@
 use Prim.Native.Nat.{_-_}
 use mathlib.Core.Path.{refl}
 use native.Mathlib.Omega.{arith}
-use Rattle.machine.proofs.FindLaws.{Part, whole, keep-upper, keep-lower, last-left}
+use Rattle.machine.specs.Cells.{Part}
+use Rattle.machine.proofs.FindLaws.{keep-upper, keep-lower, last-left}
 use Rattle.machine.proofs.cells.only_place.Statement.{statement}
 use Rattle.machine.proofs.cells.only_place.Tie as tie
 
 abbrev Inv-loop : tie.InvT-loop
-Inv-loop addresses address low₀ high₀ low high = Part addresses address low high
+Inv-loop addresses address above low₀ high₀ low high = Part addresses address low high
 
 abbrev μ-loop : tie.MeasureT-loop
-μ-loop addresses address low₀ high₀ low high = high - low
+μ-loop addresses address above low₀ high₀ low high = high - low
 
 loop-holds : tie.Need-loop-holds Inv-loop μ-loop
-loop-holds c = whole (c .args .addresses .now) (c .args .address) (c .pre .0)
+loop-holds c = c .pre .1
 
 sub-loop : tie.Need-sub-loop Inv-loop μ-loop
 sub-loop c = omega arith
@@ -38,7 +39,7 @@ loop-again : tie.Need-loop-again Inv-loop μ-loop
 loop-again c =
     let s = c .before .before .before .before in
     let l = c .before .before .before .loop in
-    keep-upper (s .args .addresses .now) (s .pre .1) (s .args .address) (l .low) (l .high) _ (l .inv) (c .before .before .loop-test .taken) refl (c .if1 .taken)
+    keep-upper (s .args .addresses .now) (s .pre .0) (s .args .address) (l .low) (l .high) _ (l .inv) (c .before .before .loop-test .taken) refl (c .if1 .taken)
 
 loop-less-2 : tie.Need-loop-less-2 Inv-loop μ-loop
 loop-less-2 c = omega arith
@@ -47,7 +48,7 @@ loop-again-2 : tie.Need-loop-again-2 Inv-loop μ-loop
 loop-again-2 c =
     let s = c .before .before .before .before in
     let l = c .before .before .before .loop in
-    keep-lower (s .args .addresses .now) (s .pre .1) (s .args .address) (l .low) (l .high) _ (l .inv) (c .before .before .loop-test .taken) refl (c .if1 .left)
+    keep-lower (s .args .addresses .now) (s .pre .0) (s .args .address) (l .low) (l .high) _ (l .inv) (c .before .before .loop-test .taken) refl (c .if1 .left)
 
 returns : tie.Need-returns Inv-loop μ-loop
 returns c =
