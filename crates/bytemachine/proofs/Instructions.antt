@@ -22,7 +22,8 @@ use Rattle.machine.proofs.RegisterLaws.{words-set}
 use Rattle.machine.specs.declared.Operand.{Operand}
 use Rattle.code.specs.declared.tree.Instruction.{Instruction}
 use Rattle.code.specs.declared.tree.Instruction.the-variants.{Mov64, Add64, AddLea64, AddCarry64, Adcx64, Adox64, Sub64, Mul64, Mulx64, IMul64, Xor64, And64, Shr64, Shl64, Paddd, Pxor, Pslld, Psrld, Pshufd, Pcmpeqd, Pextrq, Pinsrd, Pinsrq, VPSLLDQ}
-use Rattle.code.specs.WellFormed.{WfTwo, WfIns}
+use Rattle.code.specs.WellFormed.{WfIns}
+use Rattle.code.proofs.Accepted.{WfTwo}
 use Rattle.eval.specs.Config.{Env, Config, with-flags, with-regs, End, ends, done, fault, check}
 use Rattle.eval.specs.Instructions.{add-flags, two-word, two-flags, quads-word, quads-flags, shifts-word, inserts-word, eval-operand, update-operand, act, run-ins}
 use Rattle.eval.proofs.Shapes.{read-check, amount-check, write, write-xmm, write-halves, halves-kept}

@@ -9,6 +9,7 @@ use borrow.Author.Tests.{ltb-true, ltb-false}
 use lib.Dec.{ltb}
 use lib.IntN.{pos, negsuc}
 use lib.ListN.{length, getD}
+use Rattle.machine.specs.declared.Operand.{Operand}
 use Rattle.code.specs.Layout.{Byte, number, amount, numbers-from, shape}
 use Rattle.code.specs.Tree.{Code, Ins, Block, IfElse, While, Codes, ⟨⟩, _∷ᶜ_}
 use Rattle.code.specs.Records.{is-ins, is-ocmp, is-operand, body-length, operand-count, register-fields, byte-at, number-at, signed-at, operand-at, behind, bytes-at, operands-at, ins-at, ocmp-at}
@@ -20,6 +21,10 @@ use Rattle.code.proofs.NumberLaws.{number-lt}
 use Rattle.code.proofs.KindLaws.{each, _▹_}
 use Rattle.code.proofs.Layouts.{ins-body, ins-fields, like, firsts, ins-laid, ocmp-laid, WfBytes, WfOperands, bounded}
 use Rattle.code.proofs.Sound.{parse-sound}
+
+-- two operands
+abbrev pub WfTwo : Operand → Operand → Type 0
+WfTwo a b = WfOperand a × WfOperand b
 
 -- numbers of bytes
 module _ (bs : List ℕ) (bytes : Bytes bs) where

@@ -42,10 +42,6 @@ WfOperand (OConst n) = n < 2 ^ 64
 WfOperand (OReg r) = WfReg r
 WfOperand (OMem m) = WfMaddr m
 
--- two operands
-abbrev pub WfTwo : Operand → Operand → Type 0
-WfTwo a b = WfOperand a × WfOperand b
-
 -- a byte of a body
 abbrev pub WfByte : Byte → Type 0
 WfByte (number n) = Number n

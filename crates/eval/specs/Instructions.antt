@@ -44,11 +44,8 @@ two-word k flags a b =
     (at-kind k 0x0d (ishr a b)
     (at-kind k 0x0e (ishl 64 a b) 0))))))))))
 
--- the kinds of Shr64 and Shl64, whose amount is checked
-abbrev pub checks-amount : ℕ → Bool
-checks-amount k = eqb k 0x0d || eqb k 0x0e
-
--- the flags that it leaves: those of Mov64 are kept, and the others are the fill word's but for what is named
+-- the flags that it leaves: Mov64 keeps the old ones, sums change one of them, Xor64 clears two of the fill word's, and the others leave the
+-- fill word
 unfoldable pub two-flags : (k fill flags a b : ℕ) → ℕ
 two-flags k fill flags a b =
     at-kind k 0x01 flags
@@ -57,6 +54,10 @@ two-flags k fill flags a b =
     (at-kind k 0x05 (update-cf flags (sum-carry 64 (a + b + bit (cf flags))))
     (at-kind k 0x06 (update-of flags (sum-carry 64 (a + b + bit (overflow flags))))
     (at-kind k 0x0b (update-cf (update-of fill false) false) fill)))))
+
+-- the kinds of Shr64 and Shl64, whose amount is checked
+abbrev pub checks-amount : ℕ → Bool
+checks-amount k = eqb k 0x0d || eqb k 0x0e
 
 -- the quad that Paddd, Pxor and Pcmpeqd write, of the quads x of the destination and y of the source
 unfoldable pub quads-word : ℕ → Four ℕ → Four ℕ → Four ℕ
@@ -77,7 +78,7 @@ inserts-word k q word index =
 
 -- what an instruction does in a configuration
 pub record Act : Type 0 where
-  -- the checks of what it reads, in order: whether each passes, and its number
+  -- the checks before those of its destinations, in order: whether each passes, and its number
   pub checks : List (Bool × ℕ)
   -- the words for its destinations, in the order of writing
   pub words : List (Operand × ℕ)

@@ -167,10 +167,10 @@ module _ (code : Lent (List ℕ)) (fill : ℕ) (regs xmms : Lent (List ℕ)) (fl
   abbrev pub EvaluatesIns : ℕ → Exit → Type 0
   EvaluatesIns at r = RunsIns env (now (code .entry)) at given r left
 
-  -- those of the code at a place, with fuel
+  -- what is left, and the exit, are those of the code at a place, with fuel
   abbrev pub Evaluates : ℕ → ℕ → Exit → Type 0
   Evaluates at fuel r = Runs env (now (code .entry)) at fuel given r left
 
-  -- those of the list of codes between two places, with fuel
+  -- what is left, and the exit, are those of the list of codes between two places, with fuel
   abbrev pub EvaluatesAll : ℕ → ℕ → ℕ → Exit → Type 0
   EvaluatesAll from end fuel r = RunsAll env (now (code .entry)) from end fuel given r left

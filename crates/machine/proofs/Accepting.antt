@@ -167,17 +167,17 @@ lies last (a ∷ xs) (t ∷ ts) o (suc i) h =
     (omega (arith, o .0, r .0), r .1)
 
 -- a cell ends where a later one starts, or before
-pub behind : (last : ℕ) (xs ts : List ℕ) → Ordered last xs ts → (i j : ℕ) → i < j → j < length xs → getD xs i 0 + getD ts i 0 / 8 ≤ getD xs j 0
-behind last [] ts o i j h k = absurd (not-suc-le-zero k)
-behind last (a ∷ xs) [] o i j h k = absurd o
-behind last (a ∷ xs) (t ∷ ts) o i zero h k = absurd (not-suc-le-zero h)
-behind last (a ∷ xs) (t ∷ ts) o zero (suc j) h k = lies (a + t / 8) xs ts (o .1) j (le-of-suc-le-suc k) .0
-behind last (a ∷ xs) (t ∷ ts) o (suc i) (suc j) h k = behind (a + t / 8) xs ts (o .1) i j (le-of-suc-le-suc h) (le-of-suc-le-suc k)
+pub ends-before : (last : ℕ) (xs ts : List ℕ) → Ordered last xs ts → (i j : ℕ) → i < j → j < length xs → getD xs i 0 + getD ts i 0 / 8 ≤ getD xs j 0
+ends-before last [] ts o i j h k = absurd (not-suc-le-zero k)
+ends-before last (a ∷ xs) [] o i j h k = absurd o
+ends-before last (a ∷ xs) (t ∷ ts) o i zero h k = absurd (not-suc-le-zero h)
+ends-before last (a ∷ xs) (t ∷ ts) o zero (suc j) h k = lies (a + t / 8) xs ts (o .1) j (le-of-suc-le-suc k) .0
+ends-before last (a ∷ xs) (t ∷ ts) o (suc i) (suc j) h k = ends-before (a + t / 8) xs ts (o .1) i j (le-of-suc-le-suc h) (le-of-suc-le-suc k)
 
 pub ascending-of : (xs ts vs : List ℕ) → Accepted xs ts vs → Ascending xs
 ascending-of xs ts vs a i j h k =
     omega
-    (arith, behind 0 xs ts (a .ordered) i j h k, tag-bytes (getD ts i 0) (a .tagged i (omega (arith, a .same .tags))))
+    (arith, ends-before 0 xs ts (a .ordered) i j h k, tag-bytes (getD ts i 0) (a .tagged i (omega (arith, a .same .tags))))
 
 pub searchable-of : (xs ts vs : List ℕ) → Accepted xs ts vs → Searchable xs ts
 searchable-of xs ts vs a = record { tags = a .same .tags; ascending = ascending-of xs ts vs a }
@@ -195,8 +195,8 @@ cells-apart xs ts vs e i j x hi hj li ri lj rj = go (ltb i j) refl (ltb j i) ref
     o = accepted-of xs ts vs e .ordered
 
     go : (b : Bool) → ltb i j ≡ b → (c : Bool) → ltb j i ≡ c → i ≡ j
-    go true p c q = absurd (omega (arith, behind 0 xs ts o i j (ltb-true i j p) hj))
-    go false p true q = absurd (omega (arith, behind 0 xs ts o j i (ltb-true j i q) hi))
+    go true p c q = absurd (omega (arith, ends-before 0 xs ts o i j (ltb-true i j p) hj))
+    go false p true q = absurd (omega (arith, ends-before 0 xs ts o j i (ltb-true j i q) hi))
     go false p false q = omega (arith, ltb-false i j p, ltb-false j i q)
 
 -- ---- a store to a 64-bit cell

@@ -118,7 +118,7 @@ fn only_place(addresses: &[u64], address: u64, above: usize) -> usize
 }
 
 // The one index where an address can stand. Cells are mostly 64-bit words in a row, so that place is looked at first. Where the
-// cell there begins above the address, only those before it are searched.
+// cell there begins above the address, the search ends with it.
 fn place_of(addresses: &[u64], address: u64) -> usize
     requires { ⌜ (0 < length (now addresses)) × Ascending (now addresses) ⌝ }
     ensures { λ r. ⌜ r < length (now (addresses .entry)) ⌝ }

@@ -18,7 +18,8 @@ use Rattle.machine.specs.declared.Operand.{Operand}
 use Rattle.code.specs.declared.tree.Instruction.{Instruction}
 use Rattle.code.specs.declared.tree.Instruction.the-variants.{Mov64, Add64, AddLea64, AddCarry64, Adcx64, Adox64, Sub64, Mul64, Mulx64, IMul64, Xor64, And64, Shr64, Shl64, Paddd, Pxor, Pslld, Psrld, Pshufd, Pcmpeqd, Pextrq, Pinsrd, Pinsrq, VPSLLDQ}
 use Rattle.code.proofs.Layouts.{every-ins}
-use Rattle.code.specs.WellFormed.{WfOperand, WfTwo, WfIns}
+use Rattle.code.specs.WellFormed.{WfOperand, WfIns}
+use Rattle.code.proofs.Accepted.{WfTwo}
 use Rattle.eval.specs.Instructions.{add-flags, two-word, two-flags, quads-word, quads-flags, shifts-word, inserts-word}
 use Rattle.eval.specs.Config.{Env, Config, with-regs, with-xmms, with-flags, End, ends, done, fault}
 use Rattle.eval.specs.Config as Config
@@ -64,7 +65,7 @@ module _ (env : Env) where
   abbrev pub Says : ℕ → Config → Noted (Unit {0}) → Config → End → Type 0
   Says p s0 m s r = Said p s0 (m (state-of env s)) r
 
-  -- a step from s to t that makes one check, which is passed where b
+  -- what goes from s to t and makes one check, which is passed where b
   record Gate (m : Noted (Unit {0})) (s t : Config) (b : Bool) (n : ℕ) : Type 0 where
     held : Held env t
     state : b ≡ true → m (state-of env s) .0 .1 ≡ state-of env t
@@ -72,7 +73,7 @@ module _ (env : Env) where
     clear : b ≡ false → m (state-of env s) .0 .1 .ok ≡ false
     fails : b ≡ false → first-failed (m (state-of env s) .1) ≡ some n
 
-  -- the outcome of a step followed by k
+  -- an outcome, followed by k
   abbrev followed : (Unit {0} × State) × List Note → Noted (Unit {0}) → (Unit {0} × State) × List Note
   followed o k =
       let r = k (o .0 .1) in
@@ -104,7 +105,7 @@ module _ (env : Env) where
   says-last p s0 m s t true n g = finishes t refl (g .held) (g .notes refl) (g .state refl)
   says-last p s0 m s t false n g = stops n refl (g .fails refl) (g .clear refl)
 
-  -- ---- the steps
+  -- ---- checks and writes
   check-gate : (n : ℕ) (valid : State → Bool) (s : Config) (b : Bool) → Held env s → valid (state-of env s) ≡ b → Gate (check n valid) s s b n
   unfolding check Source.check Source._>>=_ first-failed
   check-gate n valid s b h e = record {
@@ -194,7 +195,7 @@ module _ (env : Env) where
           → Says p s (check 31 (Source.valid-operand o) >> k) s (read-check env p o s r)
       says-source o k r f = says-then p s _ k s s _ 31 r (check-gate 31 _ s _ h (valid-operand-is env o s h)) f
 
-      -- a step from t to u that checks nothing, with k after it, and as the last
+      -- what goes from t to u and checks nothing, with k after it, and as the last
       says-next : (m : St (Unit {0})) (k : Noted (Unit {0})) (t u : Config) (r : End) → Held env u → m (state-of env t) .1 ≡ state-of env u
           → Says p s k u r → Says p s (quiet m >> k) t r
       unfolding Config.check

@@ -14,7 +14,8 @@ use Rattle.machine.specs.declared.Operand.the-variants.{OConst, OReg, OMem}
 use Rattle.machine.proofs.MemoryLaws.{valid-is-cell, load-at, memory-store}
 use Rattle.code.specs.declared.tree.Ocmp.{Ocmp}
 use Rattle.code.specs.declared.tree.Ocmp.the-variants.{OEq, ONe, OLe, OGe, OLt, OGt}
-use Rattle.code.specs.WellFormed.{WfOperand, WfTwo, WfOcmp}
+use Rattle.code.specs.WellFormed.{WfOperand, WfOcmp}
+use Rattle.code.proofs.Accepted.{WfTwo}
 use Rattle.eval.specs.Config.{Env, Config}
 use Rattle.eval.specs.Instructions as Run
 use Rattle.source.specs.Source as Source
