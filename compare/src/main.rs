@@ -1,11 +1,14 @@
-//! An evaluator written apart from the port, from document 01 and the F* text
-//! alone, and the comparison of the two.
+//! An evaluator and a builder written apart from the port, from document 01,
+//! request 2026-01 and the F* text alone, and their comparison with it.
 
-#![forbid(unsafe_code)]
+// Calls of the linked port are the only ones that Rust cannot check.
+#![cfg_attr(not(feature = "c_target"), forbid(unsafe_code))]
+#![deny(unsafe_code)]
 
 mod answer;
 mod batch;
 mod build;
+mod builder;
 mod bytes;
 mod cells;
 mod checks;
@@ -50,8 +53,10 @@ compare systematic DIR           write the systematic set to DIR/systematic
 compare stored N SEED DIR        the same, and N generated jobs to DIR/random
 compare check FILE PROGRAM       run a stored set through a program
 compare make SEED INDEX JOBFILE  write one generated job
+compare builds N SEED [BUILDER]  compare N generated lists of builder calls
 PROGRAM is a path with arguments, or `self` for this evaluator, or (built
-with the feature c_target) `c` for the port linked in.";
+with the feature c_target) `c` for the port linked in. BUILDER is `c`, or
+`self` for the rule over a build's fields.";
 
 fn main() -> ExitCode {
     let words: Vec<String> = std::env::args().skip(1).collect();
@@ -85,6 +90,8 @@ fn command(words: &[String]) -> Result<(), String> {
             let bytes = generate::job_bytes(number(seed)?, number(index)?);
             fs::write(file, bytes).map_err(|e| format!("{file}: {e}"))
         }
+        ["builds", n, seed] => run_builds(n, seed, "c"),
+        ["builds", n, seed, builder] => run_builds(n, seed, builder),
         _ => Err(USAGE.to_string()),
     }
 }
@@ -133,6 +140,17 @@ fn run_batch(n: &str, seed: &str, program: &[String]) -> Result<(), String> {
         let missing = tally.missing().join(", ");
         println!("too few jobs to demand every answer; not met: {missing}");
     }
+    println!("no difference, seed {seed}");
+    Ok(())
+}
+
+fn run_builds(n: &str, seed: &str, name: &str) -> Result<(), String> {
+    let (lists, seed) = (number(n)?, seed_of(seed)?);
+    let mut builder = builder::builder_of(name)?;
+    println!("{lists} call lists, seed {seed}");
+    let tally = builder::compare(lists, seed, builder.as_mut());
+    print!("{}", tally.report());
+    tally.verdict()?;
     println!("no difference, seed {seed}");
     Ok(())
 }

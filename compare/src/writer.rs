@@ -34,14 +34,18 @@ pub fn write(code: &Code) -> Vec<u8> {
     }
 }
 
-fn push_length(out: &mut Vec<u8>, length: usize) {
+pub fn push_length(out: &mut Vec<u8>, length: usize) {
     out.extend((length as u32).to_le_bytes());
 }
 
-fn push_comparison(out: &mut Vec<u8>, ocmp: &Ocmp) {
-    let number = RELATIONS.iter().position(|r| *r == ocmp.relation);
-    out.push(0x30 + number.expect("a relation of the six") as u8);
+pub fn push_comparison(out: &mut Vec<u8>, ocmp: &Ocmp) {
+    out.push(comparison_kind(ocmp));
     push_operands(out, &[ocmp.left, ocmp.right]);
+}
+
+pub fn comparison_kind(ocmp: &Ocmp) -> u8 {
+    let number = RELATIONS.iter().position(|r| *r == ocmp.relation);
+    0x30 + number.expect("a relation of the six") as u8
 }
 
 fn push_operands(out: &mut Vec<u8>, operands: &[Operand]) {
@@ -74,12 +78,15 @@ fn push_operand(out: &mut Vec<u8>, operand: &Operand) {
     }
 }
 
-fn write_instruction(ins: &Instruction) -> Vec<u8> {
-    let record = |head: &[u8], operands: &[Operand]| {
-        let mut out = head.to_vec();
-        push_operands(&mut out, operands);
-        out
-    };
+pub fn write_instruction(ins: &Instruction) -> Vec<u8> {
+    let (mut out, operands) = instruction_fields(ins);
+    push_operands(&mut out, &operands);
+    out
+}
+
+/// The kind with the body behind it, and the operands that follow.
+pub fn instruction_fields(ins: &Instruction) -> (Vec<u8>, Vec<Operand>) {
+    let record = |head: &[u8], operands: &[Operand]| (head.to_vec(), operands.to_vec());
     match *ins {
         Mov64(dst, src) => record(&[0x01], &[dst, src]),
         Add64(dst, src) => record(&[0x02], &[dst, src]),
@@ -95,15 +102,15 @@ fn write_instruction(ins: &Instruction) -> Vec<u8> {
         And64(dst, src) => record(&[0x0c], &[dst, src]),
         Shr64(dst, amt) => record(&[0x0d], &[dst, amt]),
         Shl64(dst, amt) => record(&[0x0e], &[dst, amt]),
-        Paddd(dst, src) => vec![0x0f, dst, src],
-        Pxor(dst, src) => vec![0x10, dst, src],
-        Pslld(dst, amt) => vec![0x11, dst, amt],
-        Psrld(dst, amt) => vec![0x12, dst, amt],
-        Pshufd(dst, src, permutation) => vec![0x13, dst, src, permutation],
-        Pcmpeqd(dst, src) => vec![0x14, dst, src],
+        Paddd(dst, src) => record(&[0x0f, dst, src], &[]),
+        Pxor(dst, src) => record(&[0x10, dst, src], &[]),
+        Pslld(dst, amt) => record(&[0x11, dst, amt], &[]),
+        Psrld(dst, amt) => record(&[0x12, dst, amt], &[]),
+        Pshufd(dst, src, permutation) => record(&[0x13, dst, src, permutation], &[]),
+        Pcmpeqd(dst, src) => record(&[0x14, dst, src], &[]),
         Pextrq(dst, src, index) => record(&[0x15, src, index], &[dst]),
         Pinsrd(dst, src, index) => record(&[0x16, dst, index], &[src]),
         Pinsrq(dst, src, index) => record(&[0x17, dst, index], &[src]),
-        Vpslldq(dst, src, count) => vec![0x18, dst, src, count],
+        Vpslldq(dst, src, count) => record(&[0x18, dst, src, count], &[]),
     }
 }

@@ -12,7 +12,7 @@ ghost use lib.IntN.{pos, natAbs, _+ℤ_};
 ghost use Rattle.machine.specs.Operands.{word-of, in-range, exact, eval-maddr, NamesRegisters};
 
 // The number without its sign.
-fn magnitude(x: i64) -> u64
+pub fn magnitude(x: i64) -> u64
     ensures { λ r. ⌜ r ≡ natAbs x ⌝ }
 {
     if x < 0 {

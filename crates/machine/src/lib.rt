@@ -7,6 +7,7 @@ mod wide;
 mod xmm;
 
 pub use addressing::exact_address;
+pub use addressing::magnitude;
 pub use addressing::operand_address;
 pub use addressing::register_address;
 pub use cells::cell_of;

@@ -1,0 +1,166 @@
+-- What the code of a call leaves is what the definition of the call says, for each kind of call.
+use Prim.Native.Nat.{ℕ, _+_, _-_, _≤_, _<_}
+use mathlib.Core.Path.{_≡_, refl, sym, ap, _∙_}
+use mathlib.Core.Bool.{Bool, true, false, _&&_, _||_, cond}
+use mathlib.Core.List.{List, [], _∷_, _++_}
+use native.Mathlib.Omega.{arith}
+use borrow.Author.Tests.{ltb-true, leb-true, eq-eqb, ne-eqb}
+use lib.Dec.{eqb, ltb, leb}
+use lib.ListN.{length, length-append, set, take, drop, replicate}
+use lib.Seq.{sets, sets-eq, length-sets, length-take-le, take-at}
+use Rattle.code.specs.declared.tree.Instruction.{Instruction}
+use Rattle.code.specs.declared.tree.Ocmp.{Ocmp}
+use Rattle.code.specs.Layout.{Layout, layout, ocmp-layout}
+use Rattle.code.specs.Writer.{bytes-of, bytes-of-record, bytes-of-ins, bytes-of-ocmp}
+use Rattle.builder.specs.declared.build.Build.{Build}
+use Rattle.builder.specs.declared.record.Record.{Record}
+use Rattle.builder.specs.Calls.{open-block, open-if-else, open-while, add, close, bytes-of-call, record-named, call-named}
+use Rattle.builder.specs.Building.{kind-of, field-of, start-of, is-part, takes-code, takes-close, call-fits, depth-of, judge, refusal, longer, opened, turned, shut, build-after, buffer-after, Outcome, outcome, answered, call}
+use Rattle.builder.specs.Rendered.{layout-of, Wrote}
+use Rattle.builder.proofs.Judged.{both}
+
+-- ---- what a record leaves in the array
+
+module _ {m at n : ℕ} {l t a : List ℕ} (w : Wrote m l at t a n) where
+  -- the array is as long as it was
+  pub same-room : length l ≡ length a
+  same-room = sym (ap length (w .bytes) ∙ length-sets l at t)
+
+  -- its front is what stood before the record, and the record
+  pub in-front : at + m ≤ length l → take n a ≡ take at l ++ t
+  in-front h =
+      let p = w .place in
+      let q = w .within in
+      let size : length (take at l ++ t) ≡ n = length-append (take at l) t ∙ omega (arith, length-take-le at l (omega arith)) in
+      ap (take n) (w .bytes ∙ sets-eq t l at (omega arith)) ∙ take-at (take at l ++ t) (drop (at + length t) l) n size
+
+-- ---- calls that add: the number of bytes, the bytes, and whether they are named, by other names
+module _ (b : Build) (entry : List ℕ) (next : ℕ → Build) {named names : Bool} {n : ℕ} {t text : List ℕ} where
+  renamed :
+      named ≡ names → n ≡ length text → t ≡ text
+      → answered (judge (takes-code b) named (b .depth + 1) (b .length + n) (length entry)) b (next n) entry (sets entry (b .length) t)
+      ≡ answered (judge (takes-code b) names (b .depth + 1) (b .length + length text) (length entry)) b (next (length text)) entry
+      (sets entry (b .length) text)
+  renamed e f g = rw (e, f, g) refl
+
+module _ (b : Build) (entry bytes : List ℕ) (named : Bool) (n : ℕ) where
+  -- what is answered where the first n bytes were added
+  abbrev added : (ℕ → Build) → Outcome
+  added next =
+      answered (judge (takes-code b) named (b .depth + 1) (b .length + n) (length entry)) b (next n) entry
+      (sets entry (b .length) (take n bytes))
+
+  module _ (given : Record) (e : named ≡ record-named (layout-of given)) {o : Outcome} where
+    pub add-is :
+        (i : Instruction) → layout-of given ≡ layout i → Wrote 43 (replicate 52 0) 0 (bytes-of-record (layout-of given)) bytes n
+        → o ≡ added (longer b) → o ≡ call (add i) b entry
+    unfolding call refusal call-fits call-named depth-of build-after buffer-after bytes-of-call bytes-of-ins
+    add-is i same w h =
+        let re = ap bytes-of-record same in
+        h
+        ∙ renamed b entry (longer b) (e ∙ ap record-named same)
+        (let p = w .place in omega (arith, ap length re))
+        (in-front w (omega arith) ∙ re)
+
+    pub if-else-is :
+        (c : Ocmp) → layout-of given ≡ ocmp-layout c → Wrote 43 (set (replicate 52 0) 0 0x21) 9 (bytes-of-record (layout-of given)) bytes n
+        → o ≡ added (opened 1 b) → o ≡ call (open-if-else c) b entry
+    unfolding call refusal call-fits call-named depth-of build-after buffer-after bytes-of-call bytes-of-ocmp bytes-of
+    if-else-is c same w h =
+        let re = ap bytes-of-record same in
+        h
+        ∙ renamed b entry (opened 1 b) (e ∙ ap record-named same)
+        (let p = w .place in omega (arith, ap length re))
+        (in-front w (omega arith) ∙ ap (λ (x : List ℕ). take 9 (set (replicate 52 0) 0 0x21) ++ x) re)
+
+    pub while-is :
+        (c : Ocmp) → layout-of given ≡ ocmp-layout c → Wrote 43 (set (replicate 52 0) 0 0x22) 5 (bytes-of-record (layout-of given)) bytes n
+        → o ≡ added (opened 2 b) → o ≡ call (open-while c) b entry
+    unfolding call refusal call-fits call-named depth-of build-after buffer-after bytes-of-call bytes-of-ocmp bytes-of
+    while-is c same w h =
+        let re = ap bytes-of-record same in
+        h
+        ∙ renamed b entry (opened 2 b) (e ∙ ap record-named same)
+        (let p = w .place in omega (arith, ap length re))
+        (in-front w (omega arith) ∙ ap (λ (x : List ℕ). take 5 (set (replicate 52 0) 0 0x22) ++ x) re)
+
+pub block-is :
+    (b : Build) (entry : List ℕ) {o : Outcome} → o ≡ added b entry (set (replicate 52 0) 0 0x20) true 5 (opened 0 b) → o ≡ call open-block b entry
+unfolding call refusal call-fits call-named depth-of build-after buffer-after bytes-of-call bytes-of
+block-is b entry h = h
+
+-- ---- what was taken and what was refused, where the bytes were stored or not
+
+module _ (entry written : List ℕ) {r : ℕ} where
+  -- the buffer after a call that adds
+  pub stored : {exit : List ℕ} → r ≡ 0 → exit ≡ written → exit ≡ cond (eqb r 0) written entry
+  stored z e = e ∙ rw (eq-eqb r 0 z) refl
+
+  pub not-stored : (r ≡ 0 → ⊥) → entry ≡ cond (eqb r 0) written entry
+  not-stored z = rw (ne-eqb r 0 z) refl
+
+  module _ (b next : Build) {exit : List ℕ} {j : ℕ} (e : r ≡ j) (s : exit ≡ cond (eqb r 0) written entry) where
+    pub taken-as : {now : Build} → r ≡ 0 → now ≡ next → outcome r now exit ≡ answered j b next entry written
+    taken-as z n = rw (sym e, s, z, n) refl
+
+    pub refused-as : (r ≡ 0 → ⊥) → outcome r b exit ≡ answered j b next entry written
+    refused-as z = rw (sym e, s, ne-eqb r 0 z) refl
+
+-- ---- a close
+
+-- the innermost part of a build that takes a close
+pub record Closable (b : Build) : Type 0 where
+  pub some-open : 0 < b .depth
+  pub not-many : b .depth ≤ 32
+  pub behind-field : field-of b + 4 ≤ start-of b
+  pub in-build : start-of b ≤ b .length
+
+pub closable : (b : Build) → takes-close b ≡ true → Closable b
+unfolding takes-close is-part
+closable b h =
+    let a = both (ltb 0 (b .depth) && is-part b) (eqb (kind-of b) 0 || ltb (start-of b) (b .length)) h in
+    let c = both (ltb 0 (b .depth)) (is-part b) (a .0) in
+    let d = both _ (leb (start-of b) (b .length)) (c .1) in
+    let e = both _ (leb (field-of b + 4) (start-of b)) (d .0) in
+    let f = both (leb (b .depth) 32) (leb (kind-of b) 2) (e .0) in
+    record {
+      some-open = ltb-true 0 (b .depth) (c .0);
+      not-many = leb-true (b .depth) 32 (f .0);
+      behind-field = leb-true (field-of b + 4) (start-of b) (e .1);
+      in-build = leb-true (start-of b) (b .length) (d .1);
+    }
+
+-- the length that a close stores
+pub close-stored :
+    (b : Build) (entry : List ℕ) (k : ℕ) {field n : ℕ} {bytes exit : List ℕ}
+    → field ≡ field-of b → k ≡ b .length - start-of b → Wrote 4 (replicate 52 0) 0 (bytes-of 4 k) bytes n
+    → exit ≡ sets entry field (take 4 bytes) → exit ≡ sets entry (field-of b) (bytes-of 4 (b .length - start-of b))
+unfolding bytes-of
+close-stored b entry k {field} {n} {bytes} e f w h =
+    let four : n ≡ 4 = let p = w .place in omega arith in
+    h
+    ∙ ap (λ (x : ℕ). sets entry x (take 4 bytes)) e
+    ∙ ap (sets entry (field-of b)) (ap (λ (x : ℕ). take x bytes) (sym four) ∙ in-front w (omega arith) ∙ ap (bytes-of 4) f)
+
+module _ (b : Build) (entry : List ℕ) {r : ℕ} (e : r ≡ judge (takes-close b) true (b .depth) (b .length) (length entry)) where
+  -- a close adds no bytes
+  is-refusal : r ≡ refusal close b (length entry)
+  unfolding refusal call-fits call-named depth-of bytes-of-call
+  is-refusal = e ∙ ap (λ (x : ℕ). judge (takes-close b) true (b .depth) x (length entry)) (omega arith)
+
+  pub close-refused : (r ≡ 0 → ⊥) → outcome r b entry ≡ call close b entry
+  unfolding call
+  close-refused z = refused-as entry (buffer-after close b entry) b (build-after close b) is-refusal (not-stored entry _ z) z
+
+  module _ {exit : List ℕ} (z : r ≡ 0) (s : exit ≡ sets entry (field-of b) (bytes-of 4 (b .length - start-of b))) where
+    close-taken : {now : Build} → now ≡ build-after close b → outcome r now exit ≡ call close b entry
+    unfolding call buffer-after
+    close-taken = taken-as entry (buffer-after close b entry) b (build-after close b) is-refusal (stored entry _ z s) z
+
+    pub close-turned : {now : Build} → kind-of b ≡ 1 → now ≡ turned b → outcome r now exit ≡ call close b entry
+    unfolding build-after
+    close-turned k n = close-taken (n ∙ rw (eq-eqb (kind-of b) 1 k) refl)
+
+    pub close-shut : {now : Build} → (kind-of b ≡ 1 → ⊥) → now ≡ shut b → outcome r now exit ≡ call close b entry
+    unfolding build-after
+    close-shut k n = close-taken (n ∙ rw (ne-eqb (kind-of b) 1 k) refl)

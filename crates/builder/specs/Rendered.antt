@@ -1,0 +1,44 @@
+-- How a record passes from value to bytes: the parts of its layout, and what a writer leaves.
+use Prim.Native.Nat.{ℕ, _+_, _-_, _≤_}
+use mathlib.Core.Path.{_≡_}
+use mathlib.Core.List.{List, [], _∷_}
+use lib.IntN.{ℤ, pos, negsuc}
+use lib.ListN.{length}
+use lib.Seq.{sets}
+use Rattle.machine.specs.declared.Operand.{Operand}
+use Rattle.code.specs.Layout.{Byte, number, amount, Layout, laid}
+use Rattle.builder.specs.declared.record.Body.{Body}
+use Rattle.builder.specs.declared.record.Body.the-variants.{Nothing, Xmms, XmmAmount, XmmsAmount}
+use Rattle.builder.specs.declared.record.Operands.{Operands}
+use Rattle.builder.specs.declared.record.Operands.the-variants.{One, Two, Three}
+use Rattle.builder.specs.declared.record.Operands.the-variants.{Nothing as NoOperands}
+use Rattle.builder.specs.declared.record.Record.{Record}
+
+-- the bytes of a body
+abbrev pub body-of : Body → List Byte
+body-of Nothing = []
+body-of (Xmms a b) = number a ∷ number b ∷ []
+body-of (XmmAmount a n) = number a ∷ amount n ∷ []
+body-of (XmmsAmount a b n) = number a ∷ number b ∷ amount n ∷ []
+
+-- operands in a row
+abbrev pub operands-of : Operands → List Operand
+operands-of NoOperands = []
+operands-of (One a) = a ∷ []
+operands-of (Two a b) = a ∷ b ∷ []
+operands-of (Three a b c) = a ∷ b ∷ c ∷ []
+
+-- the layout that a record has
+abbrev pub layout-of : Record → Layout
+layout-of r = laid (r .kind) (body-of (r .body)) (operands-of (r .operands))
+
+-- n as it stands, or two's complement where it is negative: negsuc k is -(k + 1)
+abbrev pub complement : ℤ → ℕ → ℕ
+complement (pos k) most = k
+complement (negsuc k) most = most - k
+
+-- `text` was written from `at` on, and nothing else; the next place is behind it, at most `most` bytes on
+pub record Wrote (most : ℕ) (before : List ℕ) (at : ℕ) (text after : List ℕ) (next : ℕ) : Type 0 where
+  pub bytes : after ≡ sets before at text
+  pub place : next ≡ at + length text
+  pub within : next ≤ at + most

@@ -1,0 +1,164 @@
+// The calls. Each is judged first, and a refused one writes nothing.
+ghost use mathlib.Core.Path.{_≡_};
+ghost use mathlib.Core.Bool.{cond};
+ghost use Prim.Native.Nat.{_+_, _≤_};
+ghost use lib.Dec.{eqb};
+ghost use lib.ListN.{length, take};
+ghost use lib.Seq.{sets};
+ghost use Rattle.builder.specs.Calls.{open-block, open-if-else, open-while, add, close, CallFits};
+ghost use Rattle.builder.specs.Building.{takes-code, judge, opened, answered, left, call};
+use crate::build::Build;
+use crate::build::Built;
+use crate::build::CODES;
+use crate::build::LAST_PART;
+use crate::build::TRUE_PART;
+use crate::build::innermost;
+use crate::build::longer;
+use crate::build::opened;
+use crate::build::shut;
+use crate::build::takes_close;
+use crate::build::takes_code;
+use crate::build::turned;
+use crate::build::wide;
+use crate::record::is_named;
+use crate::record::record_of;
+use crate::record::record_of_ocmp;
+use crate::write::copy;
+use crate::write::put_number;
+use crate::write::put_record;
+use code::Instruction;
+use code::Ocmp;
+
+// The number of the first refusal whose condition holds.
+fn judge(fits: bool, named: bool, depth: usize, bytes: usize, room: usize) -> u8
+    ensures { λ r. ⌜ r ≡ judge fits named depth bytes room ⌝ }
+{
+    if !fits {
+        return 51;
+    }
+    if !named {
+        return 4;
+    }
+    if depth > 32 {
+        return 53;
+    }
+    if bytes > room {
+        return 52;
+    }
+    if bytes > 16384 {
+        return 52;
+    }
+    0
+}
+
+// Judges a call that adds the first n of these bytes, and stores them where it is taken.
+fn append(build: Build, buffer: &mut [u8], bytes: &[u8], n: usize, named: bool) -> u8
+    requires { ⌜ (n ≤ 52) × (n ≤ length (now bytes)) ⌝ }
+    ensures { λ r. ⌜ r ≡ judge (takes-code build) named (build .depth + 1) (build .length + n) (length (now (buffer .entry))) ⌝ }
+    ensures { λ r. ⌜ now (buffer .exit) ≡ cond (eqb r 0) (sets (now (buffer .entry)) (build .length) (take n (now (bytes .entry)))) (now (buffer .entry)) ⌝ }
+{
+    let fits = takes_code(build);
+    let depth = wide(build.depth) + 1;
+    let length = wide(build.length);
+    let answer = judge(fits, named, depth, length + n, buffer.len());
+    if answer == 0 {
+        copy(buffer, length, bytes, n);
+    }
+    answer
+}
+
+// Appends the first bytes of a structure, and opens its part of this kind.
+fn open_part(
+    build: Build,
+    buffer: &mut [u8],
+    bytes: &[u8],
+    n: usize,
+    named: bool,
+    kind: u8,
+) -> Built
+    requires { ⌜ (n ≤ 52) × (n ≤ length (now bytes)) ⌝ }
+    ensures { λ r. ⌜
+        left r (now (buffer .exit))
+        ≡ answered (judge (takes-code build) named (build .depth + 1) (build .length + n) (length (now (buffer .entry))))
+        build (opened kind build n) (now (buffer .entry)) (sets (now (buffer .entry)) (build .length) (take n (now (bytes .entry)))) ⌝ }
+{
+    let answer = append(build, buffer, bytes, n, named);
+    if answer == 0 {
+        return Built {
+            answer,
+            build: opened(kind, build, n),
+        };
+    }
+    Built { answer, build }
+}
+
+pub fn open_block(build: Build, buffer: &mut [u8]) -> Built
+    ensures { λ r. ⌜ left r (now (buffer .exit)) ≡ call open-block build (now (buffer .entry)) ⌝ }
+{
+    let mut bytes = [0u8; 52];
+    bytes[0] = 0x20;
+    open_part(build, buffer, &bytes, 5, true, CODES)
+}
+
+pub fn open_if_else(build: Build, buffer: &mut [u8], condition: Ocmp) -> Built
+    ensures { λ r. ⌜ left r (now (buffer .exit)) ≡ call (open-if-else condition) build (now (buffer .entry)) ⌝ }
+{
+    let given = record_of_ocmp(condition);
+    let mut bytes = [0u8; 52];
+    bytes[0] = 0x21;
+    let n = put_record(&mut bytes, 9, given);
+    open_part(build, buffer, &bytes, n, is_named(given), TRUE_PART)
+}
+
+pub fn open_while(build: Build, buffer: &mut [u8], condition: Ocmp) -> Built
+    ensures { λ r. ⌜ left r (now (buffer .exit)) ≡ call (open-while condition) build (now (buffer .entry)) ⌝ }
+{
+    let given = record_of_ocmp(condition);
+    let mut bytes = [0u8; 52];
+    bytes[0] = 0x22;
+    let n = put_record(&mut bytes, 5, given);
+    open_part(build, buffer, &bytes, n, is_named(given), LAST_PART)
+}
+
+pub fn add(build: Build, buffer: &mut [u8], instruction: Instruction) -> Built
+    ensures { λ r. ⌜ left r (now (buffer .exit)) ≡ call (add instruction) build (now (buffer .entry)) ⌝ }
+{
+    let given = record_of(instruction);
+    let mut bytes = [0u8; 52];
+    let n = put_record(&mut bytes, 0, given);
+    let answer = append(build, buffer, &bytes, n, is_named(given));
+    if answer == 0 {
+        return Built {
+            answer,
+            build: longer(build, n),
+        };
+    }
+    Built { answer, build }
+}
+
+// The length of what is closed is stored; a closed true part is followed by the false part.
+pub fn close(build: Build, buffer: &mut [u8]) -> Built
+    ensures { λ r. ⌜ left r (now (buffer .exit)) ≡ call close build (now (buffer .entry)) ⌝ }
+{
+    let fits = takes_close(build);
+    let length = wide(build.length);
+    let answer = judge(fits, true, wide(build.depth), length, buffer.len());
+    if answer != 0 {
+        return Built { answer, build };
+    }
+    let part = innermost(build);
+    let counted = (length - wide(part.start)) as u64;
+    let mut bytes = [0u8; 52];
+    put_number(&mut bytes, 0, counted, 4);
+    copy(buffer, wide(part.field), &bytes, 4);
+    if part.kind == TRUE_PART {
+        return Built {
+            answer,
+            build: turned(build),
+        };
+    }
+    Built {
+        answer,
+        build: shut(build),
+    }
+}

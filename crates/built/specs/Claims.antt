@@ -1,0 +1,137 @@
+-- The claims of request 2026-01 in one record, `Builder`. They hold of every call of the types (`CallFits`, which the calls' contracts promise), every
+-- build and every buffer.
+use Prim.Native.Nat.{ℕ, _+_, _≤_, _<_}
+use mathlib.Core.Path.{_≡_}
+use mathlib.Core.Bool.{true, false, cond}
+use mathlib.Core.List.{List, [], _∷_}
+use lib.Dec.{eqb}
+use lib.ListN.{length, take, drop}
+use Rattle.machine.specs.Cells.{accepted}
+use Rattle.code.specs.Tree.{Code}
+use Rattle.code.specs.Reader.{got, parse, check-code}
+use Rattle.code.specs.Spells.{Nests}
+use Rattle.code.specs.WellFormed.{WfCode}
+use Rattle.code.specs.Writer.{bytes-of-code, place-code}
+use Rattle.builder.specs.declared.build.Build.{Build}
+use Rattle.builder.specs.Calls.{Call, bytes-of-call, call-named, CallFits}
+use Rattle.builder.specs.Building.{empty, takes-code, takes-close, call-fits, depth-of, Outcome, outcome, call}
+use Rattle.built.specs.Sketch.{Sketch, bytes-so-far, calls-of-code, calls-so-far, parts-open, code-fits, close-fits}
+
+-- each holds exactly when the other does
+abbrev pub Exactly : Type 0 → Type 0 → Type 0
+Exactly A B = (A → B) × (B → A)
+
+-- ---- a single call, of any build and any buffer: also of a build that no call left
+module _ (c : Call) (b : Build) (buffer : List ℕ) where
+  -- what it leaves
+  abbrev pub left : Outcome
+  left = call c b buffer
+
+  -- the number of bytes that the build has with the call's
+  abbrev pub bytes-with : ℕ
+  bytes-with = b .length + length (bytes-of-call c)
+
+  -- the conditions that are judged, in their order: the call fits the open part
+  abbrev pub Fits : Type 0
+  Fits = call-fits c b ≡ true
+
+  -- its register and xmm numbers are at most 15
+  abbrev pub Named : Type 0
+  Named = call-named c ≡ true
+
+  -- its code stands at most 32 deep
+  abbrev pub Shallow : Type 0
+  Shallow = depth-of c b ≤ 32
+
+  -- and the bytes are not too many
+  abbrev pub Short : Type 0
+  Short = (bytes-with ≤ length buffer) × (bytes-with ≤ 16384)
+
+  -- each refusal exactly where its condition is not met and the earlier ones are
+  pub record Judged : Type 0 where
+    pub is-51 : Exactly (left .answer ≡ 51) (Fits → ⊥)
+    pub is-4 : Exactly (left .answer ≡ 4) (Fits × (Named → ⊥))
+    pub is-53 : Exactly (left .answer ≡ 53) (Fits × Named × (Shallow → ⊥))
+    pub is-52 : Exactly (left .answer ≡ 52) (Fits × Named × Shallow × (Short → ⊥))
+    pub is-taken : Exactly (left .answer ≡ 0) (Fits × Named × Shallow × Short)
+    -- a refused call changes neither buffer nor build
+    pub refused : (left .answer ≡ 0 → ⊥) → left ≡ outcome (left .answer) b buffer
+    -- no call leaves the bounds of the buffer, or touches a byte behind the build
+    pub same-room : length (left .buffer) ≡ length buffer
+    pub behind : drop (left .build .length) (left .buffer) ≡ drop (left .build .length) buffer
+
+-- ---- calls in a row, each given build and buffer as the call before left them
+
+-- what they leave
+unfoldable pub after : List Call → Build → List ℕ → Outcome
+after [] b buffer = outcome 0 b buffer
+after (c ∷ cs) b buffer = let o = call c b buffer in after cs (o .build) (o .buffer)
+
+-- those that are taken
+unfoldable pub taken : List Call → Build → List ℕ → List Call
+taken [] b buffer = []
+taken (c ∷ cs) b buffer =
+    let o = call c b buffer in
+    let rest = taken cs (o .build) (o .buffer) in
+    cond (eqb (o .answer) 0) (c ∷ rest) rest
+
+-- every call is one of the types
+unfoldable pub AllFit : List Call → Type 0
+AllFit [] = Unit {0}
+AllFit (c ∷ cs) = CallFits c × AllFit cs
+
+-- a build is finished: nothing is open, and its outermost code is complete
+abbrev pub IsFinished : Build → Type 0
+IsFinished b = (b .depth ≡ 0) × (0 < b .length)
+
+module _ (calls : List Call) (buffer : List ℕ) where
+  -- build and buffer after the calls, begun empty
+  abbrev pub end : Outcome
+  end = after calls empty buffer
+
+  -- the calls that were taken
+  abbrev pub taken-calls : List Call
+  taken-calls = taken calls empty buffer
+
+  -- the bytes of the build
+  abbrev pub front : List ℕ
+  front = take (end .build .length) (end .buffer)
+
+  -- s is what was built so far
+  pub record SoFar (s : Sketch) : Type 0 where
+    -- its calls are those that were taken
+    pub its-calls : calls-so-far s ≡ taken-calls
+    -- the front of the buffer is its bytes, and every byte behind is as it was
+    pub its-bytes : front ≡ bytes-so-far s
+    pub its-length : end .build .length ≡ length (bytes-so-far s)
+    pub behind : drop (end .build .length) (end .buffer) ≡ drop (end .build .length) buffer
+    -- as many parts are open, and a code or a close fits where it fits there
+    pub its-depth : end .build .depth ≡ parts-open s
+    pub its-codes : takes-code (end .build) ≡ code-fits s
+    pub its-closes : takes-close (end .build) ≡ close-fits s
+
+  -- c is the finished code
+  pub record Finished (c : Code) : Type 0 where
+    -- the calls that were taken are those of this tree, and of no other, whatever places that has
+    pub its-calls : calls-of-code c ≡ taken-calls
+    pub no-other : (d : Code) → calls-of-code d ≡ taken-calls → place-code 0 d ≡ c
+    -- its bytes are accepted, and read back as this tree with its places
+    pub its-bytes : front ≡ bytes-of-code c
+    pub is-accepted : check-code front ≡ accepted
+    pub reads-back : parse front ≡ got c (length front)
+
+  -- what the calls build
+  pub record Builds : Type 0 where
+    pub so-far : (s : Sketch) × SoFar s
+    pub finished : IsFinished (end .build) → (c : Code) × Finished c
+    -- to one byte string: whatever calls finish with this tree leave its bytes
+    pub one-string : (c : Code) → calls-of-code c ≡ taken-calls → IsFinished (end .build) × (front ≡ bytes-of-code c)
+
+-- ---- the claims
+pub record Builder : Type 0 where
+  pub judged : (c : Call) (b : Build) (buffer : List ℕ) → Judged c b buffer
+  pub builds : (calls : List Call) (buffer : List ℕ) → AllFit calls → Builds calls buffer
+  -- every code within the limits can be built, in every buffer that holds it
+  pub every-code : (c : Code) (buffer : List ℕ) → WfCode c → Nests c 32 → length (bytes-of-code c) ≤ 16384
+      → length (bytes-of-code c) ≤ length buffer
+      → (taken (calls-of-code c) empty buffer ≡ calls-of-code c) × IsFinished (after (calls-of-code c) empty buffer .build)
