@@ -1,6 +1,6 @@
 -- What the code of a call leaves is what the definition of the call says, for each kind of call.
 use Prim.Native.Nat.{ℕ, _+_, _-_, _≤_, _<_}
-use mathlib.Core.Path.{_≡_, refl, sym, ap, _∙_}
+use mathlib.Core.Path.{_≡_, refl, sym, ap, _∙_, subst}
 use mathlib.Core.Bool.{Bool, true, false, _&&_, _||_, cond}
 use mathlib.Core.List.{List, [], _∷_, _++_}
 use native.Mathlib.Omega.{arith}
@@ -14,7 +14,7 @@ use Rattle.code.specs.Layout.{Layout, layout, ocmp-layout}
 use Rattle.code.specs.Writer.{bytes-of, bytes-of-record, bytes-of-ins, bytes-of-ocmp}
 use Rattle.builder.specs.declared.build.Build.{Build}
 use Rattle.builder.specs.declared.record.Record.{Record}
-use Rattle.builder.specs.Calls.{open-block, open-if-else, open-while, add, close, bytes-of-call, record-named, call-named}
+use Rattle.builder.specs.Calls.{open-block, open-if-else, open-while, add, close, bytes-of-call, record-named, call-named, RecordFits, CallFits}
 use Rattle.builder.specs.Building.{kind-of, field-of, start-of, is-part, takes-code, takes-close, call-fits, depth-of, judge, refusal, longer, opened, turned, shut, build-after, buffer-after, Outcome, outcome, answered, call}
 use Rattle.builder.specs.Rendered.{layout-of, Wrote}
 use Rattle.builder.proofs.Judged.{both}
@@ -88,6 +88,20 @@ pub block-is :
     (b : Build) (entry : List ℕ) {o : Outcome} → o ≡ added b entry (set (replicate 52 0) 0 0x20) true 5 (opened 0 b) → o ≡ call open-block b entry
 unfolding call refusal call-fits call-named depth-of build-after buffer-after bytes-of-call bytes-of
 block-is b entry h = h
+
+-- ---- the call is one of the types
+
+pub add-fits : (i : Instruction) {l : Layout} → l ≡ layout i → RecordFits l → CallFits (add i)
+unfolding CallFits
+add-fits i = subst RecordFits
+
+pub if-else-fits : (c : Ocmp) {l : Layout} → l ≡ ocmp-layout c → RecordFits l → CallFits (open-if-else c)
+unfolding CallFits
+if-else-fits c = subst RecordFits
+
+pub while-fits : (c : Ocmp) {l : Layout} → l ≡ ocmp-layout c → RecordFits l → CallFits (open-while c)
+unfolding CallFits
+while-fits c = subst RecordFits
 
 -- ---- what was taken and what was refused, where the bytes were stored or not
 

@@ -102,6 +102,7 @@ pub fn open_block(build: Build, buffer: &mut [u8]) -> Built
 
 pub fn open_if_else(build: Build, buffer: &mut [u8], condition: Ocmp) -> Built
     ensures { λ r. ⌜ left r (now (buffer .exit)) ≡ call (open-if-else condition) build (now (buffer .entry)) ⌝ }
+    ensures { λ _. ⌜ CallFits (open-if-else condition) ⌝ }
 {
     let given = record_of_ocmp(condition);
     let mut bytes = [0u8; 52];
@@ -112,6 +113,7 @@ pub fn open_if_else(build: Build, buffer: &mut [u8], condition: Ocmp) -> Built
 
 pub fn open_while(build: Build, buffer: &mut [u8], condition: Ocmp) -> Built
     ensures { λ r. ⌜ left r (now (buffer .exit)) ≡ call (open-while condition) build (now (buffer .entry)) ⌝ }
+    ensures { λ _. ⌜ CallFits (open-while condition) ⌝ }
 {
     let given = record_of_ocmp(condition);
     let mut bytes = [0u8; 52];
@@ -122,6 +124,7 @@ pub fn open_while(build: Build, buffer: &mut [u8], condition: Ocmp) -> Built
 
 pub fn add(build: Build, buffer: &mut [u8], instruction: Instruction) -> Built
     ensures { λ r. ⌜ left r (now (buffer .exit)) ≡ call (add instruction) build (now (buffer .entry)) ⌝ }
+    ensures { λ _. ⌜ CallFits (add instruction) ⌝ }
 {
     let given = record_of(instruction);
     let mut bytes = [0u8; 52];

@@ -2,13 +2,15 @@
 // next place. The longest record has 40 bytes, and 9 stand before a comparison; the array's room is counted more simply,
 // 3 bytes of body and 3 operands of 13.
 ghost use mathlib.Core.Path.{_≡_};
-ghost use mathlib.Core.List.{[], _∷_};
+ghost use mathlib.Core.List.{[], _∷_, map};
 ghost use Prim.Native.Nat.{_+_, _*_, _-_, _≤_, _^_};
 ghost use lib.IntN.{natAbs};
 ghost use lib.ListN.{length, take};
 ghost use lib.Seq.{sets};
 ghost use Rattle.code.specs.Layout.{values};
+ghost use Rattle.code.specs.WellFormed.{All};
 ghost use Rattle.code.specs.Writer.{bytes-of, signed-bytes, bytes-of-maddr, bytes-of-operand, bytes-of-operands, bytes-of-record};
+ghost use Rattle.builder.specs.Calls.{MaddrFits, OperandFits, ByteFits, RecordFits};
 ghost use Rattle.builder.specs.Rendered.{body-of, operands-of, layout-of, complement, Wrote};
 use crate::record::Body;
 use crate::record::Operands;
@@ -74,6 +76,7 @@ fn put_scale(out: &mut [u8; 52], at: usize, scale: i16) -> usize
 fn put_maddr(out: &mut [u8; 52], at: usize, m: Maddr) -> usize
     requires { ⌜ at + 13 ≤ 52 ⌝ }
     ensures { λ r. ⌜ Wrote 13 (now (out .entry)) at (bytes-of-maddr m) (now (out .exit)) r ⌝ }
+    ensures { λ _. ⌜ MaddrFits m ⌝ }
 {
     match m {
         Maddr::MConst(n) => {
@@ -96,6 +99,7 @@ fn put_maddr(out: &mut [u8; 52], at: usize, m: Maddr) -> usize
 fn put_operand(out: &mut [u8; 52], at: usize, operand: Operand) -> usize
     requires { ⌜ at + 13 ≤ 52 ⌝ }
     ensures { λ r. ⌜ Wrote 13 (now (out .entry)) at (bytes-of-operand operand) (now (out .exit)) r ⌝ }
+    ensures { λ _. ⌜ OperandFits operand ⌝ }
 {
     match operand {
         Operand::OConst(n) => {
@@ -110,6 +114,7 @@ fn put_operand(out: &mut [u8; 52], at: usize, operand: Operand) -> usize
 fn put_body(out: &mut [u8; 52], at: usize, body: Body) -> usize
     requires { ⌜ at + 3 ≤ 52 ⌝ }
     ensures { λ r. ⌜ Wrote 3 (now (out .entry)) at (values (body-of body)) (now (out .exit)) r ⌝ }
+    ensures { λ _. ⌜ All (map ByteFits (body-of body)) ⌝ }
 {
     match body {
         Body::Nothing => at,
@@ -125,6 +130,7 @@ fn put_body(out: &mut [u8; 52], at: usize, body: Body) -> usize
 fn put_operands(out: &mut [u8; 52], at: usize, operands: Operands) -> usize
     requires { ⌜ at + 39 ≤ 52 ⌝ }
     ensures { λ r. ⌜ Wrote 39 (now (out .entry)) at (bytes-of-operands (operands-of operands)) (now (out .exit)) r ⌝ }
+    ensures { λ _. ⌜ All (map OperandFits (operands-of operands)) ⌝ }
 {
     match operands {
         Operands::Nothing => at,
@@ -144,6 +150,7 @@ fn put_operands(out: &mut [u8; 52], at: usize, operands: Operands) -> usize
 pub fn put_record(out: &mut [u8; 52], at: usize, given: Record) -> usize
     requires { ⌜ at + 43 ≤ 52 ⌝ }
     ensures { λ r. ⌜ Wrote 43 (now (out .entry)) at (bytes-of-record (layout-of given)) (now (out .exit)) r ⌝ }
+    ensures { λ _. ⌜ RecordFits (layout-of given) ⌝ }
 {
     let body = given.body;
     let operands = given.operands;

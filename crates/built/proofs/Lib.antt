@@ -1,0 +1,15 @@
+pub mod Parts
+pub mod Steps
+pub mod Sound
+pub mod Named
+pub mod Filling
+pub mod Closing
+pub mod Fine
+pub mod Kept
+pub mod Judging
+pub mod Calling
+pub mod Taking
+pub mod Running
+pub mod Every
+pub mod Finishing
+pub mod Builder

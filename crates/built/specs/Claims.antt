@@ -1,5 +1,5 @@
--- The claims of request 2026-01 in one record, `Builder`. They hold of every call of the types (`CallFits`, which the calls' contracts promise), every
--- build and every buffer.
+-- The claims of request 2026-01, in one record: `Builder`. What it says of a single call holds of every call, build and buffer; what it says of calls
+-- in a row holds of every call of the types (`CallFits`), which the contracts of the calls promise of theirs.
 use Prim.Native.Nat.{ℕ, _+_, _≤_, _<_}
 use mathlib.Core.Path.{_≡_}
 use mathlib.Core.Bool.{true, false, cond}
@@ -24,8 +24,8 @@ Exactly A B = (A → B) × (B → A)
 -- ---- a single call, of any build and any buffer: also of a build that no call left
 module _ (c : Call) (b : Build) (buffer : List ℕ) where
   -- what it leaves
-  abbrev pub left : Outcome
-  left = call c b buffer
+  abbrev pub leaves : Outcome
+  leaves = call c b buffer
 
   -- the number of bytes that the build has with the call's
   abbrev pub bytes-with : ℕ
@@ -47,18 +47,18 @@ module _ (c : Call) (b : Build) (buffer : List ℕ) where
   abbrev pub Short : Type 0
   Short = (bytes-with ≤ length buffer) × (bytes-with ≤ 16384)
 
-  -- each refusal exactly where its condition is not met and the earlier ones are
+  -- each refusal exactly where its condition is not met and the earlier ones are; a close is never too deep
   pub record Judged : Type 0 where
-    pub is-51 : Exactly (left .answer ≡ 51) (Fits → ⊥)
-    pub is-4 : Exactly (left .answer ≡ 4) (Fits × (Named → ⊥))
-    pub is-53 : Exactly (left .answer ≡ 53) (Fits × Named × (Shallow → ⊥))
-    pub is-52 : Exactly (left .answer ≡ 52) (Fits × Named × Shallow × (Short → ⊥))
-    pub is-taken : Exactly (left .answer ≡ 0) (Fits × Named × Shallow × Short)
+    pub is-51 : Exactly (leaves .answer ≡ 51) (Fits → ⊥)
+    pub is-4 : Exactly (leaves .answer ≡ 4) (Fits × (Named → ⊥))
+    pub is-53 : Exactly (leaves .answer ≡ 53) (Fits × Named × (Shallow → ⊥))
+    pub is-52 : Exactly (leaves .answer ≡ 52) (Fits × Named × Shallow × (Short → ⊥))
+    pub is-taken : Exactly (leaves .answer ≡ 0) (Fits × Named × Shallow × Short)
     -- a refused call changes neither buffer nor build
-    pub refused : (left .answer ≡ 0 → ⊥) → left ≡ outcome (left .answer) b buffer
+    pub refused : (leaves .answer ≡ 0 → ⊥) → leaves ≡ outcome (leaves .answer) b buffer
     -- no call leaves the bounds of the buffer, or touches a byte behind the build
-    pub same-room : length (left .buffer) ≡ length buffer
-    pub behind : drop (left .build .length) (left .buffer) ≡ drop (left .build .length) buffer
+    pub same-room : length (leaves .buffer) ≡ length buffer
+    pub behind : drop (leaves .build .length) (leaves .buffer) ≡ drop (leaves .build .length) buffer
 
 -- ---- calls in a row, each given build and buffer as the call before left them
 
@@ -105,7 +105,7 @@ module _ (calls : List Call) (buffer : List ℕ) where
     pub its-bytes : front ≡ bytes-so-far s
     pub its-length : end .build .length ≡ length (bytes-so-far s)
     pub behind : drop (end .build .length) (end .buffer) ≡ drop (end .build .length) buffer
-    -- as many parts are open, and a code or a close fits where it fits there
+    -- as many parts are open, and a code or a close fits where it fits there: so 51 says what it is to say
     pub its-depth : end .build .depth ≡ parts-open s
     pub its-codes : takes-code (end .build) ≡ code-fits s
     pub its-closes : takes-close (end .build) ≡ close-fits s
@@ -131,7 +131,9 @@ module _ (calls : List Call) (buffer : List ℕ) where
 pub record Builder : Type 0 where
   pub judged : (c : Call) (b : Build) (buffer : List ℕ) → Judged c b buffer
   pub builds : (calls : List Call) (buffer : List ℕ) → AllFit calls → Builds calls buffer
-  -- every code within the limits can be built, in every buffer that holds it
+  -- every code within the limits can be built, in every buffer that holds it: its calls are all taken, and leave its bytes
   pub every-code : (c : Code) (buffer : List ℕ) → WfCode c → Nests c 32 → length (bytes-of-code c) ≤ 16384
       → length (bytes-of-code c) ≤ length buffer
-      → (taken (calls-of-code c) empty buffer ≡ calls-of-code c) × IsFinished (after (calls-of-code c) empty buffer .build)
+      → (taken-calls (calls-of-code c) buffer ≡ calls-of-code c)
+      × IsFinished (end (calls-of-code c) buffer .build)
+      × (front (calls-of-code c) buffer ≡ bytes-of-code c)

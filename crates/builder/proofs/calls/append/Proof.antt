@@ -19,18 +19,20 @@ copy-requires c κs =
 
 returns : tie.Need-returns
 returns c =
-    let args = c .before .before .before .before .before .before .before .before .before .before .before .args in
-    (same-judge _ _ _ _ _ _ _ _ (c .before .before .before .before .before .before .before .before .takes-code .ensures) (ap (λ (d : ℕ). d + 1) (c .before .before .before .before .before .before .before .wide .ensures))
-    (ap (λ (l : ℕ). l + args .n) (c .before .before .before .before .before .before .wide2 .ensures)) (c .before .before .before .before .before .judge .ensures),
-    stored _ _ (c .before .before .before .before .if1 .taken)
-    (c .before .before .copy .ensures ∙ ap (λ (at : ℕ). sets (now (args .buffer)) at (take (args .n) (now (args .bytes)))) (c .before .before .before .before .before .before .wide2 .ensures)))
+    let args = c .before .before .before .before .before .before .before .before .before .before .before .args in (
+      same-judge _ _ _ _ _ _ _ _ (c .before .before .before .before .before .before .before .before .takes-code .ensures) (ap (λ (d : ℕ). d + 1) (c .before .before .before .before .before .before .before .wide .ensures))
+          (ap (λ (l : ℕ). l + args .n) (c .before .before .before .before .before .before .wide2 .ensures)) (c .before .before .before .before .before .judge .ensures),
+      stored _ _ (c .before .before .before .before .if1 .taken)
+          (c .before .before .copy .ensures ∙ ap (λ (at : ℕ). sets (now (args .buffer)) at (take (args .n) (now (args .bytes)))) (c .before .before .before .before .before .before .wide2 .ensures)),
+    )
 
 returns-2 : tie.Need-returns-2
 returns-2 c =
-    let args = c .before .before .before .before .before .before .before .args in
-    (same-judge _ _ _ _ _ _ _ _ (c .before .before .before .before .takes-code .ensures) (ap (λ (d : ℕ). d + 1) (c .before .before .before .wide .ensures))
-    (ap (λ (l : ℕ). l + args .n) (c .before .before .wide2 .ensures)) (c .before .judge .ensures),
-    not-stored _ _ (c .if1 .left))
+    let args = c .before .before .before .before .before .before .before .args in (
+      same-judge _ _ _ _ _ _ _ _ (c .before .before .before .before .takes-code .ensures) (ap (λ (d : ℕ). d + 1) (c .before .before .before .wide .ensures))
+          (ap (λ (l : ℕ). l + args .n) (c .before .before .wide2 .ensures)) (c .before .judge .ensures),
+      not-stored _ _ (c .if1 .left),
+    )
 
 pub append-spec : {M : Type 1} → statement M
 append-spec =

@@ -1,24 +1,30 @@
 -- The lengths are 0, and the comparison stands behind them.
 use native.Mathlib.Omega.{arith}
-use Rattle.builder.proofs.Calling.{same-room, while-is}
+use Rattle.builder.proofs.Calling.{same-room, while-is, while-fits}
 use borrow.Author.Needs.{needs}
 use Rattle.builder.proofs.calls.open_while.Statement.{statement}
 use Rattle.builder.proofs.calls.open_while.Tie as tie
 
 slice-aggregate-open-part : tie.Need-slice-aggregate-open-part
-slice-aggregate-open-part c = same-room (c .before .before .put-record .ensures)
+slice-aggregate-open-part c = same-room (c .before .before .put-record .ensures .0)
 
 open-part-requires : tie.Need-open-part-requires
 open-part-requires c κs =
-    let w = c .before .before .before .put-record .ensures in
-    let room = same-room w in
-    let end = w .within in
+    let written = c .before .before .before .put-record .ensures .0 in
+    let room = same-room written in
+    let end = written .within in
     (omega arith, omega (arith, room))
 
 returns : tie.Need-returns
 returns c =
-    while-is _ _ _ _ _ (c .before .before .before .before .before .before .before .before .record-of-ocmp .result) (c .before .before .before .is-named .ensures) _ (c .before .before .before .before .before .before .before .before .record-of-ocmp .ensures) (c .before .before .before .before .before .before .put-record .ensures)
-    (c .before .before .open-part .ensures)
+    let named = c .before .before .before in
+    let written = named .before .before .before in
+    let given = written .before .before .record-of-ocmp in
+    let record-of = written .put-record .ensures in (
+      while-is _ _ _ _ _ (given .result) (named .is-named .ensures) _ (given .ensures) (record-of .0)
+          (c .before .before .open-part .ensures),
+      while-fits _ (given .ensures) (record-of .1),
+    )
 
 pub open-while-spec : {M : Type 1} → statement M
 open-while-spec =

@@ -1,10 +1,12 @@
 -- As many operands as there are, one behind the other.
-use mathlib.Core.Path.{sym, ap, _∙_}
 use Prim.Native.Nat.{ℕ}
-use mathlib.Core.List.{List}
+use mathlib.Core.Path.{sym, ap, _∙_, subst⁻¹}
+use mathlib.Core.List.{List, map}
 use native.Mathlib.Omega.{arith}
+use Rattle.code.specs.WellFormed.{All}
 use Rattle.code.specs.Writer.{bytes-of-operands}
 use Rattle.builder.specs.declared.record.Operands.{Operands}
+use Rattle.builder.specs.Calls.{OperandFits}
 use Rattle.builder.specs.Rendered.{operands-of}
 use Rattle.builder.proofs.Writing.{_▸_, spelled, wrote-none}
 use Rattle.builder.proofs.Records.{one-operand, two-operands, three-operands}
@@ -15,22 +17,40 @@ use Rattle.builder.proofs.write.put_operands.Tie as tie
 abbrev bytes-of-all : Operands → List ℕ
 bytes-of-all os = bytes-of-operands (operands-of os)
 
+abbrev AllFit : Operands → Type 0
+AllFit os = All (map OperandFits (operands-of os))
+
 returns : tie.Need-returns
 unfolding bytes-of-operands
-returns c = spelled (omega arith) (sym (ap bytes-of-all (c .enum-told .given .1))) (wrote-none _ _)
+returns c =
+    let is = c .enum-told .given .1 in
+    (spelled (omega arith) (sym (ap bytes-of-all is)) (wrote-none _ _), subst⁻¹ AllFit is tt)
 
 returns-2 : tie.Need-returns-2
-returns-2 c = spelled (omega arith) (one-operand _ ∙ sym (ap bytes-of-all (c .before .before .before .operands .given .1))) (c .put-operand .ensures)
+returns-2 c =
+    let is = c .before .before .before .operands .given .1 in
+    let a = c .put-operand .ensures in
+    (spelled (omega arith) (one-operand _ ∙ sym (ap bytes-of-all is)) (a .0), subst⁻¹ AllFit is (a .1))
 
 returns-3 : tie.Need-returns-3
 returns-3 c =
-    spelled (omega arith) (two-operands _ _ ∙ sym (ap bytes-of-all (c .before .before .before .before .before .operands2 .given .1)))
-    (c .before .before .put-operand2 .ensures ▸ c .put-operand3 .ensures)
+    let first = c .before .before in
+    let is = first .before .before .before .operands2 .given .1 in
+    let a = first .put-operand2 .ensures in
+    let b = c .put-operand3 .ensures in
+    (spelled (omega arith) (two-operands _ _ ∙ sym (ap bytes-of-all is)) (a .0 ▸ b .0), subst⁻¹ AllFit is (a .1, b .1))
 
 returns-4 : tie.Need-returns-4
 returns-4 c =
-    spelled (omega arith) (three-operands _ _ _ ∙ sym (ap bytes-of-all (c .before .before .before .before .before .before .before .operands3 .given .1)))
-    (c .before .before .before .before .put-operand4 .ensures ▸ c .before .before .put-operand5 .ensures ▸ c .put-operand6 .ensures)
+    let second = c .before .before in
+    let first = second .before .before in
+    let is = first .before .before .before .operands3 .given .1 in
+    let a = first .put-operand4 .ensures in
+    let b = second .put-operand5 .ensures in
+    let d = c .put-operand6 .ensures in (
+      spelled (omega arith) (three-operands _ _ _ ∙ sym (ap bytes-of-all is)) (a .0 ▸ b .0 ▸ d .0),
+      subst⁻¹ AllFit is (a .1, (b .1, d .1)),
+    )
 
 pub put-operands-spec : {M : Type 1} → statement M
 put-operands-spec =
