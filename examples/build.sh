@@ -1,9 +1,25 @@
 #!/bin/sh
-# Builds the C example over the proved static library, runs it, and holds what it prints to what the scope shows.
+# Builds the C examples over the proved static library, runs each, and holds what it prints to what the scope shows.
 set -eu
 cd "$(dirname "$0")/.."
 rt staticlib capi
 mkdir -p target
-${CC:-cc} -std=c11 -Wall -Wextra -Werror -Iinclude examples/lend.c target/staticlib/libcapi.a -o target/lend
-target/lend | tee target/lend.out
-printf 'done\nflags 0\nRax 5\ncell 4096 64 12\n' | cmp - target/lend.out
+
+# Compares what example $1 prints with standard input.
+example() {
+    ${CC:-cc} -std=c11 -Wall -Wextra -Werror -Iinclude "examples/$1.c" target/staticlib/libcapi.a -o "target/$1"
+    "target/$1" | tee "target/$1.out"
+    cmp - "target/$1.out"
+}
+
+example lend <<'END'
+done
+flags 0
+Rax 5
+cell 4096 64 12
+END
+example build_kernel <<'END'
+22 0c 00 00 00 31 41 00 40 00 00 00 00 00 00 00 00 07 41 00 40 01 00 00 00 00 00 00 00
+done
+Rax 0
+END

@@ -6,8 +6,8 @@
  *
  * Each function takes any numbers and any arrays: nothing is asked of their contents. What C itself asks is the
  * caller's: a pointer is not null, also where its length is 0; it is aligned, and as many elements lie behind it as
- * the length says; an array that is written (values, regs, xmms, flags, number, place, out) overlaps no other.
- * No function keeps a pointer, allocates, or touches anything but what it is lent.
+ * the length says; an array that is written (values, regs, xmms, flags, number, place, out, buffer and the five of a
+ * build) overlaps no other. No function keeps a pointer, allocates, or touches anything but what it is lent.
  */
 #ifndef POKCHREI_H
 #define POKCHREI_H
@@ -36,7 +36,15 @@ enum pokchrei_register {
     POKCHREI_RSI = 4,
     POKCHREI_RDI = 5,
     POKCHREI_RBP = 6,
-    POKCHREI_RSP = 7 /* then R8 to R15 at 8 to 15 */
+    POKCHREI_RSP = 7,
+    POKCHREI_R8 = 8,
+    POKCHREI_R9 = 9,
+    POKCHREI_R10 = 10,
+    POKCHREI_R11 = 11,
+    POKCHREI_R12 = 12,
+    POKCHREI_R13 = 13,
+    POKCHREI_R14 = 14,
+    POKCHREI_R15 = 15
 };
 
 /*
@@ -72,6 +80,296 @@ uint8_t pokchrei_run(const uint8_t *code, size_t code_length, const uint64_t *ad
  * byte first. The text is written to the start of out; what lies behind it stays. Answers the text's length.
  */
 size_t pokchrei_job(const uint8_t *input, size_t input_length, uint8_t out[POKCHREI_JOB_ROOM]);
+
+/*
+ * The builder: calls open a Block, an IfElse or a While, add an instruction, and close, and the lengths are filled in.
+ * The code grows at the front of a lent buffer; a length is 0 until what it counts is closed, and the bytes behind the
+ * build stay. An IfElse opens with its true part, whose close opens the false part. The functions of the library take
+ * numbers and arrays; the pokchrei_build_ functions at the end are the short way to call them.
+ */
+
+/* The room that the longest code needs. */
+#define POKCHREI_CODE_ROOM 16384
+
+/*
+ * A build; its bytes are in the buffer. Where it was begun, and each call was given build and buffer as the call before
+ * left them, pokchrei_check_code accepts it once it is finished. Any other build is answered too, with 51 where its
+ * depth is above 32, or its innermost part has a kind above 2 or does not begin behind its length and within the build;
+ * no call leaves the buffer's bounds.
+ */
+typedef struct pokchrei_build {
+    uint16_t length;     /* bytes built so far */
+    uint16_t depth;      /* how many parts are open; then for each, outermost first: */
+    uint8_t parts[32];   /* 0 a Block's codes, 1 an IfElse's true part, 2 its false part or a While's part */
+    uint16_t fields[32]; /* the place of the length that counts it */
+    uint16_t starts[32]; /* the place where it begins */
+} pokchrei_build;
+
+/* The kinds of records, in the source's names. */
+enum pokchrei_instruction {
+    POKCHREI_MOV64 = 0x01,
+    POKCHREI_ADD64 = 0x02,
+    POKCHREI_ADD_LEA64 = 0x03,
+    POKCHREI_ADD_CARRY64 = 0x04,
+    POKCHREI_ADCX64 = 0x05,
+    POKCHREI_ADOX64 = 0x06,
+    POKCHREI_SUB64 = 0x07,
+    POKCHREI_MUL64 = 0x08,
+    POKCHREI_MULX64 = 0x09,
+    POKCHREI_IMUL64 = 0x0a,
+    POKCHREI_XOR64 = 0x0b,
+    POKCHREI_AND64 = 0x0c,
+    POKCHREI_SHR64 = 0x0d,
+    POKCHREI_SHL64 = 0x0e,
+    POKCHREI_PADDD = 0x0f,
+    POKCHREI_PXOR = 0x10,
+    POKCHREI_PSLLD = 0x11,
+    POKCHREI_PSRLD = 0x12,
+    POKCHREI_PSHUFD = 0x13,
+    POKCHREI_PCMPEQD = 0x14,
+    POKCHREI_PEXTRQ = 0x15,
+    POKCHREI_PINSRD = 0x16,
+    POKCHREI_PINSRQ = 0x17,
+    POKCHREI_VPSLLDQ = 0x18
+};
+
+enum pokchrei_comparison {
+    POKCHREI_O_EQ = 0x30,
+    POKCHREI_O_NE = 0x31,
+    POKCHREI_O_LE = 0x32,
+    POKCHREI_O_GE = 0x33,
+    POKCHREI_O_LT = 0x34,
+    POKCHREI_O_GT = 0x35
+};
+
+enum pokchrei_operand_kind {
+    POKCHREI_O_CONST = 0x40,
+    POKCHREI_O_REG = 0x41,
+    POKCHREI_M_CONST = 0x42,
+    POKCHREI_M_REG = 0x43,
+    POKCHREI_M_INDEX = 0x44
+};
+
+/* An operand. Here and in a record, what the kind does not have is not looked at. */
+typedef struct pokchrei_operand {
+    uint8_t kind;
+    uint8_t base;    /* the register of O_REG and M_REG, the base of M_INDEX */
+    uint8_t index;   /* M_INDEX */
+    int16_t scale;   /* M_INDEX */
+    uint64_t number; /* O_CONST, M_CONST */
+    int64_t offset;  /* M_REG, M_INDEX */
+} pokchrei_operand;
+
+/* An instruction or a comparison: its kind, its xmm numbers, amounts and imm8, and up to three operands. */
+typedef struct pokchrei_record {
+    uint8_t kind;
+    uint8_t body[3];
+    uint8_t operands[3];
+    uint8_t bases[3];
+    uint8_t indexes[3];
+    int16_t scales[3];
+    uint64_t numbers[3];
+    int64_t offsets[3];
+} pokchrei_record;
+
+/* Begins a build: all zeros. */
+void pokchrei_begin(uint16_t *length, uint16_t *depth, uint8_t parts[32], uint16_t fields[32], uint16_t starts[32]);
+
+/*
+ * The calls. Each answers 0 where it is taken, else the number of the first of these that holds, and then changes
+ * neither buffer nor build:
+ *
+ *      2  the kind is no instruction's (add) or no comparison's (open_if_else, open_while), or an operand's kind is
+ *         none
+ *     51  the call does not fit the open part: a close with nothing open or of a part that lacks its code, a second
+ *         code in a part that takes one, anything after the finish
+ *      4  a register or xmm number is above 15
+ *     53  the added code would stand at depth 33
+ *     52  the build's bytes with the call's exceed the buffer or 16,384
+ */
+uint8_t pokchrei_open_block(uint16_t *length, uint16_t *depth, uint8_t parts[32], uint16_t fields[32],
+                            uint16_t starts[32], uint8_t *buffer, size_t buffer_length);
+
+uint8_t pokchrei_open_if_else(uint16_t *length, uint16_t *depth, uint8_t parts[32], uint16_t fields[32],
+                              uint16_t starts[32], uint8_t *buffer, size_t buffer_length, uint8_t kind,
+                              const uint8_t body[3], const uint8_t operands[3], const uint8_t bases[3],
+                              const uint8_t indexes[3], const int16_t scales[3], const uint64_t numbers[3],
+                              const int64_t offsets[3]);
+
+uint8_t pokchrei_open_while(uint16_t *length, uint16_t *depth, uint8_t parts[32], uint16_t fields[32],
+                            uint16_t starts[32], uint8_t *buffer, size_t buffer_length, uint8_t kind,
+                            const uint8_t body[3], const uint8_t operands[3], const uint8_t bases[3],
+                            const uint8_t indexes[3], const int16_t scales[3], const uint64_t numbers[3],
+                            const int64_t offsets[3]);
+
+uint8_t pokchrei_add(uint16_t *length, uint16_t *depth, uint8_t parts[32], uint16_t fields[32], uint16_t starts[32],
+                     uint8_t *buffer, size_t buffer_length, uint8_t kind, const uint8_t body[3],
+                     const uint8_t operands[3], const uint8_t bases[3], const uint8_t indexes[3],
+                     const int16_t scales[3], const uint64_t numbers[3], const int64_t offsets[3]);
+
+uint8_t pokchrei_close(uint16_t *length, uint16_t *depth, uint8_t parts[32], uint16_t fields[32], uint16_t starts[32],
+                       uint8_t *buffer, size_t buffer_length);
+
+/* Operands. A register is given as a number, so that one above 15 gets the builder's answer. */
+
+static inline pokchrei_operand pokchrei_const(uint64_t number)
+{
+    pokchrei_operand operand = {POKCHREI_O_CONST, 0, 0, 0, number, 0};
+    return operand;
+}
+
+static inline pokchrei_operand pokchrei_reg(uint8_t reg)
+{
+    pokchrei_operand operand = {POKCHREI_O_REG, reg, 0, 0, 0, 0};
+    return operand;
+}
+
+static inline pokchrei_operand pokchrei_mconst(uint64_t address)
+{
+    pokchrei_operand operand = {POKCHREI_M_CONST, 0, 0, 0, address, 0};
+    return operand;
+}
+
+static inline pokchrei_operand pokchrei_mreg(uint8_t reg, int64_t offset)
+{
+    pokchrei_operand operand = {POKCHREI_M_REG, reg, 0, 0, 0, offset};
+    return operand;
+}
+
+/* At base + scale * index + offset. */
+static inline pokchrei_operand pokchrei_mindex(uint8_t base, int16_t scale, uint8_t index, int64_t offset)
+{
+    pokchrei_operand operand = {POKCHREI_M_INDEX, base, index, scale, 0, offset};
+    return operand;
+}
+
+/* Records, by what their kinds have. */
+
+static inline pokchrei_record pokchrei_record_of(uint8_t kind, uint8_t x, uint8_t y, uint8_t z)
+{
+    /* Written out: C++ warns of {0}, and C99 has no {}. */
+    pokchrei_record record = {kind,      {x, y, z}, {0, 0, 0}, {0, 0, 0},
+                              {0, 0, 0}, {0, 0, 0}, {0, 0, 0}, {0, 0, 0}};
+    return record;
+}
+
+static inline void pokchrei_set_operand(pokchrei_record *record, size_t i, pokchrei_operand operand)
+{
+    record->operands[i] = operand.kind;
+    record->bases[i] = operand.base;
+    record->indexes[i] = operand.index;
+    record->scales[i] = operand.scale;
+    record->numbers[i] = operand.number;
+    record->offsets[i] = operand.offset;
+}
+
+/* MUL64, its source. */
+static inline pokchrei_record pokchrei_one(enum pokchrei_instruction kind, pokchrei_operand a)
+{
+    pokchrei_record record = pokchrei_record_of((uint8_t)kind, 0, 0, 0);
+    pokchrei_set_operand(&record, 0, a);
+    return record;
+}
+
+/* MOV64, ADD64, ADD_CARRY64 to SUB64, IMUL64 to SHL64: destination, then source or amount. */
+static inline pokchrei_record pokchrei_two(enum pokchrei_instruction kind, pokchrei_operand a, pokchrei_operand b)
+{
+    pokchrei_record record = pokchrei_one(kind, a);
+    pokchrei_set_operand(&record, 1, b);
+    return record;
+}
+
+/* ADD_LEA64, destination and two sources; MULX64, high destination, low destination, source. */
+static inline pokchrei_record pokchrei_three(enum pokchrei_instruction kind, pokchrei_operand a, pokchrei_operand b,
+                                             pokchrei_operand c)
+{
+    pokchrei_record record = pokchrei_two(kind, a, b);
+    pokchrei_set_operand(&record, 2, c);
+    return record;
+}
+
+/* PADDD, PXOR, PCMPEQD. */
+static inline pokchrei_record pokchrei_xmms(enum pokchrei_instruction kind, uint8_t dst, uint8_t src)
+{
+    return pokchrei_record_of((uint8_t)kind, dst, src, 0);
+}
+
+/* PSLLD, PSRLD. */
+static inline pokchrei_record pokchrei_xmm_amount(enum pokchrei_instruction kind, uint8_t dst, uint8_t amount)
+{
+    return pokchrei_record_of((uint8_t)kind, dst, amount, 0);
+}
+
+/* PSHUFD and its permutation, VPSLLDQ and its count. */
+static inline pokchrei_record pokchrei_xmms_amount(enum pokchrei_instruction kind, uint8_t dst, uint8_t src,
+                                                   uint8_t amount)
+{
+    return pokchrei_record_of((uint8_t)kind, dst, src, amount);
+}
+
+/* PEXTRQ from the xmm's lane to the operand; PINSRD and PINSRQ from the operand to the lane. */
+static inline pokchrei_record pokchrei_lane(enum pokchrei_instruction kind, uint8_t xmm, uint8_t index,
+                                            pokchrei_operand operand)
+{
+    pokchrei_record record = pokchrei_record_of((uint8_t)kind, xmm, index, 0);
+    pokchrei_set_operand(&record, 0, operand);
+    return record;
+}
+
+static inline pokchrei_record pokchrei_compare(enum pokchrei_comparison kind, pokchrei_operand a, pokchrei_operand b)
+{
+    pokchrei_record record = pokchrei_record_of((uint8_t)kind, 0, 0, 0);
+    pokchrei_set_operand(&record, 0, a);
+    pokchrei_set_operand(&record, 1, b);
+    return record;
+}
+
+/* The calls on a build and a buffer with this much room. They answer as above. */
+
+static inline void pokchrei_build_begin(pokchrei_build *build)
+{
+    pokchrei_begin(&build->length, &build->depth, build->parts, build->fields, build->starts);
+}
+
+static inline uint8_t pokchrei_build_block(pokchrei_build *build, uint8_t *buffer, size_t room)
+{
+    return pokchrei_open_block(&build->length, &build->depth, build->parts, build->fields, build->starts, buffer, room);
+}
+
+static inline uint8_t pokchrei_build_if_else(pokchrei_build *build, uint8_t *buffer, size_t room,
+                                             pokchrei_record comparison)
+{
+    return pokchrei_open_if_else(&build->length, &build->depth, build->parts, build->fields, build->starts, buffer,
+                                 room, comparison.kind, comparison.body, comparison.operands, comparison.bases,
+                                 comparison.indexes, comparison.scales, comparison.numbers, comparison.offsets);
+}
+
+static inline uint8_t pokchrei_build_while(pokchrei_build *build, uint8_t *buffer, size_t room,
+                                           pokchrei_record comparison)
+{
+    return pokchrei_open_while(&build->length, &build->depth, build->parts, build->fields, build->starts, buffer,
+                               room, comparison.kind, comparison.body, comparison.operands, comparison.bases,
+                               comparison.indexes, comparison.scales, comparison.numbers, comparison.offsets);
+}
+
+static inline uint8_t pokchrei_build_add(pokchrei_build *build, uint8_t *buffer, size_t room,
+                                         pokchrei_record instruction)
+{
+    return pokchrei_add(&build->length, &build->depth, build->parts, build->fields, build->starts, buffer, room,
+                        instruction.kind, instruction.body, instruction.operands, instruction.bases,
+                        instruction.indexes, instruction.scales, instruction.numbers, instruction.offsets);
+}
+
+static inline uint8_t pokchrei_build_close(pokchrei_build *build, uint8_t *buffer, size_t room)
+{
+    return pokchrei_close(&build->length, &build->depth, build->parts, build->fields, build->starts, buffer, room);
+}
+
+/* Whether the outermost code is complete: the code is then the buffer's first build->length bytes. */
+static inline int pokchrei_build_finished(const pokchrei_build *build)
+{
+    return build->depth == 0 && build->length > 0;
+}
 
 #ifdef __cplusplus
 }

@@ -5,7 +5,13 @@
 
 #![deny(unsafe_op_in_unsafe_fn)]
 
+mod builder;
+mod kernel;
 mod raw;
+mod record;
+
+pub use builder::{BuildRefusal, Builder, CODE_ROOM};
+pub use kernel::{Comparison, Instruction, Operand, Reg, Xmm};
 
 /// Why code or cells were not accepted: document 01's number, with a place (code) or an index (cells).
 #[derive(Clone, Copy, Debug, PartialEq, Eq)]

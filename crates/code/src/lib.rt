@@ -9,6 +9,7 @@ mod tree;
 pub use kinds::Class;
 pub use kinds::class_of;
 pub use kinds::is_two;
+pub use kinds::operand_count;
 pub use numbers::number2;
 pub use numbers::number4;
 pub use numbers::number8;

@@ -1,0 +1,3 @@
+pub mod Given
+pub mod Signed
+pub mod KindsGiven
