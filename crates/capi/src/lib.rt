@@ -1,4 +1,6 @@
 // The C interface: the entry points on numbers and lent arrays. A slice passes as a pointer and a length.
+mod build;
+
 ghost use mathlib.Core.Path.{_≡_};
 ghost use Rattle.machine.specs.Cells.{verdict, check-cells};
 ghost use Rattle.code.specs.Reader.{check-code};

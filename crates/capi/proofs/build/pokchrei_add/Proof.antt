@@ -1,0 +1,24 @@
+-- What the numbers give, and the call where they give something.
+use Rattle.capi.proofs.Handed.{handed, added, not-added, instruction-fits, no-instruction-fits}
+use borrow.Author.Needs.{needs}
+use Rattle.capi.proofs.build.pokchrei_add.Statement.{statement}
+use Rattle.capi.proofs.build.pokchrei_add.Tie as tie
+
+returns : tie.Need-returns
+returns c =
+    let given = c .before .before .instruction-of .ensures in
+    (not-added _ _ given (c .enum-told .given .1), no-instruction-fits given (c .enum-told .given .1))
+
+returns-2 : tie.Need-returns-2
+returns-2 c =
+    let call = c .before .before .before .before .before .before .before .before in
+    let value = call .before .before .before .before .before .before .before .before in
+    let given = value .before .before .instruction-of .ensures in
+    let is = value .value .given .1 in
+    (added _ _ given is (handed (c .hand-back .ensures) (call .add .ensures .0)), instruction-fits given is (call .add .ensures .1))
+
+pub pokchrei-add-spec : {M : Type 1} → statement M
+pokchrei-add-spec =
+    tie.close
+    (tie.spec (λ c κs. search needs) (λ c. search needs) (λ c. search needs) returns (λ c κs. search needs)
+    (λ c κs. search needs) (λ c. search needs) returns-2)

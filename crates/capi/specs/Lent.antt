@@ -1,0 +1,55 @@
+-- What the builder's C calls do: a build and a record are lent in parts.
+use Prim.Native.Nat.{ℕ}
+use mathlib.Core.List.{List}
+use Rattle.builder.specs.declared.build.Build.{Build}
+use Rattle.builder.specs.Calls.{add, open-if-else, open-while, CallFits}
+use Rattle.builder.specs.Building.{Outcome, outcome, call}
+use Rattle.numbered.specs.declared.operands.Numbers.{Numbers}
+use Rattle.numbered.specs.declared.values.GivenInstruction.{GivenInstruction}
+use Rattle.numbered.specs.declared.values.GivenInstruction.the-variants.{Value, Nothing}
+use Rattle.numbered.specs.declared.values.GivenComparison.{GivenComparison}
+use Rattle.numbered.specs.declared.values.GivenComparison.the-variants.{Value as Compares, Nothing as NoComparison}
+
+-- the build that is lent in parts
+abbrev pub lent-build : ℕ → ℕ → List ℕ → List ℕ → List ℕ → Build
+lent-build length depth parts fields starts =
+    record { length = length; depth = depth; parts = parts; fields = fields; starts = starts }
+
+-- the numbers that are
+abbrev pub lent-numbers : ℕ → List ℕ → List ℕ → List ℕ → List ℕ → List ℕ → List ℕ → List ℕ → Numbers
+lent-numbers kind body operands bases indexes scales numbers offsets =
+    record {
+      kind = kind;
+      body = body;
+      operands = operands;
+      bases = bases;
+      indexes = indexes;
+      scales = scales;
+      numbers = numbers;
+      offsets = offsets;
+    }
+
+-- an instruction is added; what is none is answered 2, and nothing changes
+abbrev pub add-given : GivenInstruction → Build → List ℕ → Outcome
+add-given (Value i) b buffer = call (add i) b buffer
+add-given Nothing b buffer = outcome 2 b buffer
+
+-- an IfElse is opened
+abbrev pub if-else-given : GivenComparison → Build → List ℕ → Outcome
+if-else-given (Compares c) b buffer = call (open-if-else c) b buffer
+if-else-given NoComparison b buffer = outcome 2 b buffer
+
+-- a While is
+abbrev pub while-given : GivenComparison → Build → List ℕ → Outcome
+while-given (Compares c) b buffer = call (open-while c) b buffer
+while-given NoComparison b buffer = outcome 2 b buffer
+
+-- what is given is one of the types
+abbrev pub InstructionFits : GivenInstruction → Type 0
+InstructionFits (Value i) = CallFits (add i)
+InstructionFits Nothing = Unit {0}
+
+-- a comparison fits either structure
+abbrev pub ComparisonFits : GivenComparison → Type 0
+ComparisonFits (Compares c) = CallFits (open-if-else c)
+ComparisonFits NoComparison = Unit {0}

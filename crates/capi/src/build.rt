@@ -1,0 +1,298 @@
+// The builder's calls. A build passes as five lent numbers and arrays, an instruction or a comparison as numbers and arrays.
+ghost use mathlib.Core.Path.{_≡_};
+ghost use Rattle.builder.specs.Calls.{open-block, close};
+ghost use Rattle.builder.specs.Building.{empty, outcome, call};
+ghost use Rattle.numbered.specs.Values.{instruction-given, comparison-given};
+ghost use Rattle.capi.specs.Lent.{lent-build, lent-numbers, add-given, if-else-given, while-given, InstructionFits, ComparisonFits};
+use builder::Build;
+use builder::Built;
+use builder::add;
+use builder::begin;
+use builder::close;
+use builder::open_block;
+use builder::open_if_else;
+use builder::open_while;
+use numbered::GivenComparison;
+use numbered::GivenInstruction;
+use numbered::Numbers;
+use numbered::comparison_of;
+use numbered::instruction_of;
+
+// What is given is no value: a kind is none of those allowed there.
+const NO_VALUE: u8 = 2;
+
+// The build into its lent parts.
+fn hand_back(
+    build: Build,
+    length: &mut u16,
+    depth: &mut u16,
+    parts: &mut [u8; 32],
+    fields: &mut [u16; 32],
+    starts: &mut [u16; 32],
+)
+    ensures { λ _. ⌜ lent-build (now (length .exit)) (now (depth .exit)) (now (parts .exit)) (now (fields .exit)) (now (starts .exit)) ≡ build ⌝ }
+{
+    let new_parts = build.parts;
+    let new_fields = build.fields;
+    let new_starts = build.starts;
+    *length = build.length;
+    *depth = build.depth;
+    *parts = new_parts;
+    *fields = new_fields;
+    *starts = new_starts;
+}
+
+#[no_mangle]
+pub extern "C" fn pokchrei_begin(
+    length: &mut u16,
+    depth: &mut u16,
+    parts: &mut [u8; 32],
+    fields: &mut [u16; 32],
+    starts: &mut [u16; 32],
+)
+    ensures { λ _. ⌜ lent-build (now (length .exit)) (now (depth .exit)) (now (parts .exit)) (now (fields .exit)) (now (starts .exit)) ≡ empty ⌝ }
+{
+    hand_back(begin(), length, depth, parts, fields, starts);
+}
+
+#[no_mangle]
+pub extern "C" fn pokchrei_open_block(
+    length: &mut u16,
+    depth: &mut u16,
+    parts: &mut [u8; 32],
+    fields: &mut [u16; 32],
+    starts: &mut [u16; 32],
+    buffer: &mut [u8],
+) -> u8
+    ensures { λ r. ⌜
+        outcome r (lent-build (now (length .exit)) (now (depth .exit)) (now (parts .exit)) (now (fields .exit)) (now (starts .exit))) (now (buffer .exit))
+        ≡ call open-block (lent-build (now (length .entry)) (now (depth .entry)) (now (parts .entry)) (now (fields .entry)) (now (starts .entry))) (now (buffer .entry)) ⌝ }
+{
+    let old_parts = *parts;
+    let old_fields = *fields;
+    let old_starts = *starts;
+    let build = Build {
+        length: *length,
+        depth: *depth,
+        parts: old_parts,
+        fields: old_fields,
+        starts: old_starts,
+    };
+    let built = open_block(build, buffer);
+    hand_back(built.build, length, depth, parts, fields, starts);
+    built.answer
+}
+
+#[no_mangle]
+pub extern "C" fn pokchrei_close(
+    length: &mut u16,
+    depth: &mut u16,
+    parts: &mut [u8; 32],
+    fields: &mut [u16; 32],
+    starts: &mut [u16; 32],
+    buffer: &mut [u8],
+) -> u8
+    ensures { λ r. ⌜
+        outcome r (lent-build (now (length .exit)) (now (depth .exit)) (now (parts .exit)) (now (fields .exit)) (now (starts .exit))) (now (buffer .exit))
+        ≡ call close (lent-build (now (length .entry)) (now (depth .entry)) (now (parts .entry)) (now (fields .entry)) (now (starts .entry))) (now (buffer .entry)) ⌝ }
+{
+    let old_parts = *parts;
+    let old_fields = *fields;
+    let old_starts = *starts;
+    let build = Build {
+        length: *length,
+        depth: *depth,
+        parts: old_parts,
+        fields: old_fields,
+        starts: old_starts,
+    };
+    let built = close(build, buffer);
+    hand_back(built.build, length, depth, parts, fields, starts);
+    built.answer
+}
+
+#[no_mangle]
+pub extern "C" fn pokchrei_open_if_else(
+    length: &mut u16,
+    depth: &mut u16,
+    parts: &mut [u8; 32],
+    fields: &mut [u16; 32],
+    starts: &mut [u16; 32],
+    buffer: &mut [u8],
+    kind: u8,
+    body: &[u8; 3],
+    operands: &[u8; 3],
+    bases: &[u8; 3],
+    indexes: &[u8; 3],
+    scales: &[u16; 3],
+    numbers: &[u64; 3],
+    offsets: &[u64; 3],
+) -> u8
+    ensures { λ r. ⌜
+        outcome r (lent-build (now (length .exit)) (now (depth .exit)) (now (parts .exit)) (now (fields .exit)) (now (starts .exit))) (now (buffer .exit))
+        ≡ if-else-given
+        (comparison-given (lent-numbers kind (now (body .entry)) (now (operands .entry)) (now (bases .entry)) (now (indexes .entry))
+        (now (scales .entry)) (now (numbers .entry)) (now (offsets .entry))))
+        (lent-build (now (length .entry)) (now (depth .entry)) (now (parts .entry)) (now (fields .entry)) (now (starts .entry))) (now (buffer .entry)) ⌝ }
+    ensures { λ _. ⌜ ComparisonFits (comparison-given (lent-numbers kind (now (body .entry)) (now (operands .entry)) (now (bases .entry)) (now (indexes .entry))
+        (now (scales .entry)) (now (numbers .entry)) (now (offsets .entry)))) ⌝ }
+{
+    let given_body = *body;
+    let given_operands = *operands;
+    let given_bases = *bases;
+    let given_indexes = *indexes;
+    let given_scales = *scales;
+    let given_numbers = *numbers;
+    let given_offsets = *offsets;
+    let given = Numbers {
+        kind,
+        body: given_body,
+        operands: given_operands,
+        bases: given_bases,
+        indexes: given_indexes,
+        scales: given_scales,
+        numbers: given_numbers,
+        offsets: given_offsets,
+    };
+    let value = comparison_of(given);
+    let GivenComparison::Value(value) = value else {
+        return NO_VALUE;
+    };
+    let old_parts = *parts;
+    let old_fields = *fields;
+    let old_starts = *starts;
+    let build = Build {
+        length: *length,
+        depth: *depth,
+        parts: old_parts,
+        fields: old_fields,
+        starts: old_starts,
+    };
+    let built = open_if_else(build, buffer, value);
+    hand_back(built.build, length, depth, parts, fields, starts);
+    built.answer
+}
+
+#[no_mangle]
+pub extern "C" fn pokchrei_open_while(
+    length: &mut u16,
+    depth: &mut u16,
+    parts: &mut [u8; 32],
+    fields: &mut [u16; 32],
+    starts: &mut [u16; 32],
+    buffer: &mut [u8],
+    kind: u8,
+    body: &[u8; 3],
+    operands: &[u8; 3],
+    bases: &[u8; 3],
+    indexes: &[u8; 3],
+    scales: &[u16; 3],
+    numbers: &[u64; 3],
+    offsets: &[u64; 3],
+) -> u8
+    ensures { λ r. ⌜
+        outcome r (lent-build (now (length .exit)) (now (depth .exit)) (now (parts .exit)) (now (fields .exit)) (now (starts .exit))) (now (buffer .exit))
+        ≡ while-given
+        (comparison-given (lent-numbers kind (now (body .entry)) (now (operands .entry)) (now (bases .entry)) (now (indexes .entry))
+        (now (scales .entry)) (now (numbers .entry)) (now (offsets .entry))))
+        (lent-build (now (length .entry)) (now (depth .entry)) (now (parts .entry)) (now (fields .entry)) (now (starts .entry))) (now (buffer .entry)) ⌝ }
+    ensures { λ _. ⌜ ComparisonFits (comparison-given (lent-numbers kind (now (body .entry)) (now (operands .entry)) (now (bases .entry)) (now (indexes .entry))
+        (now (scales .entry)) (now (numbers .entry)) (now (offsets .entry)))) ⌝ }
+{
+    let given_body = *body;
+    let given_operands = *operands;
+    let given_bases = *bases;
+    let given_indexes = *indexes;
+    let given_scales = *scales;
+    let given_numbers = *numbers;
+    let given_offsets = *offsets;
+    let given = Numbers {
+        kind,
+        body: given_body,
+        operands: given_operands,
+        bases: given_bases,
+        indexes: given_indexes,
+        scales: given_scales,
+        numbers: given_numbers,
+        offsets: given_offsets,
+    };
+    let value = comparison_of(given);
+    let GivenComparison::Value(value) = value else {
+        return NO_VALUE;
+    };
+    let old_parts = *parts;
+    let old_fields = *fields;
+    let old_starts = *starts;
+    let build = Build {
+        length: *length,
+        depth: *depth,
+        parts: old_parts,
+        fields: old_fields,
+        starts: old_starts,
+    };
+    let built = open_while(build, buffer, value);
+    hand_back(built.build, length, depth, parts, fields, starts);
+    built.answer
+}
+
+#[no_mangle]
+pub extern "C" fn pokchrei_add(
+    length: &mut u16,
+    depth: &mut u16,
+    parts: &mut [u8; 32],
+    fields: &mut [u16; 32],
+    starts: &mut [u16; 32],
+    buffer: &mut [u8],
+    kind: u8,
+    body: &[u8; 3],
+    operands: &[u8; 3],
+    bases: &[u8; 3],
+    indexes: &[u8; 3],
+    scales: &[u16; 3],
+    numbers: &[u64; 3],
+    offsets: &[u64; 3],
+) -> u8
+    ensures { λ r. ⌜
+        outcome r (lent-build (now (length .exit)) (now (depth .exit)) (now (parts .exit)) (now (fields .exit)) (now (starts .exit))) (now (buffer .exit))
+        ≡ add-given
+        (instruction-given (lent-numbers kind (now (body .entry)) (now (operands .entry)) (now (bases .entry)) (now (indexes .entry))
+        (now (scales .entry)) (now (numbers .entry)) (now (offsets .entry))))
+        (lent-build (now (length .entry)) (now (depth .entry)) (now (parts .entry)) (now (fields .entry)) (now (starts .entry))) (now (buffer .entry)) ⌝ }
+    ensures { λ _. ⌜ InstructionFits (instruction-given (lent-numbers kind (now (body .entry)) (now (operands .entry)) (now (bases .entry)) (now (indexes .entry))
+        (now (scales .entry)) (now (numbers .entry)) (now (offsets .entry)))) ⌝ }
+{
+    let given_body = *body;
+    let given_operands = *operands;
+    let given_bases = *bases;
+    let given_indexes = *indexes;
+    let given_scales = *scales;
+    let given_numbers = *numbers;
+    let given_offsets = *offsets;
+    let given = Numbers {
+        kind,
+        body: given_body,
+        operands: given_operands,
+        bases: given_bases,
+        indexes: given_indexes,
+        scales: given_scales,
+        numbers: given_numbers,
+        offsets: given_offsets,
+    };
+    let value = instruction_of(given);
+    let GivenInstruction::Value(value) = value else {
+        return NO_VALUE;
+    };
+    let old_parts = *parts;
+    let old_fields = *fields;
+    let old_starts = *starts;
+    let build = Build {
+        length: *length,
+        depth: *depth,
+        parts: old_parts,
+        fields: old_fields,
+        starts: old_starts,
+    };
+    let built = add(build, buffer, value);
+    hand_back(built.build, length, depth, parts, fields, starts);
+    built.answer
+}
