@@ -15,9 +15,9 @@ use Rattle.code.specs.Writer.{bytes-of, bytes-of-record, bytes-of-ins, bytes-of
 use Rattle.builder.specs.declared.build.Build.{Build}
 use Rattle.builder.specs.declared.record.Record.{Record}
 use Rattle.builder.specs.Calls.{open-block, open-if-else, open-while, add, close, bytes-of-call, record-named, call-named, RecordFits, CallFits}
-use Rattle.builder.specs.Building.{kind-of, field-of, start-of, is-part, takes-code, takes-close, call-fits, depth-of, judge, refusal, longer, opened, turned, shut, build-after, buffer-after, Outcome, outcome, answered, call}
+use Rattle.builder.specs.Building.{kind-of, field-of, start-of, is-part, takes-code, takes-close, call-fits, depth-of, judge, refusal, longer, opened, turned, shut, build-after, buffer-after, Closable, Outcome, outcome, answered, call}
 use Rattle.builder.specs.Rendered.{layout-of, Wrote}
-use Rattle.builder.proofs.Judged.{both}
+use Rattle.builder.proofs.Judged.{both, was-taken, same-judge}
 
 -- ---- what a record leaves in the array
 
@@ -120,61 +120,79 @@ module _ (entry written : List ℕ) {r : ℕ} where
     pub refused-as : (r ≡ 0 → ⊥) → outcome r b exit ≡ answered j b next entry written
     refused-as z = rw (sym e, s, ne-eqb r 0 z) refl
 
+-- a refused call, as it hands the build back
+pub handed-back :
+    {r a : ℕ} {now b : Build} {exit : List ℕ} {o : Outcome} → (r ≡ a) × (now ≡ b) → outcome a b exit ≡ o → outcome r now exit ≡ o
+handed-back {exit} e f = rw (e .0, e .1) f
+
 -- ---- a close
 
--- the innermost part of a build that takes a close
-pub record Closable (b : Build) : Type 0 where
-  pub some-open : 0 < b .depth
-  pub not-many : b .depth ≤ 32
-  pub behind-field : field-of b + 4 ≤ start-of b
-  pub in-build : start-of b ≤ b .length
-
-pub closable : (b : Build) → takes-close b ≡ true → Closable b
-unfolding takes-close is-part
-closable b h =
-    let a = both (ltb 0 (b .depth) && is-part b) (eqb (kind-of b) 0 || ltb (start-of b) (b .length)) h in
+pub closable :
+    (b : Build) (room : ℕ) {r : ℕ} → r ≡ refusal close b room → r ≡ 0 → Closable b room
+unfolding refusal call-fits call-named depth-of bytes-of-call takes-close is-part
+closable b room e z =
+    let taken = was-taken _ _ _ _ _ e z in
+    let a = both (ltb 0 (b .depth) && is-part b) (eqb (kind-of b) 0 || ltb (start-of b) (b .length)) (taken .it-fits) in
     let c = both (ltb 0 (b .depth)) (is-part b) (a .0) in
     let d = both _ (leb (start-of b) (b .length)) (c .1) in
-    let e = both _ (leb (field-of b + 4) (start-of b)) (d .0) in
-    let f = both (leb (b .depth) 32) (leb (kind-of b) 2) (e .0) in
+    let f = both _ (leb (field-of b + 4) (start-of b)) (d .0) in
+    let g = both (leb (b .depth) 32) (leb (kind-of b) 2) (f .0) in
     record {
       some-open = ltb-true 0 (b .depth) (c .0);
-      not-many = leb-true (b .depth) 32 (f .0);
-      behind-field = leb-true (field-of b + 4) (start-of b) (e .1);
+      not-many = leb-true (b .depth) 32 (g .0);
+      behind-field = leb-true (field-of b + 4) (start-of b) (f .1);
       in-build = leb-true (start-of b) (b .length) (d .1);
+      in-room = omega (arith, taken .in-room);
+      in-all = omega (arith, taken .in-all);
     }
+
+-- in a buffer of the limit too
+pub in-limit : {b : Build} {room : ℕ} → Closable b room → Closable b 16384
+in-limit c =
+    record {
+      some-open = c .some-open;
+      not-many = c .not-many;
+      behind-field = c .behind-field;
+      in-build = c .in-build;
+      in-room = c .in-all;
+      in-all = c .in-all;
+    }
+
+-- a close adds no bytes
+pub close-refusal :
+    (b : Build) (room : ℕ) {fits : Bool} {depth length r : ℕ} → fits ≡ takes-close b → depth ≡ b .depth → length ≡ b .length
+    → r ≡ judge fits true depth length room → r ≡ refusal close b room
+unfolding refusal call-fits call-named depth-of bytes-of-call
+close-refusal b room e f g h = same-judge _ _ _ _ _ _ _ _ e f (omega (arith, g)) h
 
 -- the length that a close stores
 pub close-stored :
     (b : Build) (entry : List ℕ) (k : ℕ) {field n : ℕ} {bytes exit : List ℕ}
     → field ≡ field-of b → k ≡ b .length - start-of b → Wrote 4 (replicate 52 0) 0 (bytes-of 4 k) bytes n
-    → exit ≡ sets entry field (take 4 bytes) → exit ≡ sets entry (field-of b) (bytes-of 4 (b .length - start-of b))
-unfolding bytes-of
+    → exit ≡ sets entry field (take 4 bytes) → exit ≡ buffer-after close b entry
+unfolding bytes-of buffer-after
 close-stored b entry k {field} {n} {bytes} e f w h =
     let four : n ≡ 4 = let p = w .place in omega arith in
     h
     ∙ ap (λ (x : ℕ). sets entry x (take 4 bytes)) e
     ∙ ap (sets entry (field-of b)) (ap (λ (x : ℕ). take x bytes) (sym four) ∙ in-front w (omega arith) ∙ ap (bytes-of 4) f)
 
-module _ (b : Build) (entry : List ℕ) {r : ℕ} (e : r ≡ judge (takes-close b) true (b .depth) (b .length) (length entry)) where
-  -- a close adds no bytes
-  is-refusal : r ≡ refusal close b (length entry)
-  unfolding refusal call-fits call-named depth-of bytes-of-call
-  is-refusal = e ∙ ap (λ (x : ℕ). judge (takes-close b) true (b .depth) x (length entry)) (omega arith)
+-- the build after it
+pub close-turned : (b : Build) {r : Build} → kind-of b ≡ 1 → r ≡ turned b → r ≡ build-after close b
+unfolding build-after
+close-turned b k n = n ∙ rw (eq-eqb (kind-of b) 1 k) refl
 
+pub close-shut : (b : Build) {r : Build} → (kind-of b ≡ 1 → ⊥) → r ≡ shut b → r ≡ build-after close b
+unfolding build-after
+close-shut b k n = n ∙ rw (ne-eqb (kind-of b) 1 k) refl
+
+module _ (b : Build) (entry : List ℕ) {r : ℕ} (e : r ≡ refusal close b (length entry)) where
   pub close-refused : (r ≡ 0 → ⊥) → outcome r b entry ≡ call close b entry
   unfolding call
-  close-refused z = refused-as entry (buffer-after close b entry) b (build-after close b) is-refusal (not-stored entry _ z) z
+  close-refused z = refused-as entry (buffer-after close b entry) b (build-after close b) e (not-stored entry _ z) z
 
-  module _ {exit : List ℕ} (z : r ≡ 0) (s : exit ≡ sets entry (field-of b) (bytes-of 4 (b .length - start-of b))) where
-    close-taken : {now : Build} → now ≡ build-after close b → outcome r now exit ≡ call close b entry
-    unfolding call buffer-after
-    close-taken = taken-as entry (buffer-after close b entry) b (build-after close b) is-refusal (stored entry _ z s) z
-
-    pub close-turned : {now : Build} → kind-of b ≡ 1 → now ≡ turned b → outcome r now exit ≡ call close b entry
-    unfolding build-after
-    close-turned k n = close-taken (n ∙ rw (eq-eqb (kind-of b) 1 k) refl)
-
-    pub close-shut : {now : Build} → (kind-of b ≡ 1 → ⊥) → now ≡ shut b → outcome r now exit ≡ call close b entry
-    unfolding build-after
-    close-shut k n = close-taken (n ∙ rw (ne-eqb (kind-of b) 1 k) refl)
+  pub close-taken :
+      {now : Build} {exit : List ℕ} → r ≡ 0 → exit ≡ buffer-after close b entry → now ≡ build-after close b
+      → outcome r now exit ≡ call close b entry
+  unfolding call
+  close-taken z s = taken-as entry (buffer-after close b entry) b (build-after close b) e (stored entry _ z s) z

@@ -1,6 +1,6 @@
 -- What a call does, one definition for every build and buffer. No call left a build whose innermost open part does not begin behind its length
 -- and within the build: such a part takes nothing.
-use Prim.Native.Nat.{ℕ, _+_, _-_}
+use Prim.Native.Nat.{ℕ, _+_, _-_, _≤_, _<_}
 use mathlib.Core.Bool.{Bool, true, false, _&&_, _||_, cond}
 use mathlib.Core.List.{List}
 use lib.Dec.{eqb, ltb, leb}
@@ -40,6 +40,15 @@ takes-code b = cond (eqb (b .depth) 0) (eqb (b .length) 0) (is-part b && (eqb (k
 -- it can be closed: a Block at any time, the others with their code
 unfoldable pub takes-close : Build → Bool
 takes-close b = ltb 0 (b .depth) && is-part b && (eqb (kind-of b) 0 || ltb (start-of b) (b .length))
+
+-- what is known of a build whose innermost part was found to take a close, in a buffer that holds it
+pub record Closable (b : Build) (room : ℕ) : Type 0 where
+  pub some-open : 0 < b .depth
+  pub not-many : b .depth ≤ 32
+  pub behind-field : field-of b + 4 ≤ start-of b
+  pub in-build : start-of b ≤ b .length
+  pub in-room : b .length ≤ room
+  pub in-all : b .length ≤ 16384
 
 -- ---- refusals
 

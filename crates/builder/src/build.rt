@@ -3,7 +3,8 @@ ghost use mathlib.Core.Path.{_≡_};
 ghost use mathlib.Core.Bool.{_&&_};
 ghost use Prim.Native.Nat.{_+_, _≤_, _<_};
 ghost use lib.Dec.{leb};
-ghost use Rattle.builder.specs.Building.{empty, kind-of, field-of, start-of, takes-code, takes-close, longer, opened, turned, shut};
+ghost use Rattle.builder.specs.Calls.{close};
+ghost use Rattle.builder.specs.Building.{empty, kind-of, field-of, start-of, takes-code, takes-close, Closable, longer, opened, turned, shut, build-after};
 
 // What a build holds besides its bytes, which stand at the front of the lent buffer: how many they are, and the open
 // parts, outermost first. A part has a kind, the place of the length that counts it, and the place where it begins.
@@ -145,7 +146,7 @@ pub fn opened(kind: u8, build: Build, n: usize) -> Build
 }
 
 // The true part's place is taken by the false part, whose length stands behind the true part's.
-pub fn turned(build: Build) -> Build
+fn turned(build: Build) -> Build
     requires { ⌜ (0 < build .depth) × (build .depth ≤ 32) × (field-of build + 4 ≤ 16384) ⌝ }
     ensures { λ r. ⌜ r ≡ turned build ⌝ }
 {
@@ -157,11 +158,23 @@ pub fn turned(build: Build) -> Build
     build
 }
 
-pub fn shut(build: Build) -> Build
+fn shut(build: Build) -> Build
     requires { ⌜ 0 < build .depth ⌝ }
     ensures { λ r. ⌜ r ≡ shut build ⌝ }
 {
     let mut build = build;
     build.depth -= 1;
     build
+}
+
+// The build after a close: behind a true part the false part is open, else the structure is complete.
+pub fn closed(build: Build) -> Build
+    requires { ⌜ Closable build 16384 ⌝ }
+    ensures { λ r. ⌜ r ≡ build-after close build ⌝ }
+{
+    let part = innermost(build);
+    if part.kind == TRUE_PART {
+        return turned(build);
+    }
+    shut(build)
 }

@@ -6,19 +6,18 @@ ghost use lib.Dec.{eqb};
 ghost use lib.ListN.{length, take};
 ghost use lib.Seq.{sets};
 ghost use Rattle.builder.specs.Calls.{open-block, open-if-else, open-while, add, close, CallFits};
-ghost use Rattle.builder.specs.Building.{takes-code, judge, opened, answered, left, call};
+ghost use Rattle.builder.specs.Building.{takes-code, Closable, judge, refusal, opened, buffer-after, answered, left, call};
 use crate::build::Build;
 use crate::build::Built;
 use crate::build::CODES;
 use crate::build::LAST_PART;
 use crate::build::TRUE_PART;
+use crate::build::closed;
 use crate::build::innermost;
 use crate::build::longer;
 use crate::build::opened;
-use crate::build::shut;
 use crate::build::takes_close;
 use crate::build::takes_code;
-use crate::build::turned;
 use crate::build::wide;
 use crate::record::is_named;
 use crate::record::record_of;
@@ -49,6 +48,13 @@ fn judge(fits: bool, named: bool, depth: usize, bytes: usize, room: usize) -> u8
         return 52;
     }
     0
+}
+
+// A refused call hands the build back as it was.
+fn refused(answer: u8, build: Build) -> Built
+    ensures { λ r. ⌜ (r .answer ≡ answer) × (r .build ≡ build) ⌝ }
+{
+    Built { answer, build }
 }
 
 // Judges a call that adds the first n of these bytes, and stores them where it is taken.
@@ -89,7 +95,7 @@ fn open_part(
             build: opened(kind, build, n),
         };
     }
-    Built { answer, build }
+    refused(answer, build)
 }
 
 pub fn open_block(build: Build, buffer: &mut [u8]) -> Built
@@ -136,32 +142,39 @@ pub fn add(build: Build, buffer: &mut [u8], instruction: Instruction) -> Built
             build: longer(build, n),
         };
     }
-    Built { answer, build }
+    refused(answer, build)
 }
 
-// The length of what is closed is stored; a closed true part is followed by the false part.
+// The number of a close's refusal. It adds no bytes.
+fn judge_close(build: Build, room: usize) -> u8
+    ensures { λ r. ⌜ r ≡ refusal close build room ⌝ }
+{
+    let fits = takes_close(build);
+    judge(fits, true, wide(build.depth), wide(build.length), room)
+}
+
+// Stores the length of the innermost part where it is counted.
+fn store_length(build: Build, buffer: &mut [u8])
+    requires { ⌜ Closable build (length (now buffer)) ⌝ }
+    ensures { λ _. ⌜ now (buffer .exit) ≡ buffer-after close build (now (buffer .entry)) ⌝ }
+{
+    let part = innermost(build);
+    let counted = wide(build.length) - wide(part.start);
+    let mut bytes = [0u8; 52];
+    put_number(&mut bytes, 0, counted as u64, 4);
+    copy(buffer, wide(part.field), &bytes, 4);
+}
+
 pub fn close(build: Build, buffer: &mut [u8]) -> Built
     ensures { λ r. ⌜ left r (now (buffer .exit)) ≡ call close build (now (buffer .entry)) ⌝ }
 {
-    let fits = takes_close(build);
-    let length = wide(build.length);
-    let answer = judge(fits, true, wide(build.depth), length, buffer.len());
+    let answer = judge_close(build, buffer.len());
     if answer != 0 {
-        return Built { answer, build };
+        return refused(answer, build);
     }
-    let part = innermost(build);
-    let counted = (length - wide(part.start)) as u64;
-    let mut bytes = [0u8; 52];
-    put_number(&mut bytes, 0, counted, 4);
-    copy(buffer, wide(part.field), &bytes, 4);
-    if part.kind == TRUE_PART {
-        return Built {
-            answer,
-            build: turned(build),
-        };
-    }
+    store_length(build, buffer);
     Built {
         answer,
-        build: shut(build),
+        build: closed(build),
     }
 }

@@ -1,6 +1,8 @@
 -- What the builder's C calls do: a build and a record are lent in parts.
 use Prim.Native.Nat.{ℕ}
 use mathlib.Core.List.{List}
+use denote.Ref.{RefT, now}
+use denote.Triple.Both.{Both}
 use Rattle.builder.specs.declared.build.Build.{Build}
 use Rattle.builder.specs.Calls.{add, open-if-else, open-while, CallFits}
 use Rattle.builder.specs.Building.{Outcome, outcome, call}
@@ -11,12 +13,12 @@ use Rattle.numbered.specs.declared.values.GivenComparison.{GivenComparison}
 use Rattle.numbered.specs.declared.values.GivenComparison.the-variants.{Value as Compares, Nothing as NoComparison}
 
 -- the build that is lent in parts
-abbrev pub lent-build : ℕ → ℕ → List ℕ → List ℕ → List ℕ → Build
+abbrev lent-build : ℕ → ℕ → List ℕ → List ℕ → List ℕ → Build
 lent-build length depth parts fields starts =
     record { length = length; depth = depth; parts = parts; fields = fields; starts = starts }
 
 -- the numbers that are
-abbrev pub lent-numbers : ℕ → List ℕ → List ℕ → List ℕ → List ℕ → List ℕ → List ℕ → List ℕ → Numbers
+abbrev lent-numbers : ℕ → List ℕ → List ℕ → List ℕ → List ℕ → List ℕ → List ℕ → List ℕ → Numbers
 lent-numbers kind body operands bases indexes scales numbers offsets =
     record {
       kind = kind;
@@ -28,6 +30,26 @@ lent-numbers kind body operands bases indexes scales numbers offsets =
       numbers = numbers;
       offsets = offsets;
     }
+
+-- a lent value, as it is given and as it is left
+abbrev Lent : Type 0 → Type 0
+Lent A = Both (RefT A) (RefT A)
+
+module _ (length depth : Lent ℕ) (parts fields starts : Lent (List ℕ)) where
+  -- the build as it is given
+  abbrev pub given-build : Build
+  given-build = lent-build (now (length .entry)) (now (depth .entry)) (now (parts .entry)) (now (fields .entry)) (now (starts .entry))
+
+  -- as it is left
+  abbrev pub left-build : Build
+  left-build = lent-build (now (length .exit)) (now (depth .exit)) (now (parts .exit)) (now (fields .exit)) (now (starts .exit))
+
+-- the numbers as they are given
+abbrev pub given-numbers :
+    ℕ → Lent (List ℕ) → Lent (List ℕ) → Lent (List ℕ) → Lent (List ℕ) → Lent (List ℕ) → Lent (List ℕ) → Lent (List ℕ) → Numbers
+given-numbers kind body operands bases indexes scales numbers offsets =
+    lent-numbers kind (now (body .entry)) (now (operands .entry)) (now (bases .entry)) (now (indexes .entry)) (now (scales .entry))
+    (now (numbers .entry)) (now (offsets .entry))
 
 -- an instruction is added; what is none is answered 2, and nothing changes
 abbrev pub add-given : GivenInstruction → Build → List ℕ → Outcome

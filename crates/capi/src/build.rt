@@ -3,7 +3,7 @@ ghost use mathlib.Core.Path.{_≡_};
 ghost use Rattle.builder.specs.Calls.{open-block, close};
 ghost use Rattle.builder.specs.Building.{empty, outcome, call};
 ghost use Rattle.numbered.specs.Values.{instruction-given, comparison-given};
-ghost use Rattle.capi.specs.Lent.{lent-build, lent-numbers, add-given, if-else-given, while-given, InstructionFits, ComparisonFits};
+ghost use Rattle.capi.specs.Lent.{given-build, left-build, given-numbers, add-given, if-else-given, while-given, InstructionFits, ComparisonFits};
 use builder::Build;
 use builder::Built;
 use builder::add;
@@ -30,7 +30,7 @@ fn hand_back(
     fields: &mut [u16; 32],
     starts: &mut [u16; 32],
 )
-    ensures { λ _. ⌜ lent-build (now (length .exit)) (now (depth .exit)) (now (parts .exit)) (now (fields .exit)) (now (starts .exit)) ≡ build ⌝ }
+    ensures { λ _. ⌜ left-build length depth parts fields starts ≡ build ⌝ }
 {
     let new_parts = build.parts;
     let new_fields = build.fields;
@@ -50,7 +50,7 @@ pub extern "C" fn pokchrei_begin(
     fields: &mut [u16; 32],
     starts: &mut [u16; 32],
 )
-    ensures { λ _. ⌜ lent-build (now (length .exit)) (now (depth .exit)) (now (parts .exit)) (now (fields .exit)) (now (starts .exit)) ≡ empty ⌝ }
+    ensures { λ _. ⌜ left-build length depth parts fields starts ≡ empty ⌝ }
 {
     hand_back(begin(), length, depth, parts, fields, starts);
 }
@@ -65,8 +65,8 @@ pub extern "C" fn pokchrei_open_block(
     buffer: &mut [u8],
 ) -> u8
     ensures { λ r. ⌜
-        outcome r (lent-build (now (length .exit)) (now (depth .exit)) (now (parts .exit)) (now (fields .exit)) (now (starts .exit))) (now (buffer .exit))
-        ≡ call open-block (lent-build (now (length .entry)) (now (depth .entry)) (now (parts .entry)) (now (fields .entry)) (now (starts .entry))) (now (buffer .entry)) ⌝ }
+        outcome r (left-build length depth parts fields starts) (now (buffer .exit))
+        ≡ call open-block (given-build length depth parts fields starts) (now (buffer .entry)) ⌝ }
 {
     let old_parts = *parts;
     let old_fields = *fields;
@@ -93,8 +93,8 @@ pub extern "C" fn pokchrei_close(
     buffer: &mut [u8],
 ) -> u8
     ensures { λ r. ⌜
-        outcome r (lent-build (now (length .exit)) (now (depth .exit)) (now (parts .exit)) (now (fields .exit)) (now (starts .exit))) (now (buffer .exit))
-        ≡ call close (lent-build (now (length .entry)) (now (depth .entry)) (now (parts .entry)) (now (fields .entry)) (now (starts .entry))) (now (buffer .entry)) ⌝ }
+        outcome r (left-build length depth parts fields starts) (now (buffer .exit))
+        ≡ call close (given-build length depth parts fields starts) (now (buffer .entry)) ⌝ }
 {
     let old_parts = *parts;
     let old_fields = *fields;
@@ -129,13 +129,11 @@ pub extern "C" fn pokchrei_open_if_else(
     offsets: &[u64; 3],
 ) -> u8
     ensures { λ r. ⌜
-        outcome r (lent-build (now (length .exit)) (now (depth .exit)) (now (parts .exit)) (now (fields .exit)) (now (starts .exit))) (now (buffer .exit))
+        outcome r (left-build length depth parts fields starts) (now (buffer .exit))
         ≡ if-else-given
-        (comparison-given (lent-numbers kind (now (body .entry)) (now (operands .entry)) (now (bases .entry)) (now (indexes .entry))
-        (now (scales .entry)) (now (numbers .entry)) (now (offsets .entry))))
-        (lent-build (now (length .entry)) (now (depth .entry)) (now (parts .entry)) (now (fields .entry)) (now (starts .entry))) (now (buffer .entry)) ⌝ }
-    ensures { λ _. ⌜ ComparisonFits (comparison-given (lent-numbers kind (now (body .entry)) (now (operands .entry)) (now (bases .entry)) (now (indexes .entry))
-        (now (scales .entry)) (now (numbers .entry)) (now (offsets .entry)))) ⌝ }
+        (comparison-given (given-numbers kind body operands bases indexes scales numbers offsets))
+        (given-build length depth parts fields starts) (now (buffer .entry)) ⌝ }
+    ensures { λ _. ⌜ ComparisonFits (comparison-given (given-numbers kind body operands bases indexes scales numbers offsets)) ⌝ }
 {
     let given_body = *body;
     let given_operands = *operands;
@@ -191,13 +189,11 @@ pub extern "C" fn pokchrei_open_while(
     offsets: &[u64; 3],
 ) -> u8
     ensures { λ r. ⌜
-        outcome r (lent-build (now (length .exit)) (now (depth .exit)) (now (parts .exit)) (now (fields .exit)) (now (starts .exit))) (now (buffer .exit))
+        outcome r (left-build length depth parts fields starts) (now (buffer .exit))
         ≡ while-given
-        (comparison-given (lent-numbers kind (now (body .entry)) (now (operands .entry)) (now (bases .entry)) (now (indexes .entry))
-        (now (scales .entry)) (now (numbers .entry)) (now (offsets .entry))))
-        (lent-build (now (length .entry)) (now (depth .entry)) (now (parts .entry)) (now (fields .entry)) (now (starts .entry))) (now (buffer .entry)) ⌝ }
-    ensures { λ _. ⌜ ComparisonFits (comparison-given (lent-numbers kind (now (body .entry)) (now (operands .entry)) (now (bases .entry)) (now (indexes .entry))
-        (now (scales .entry)) (now (numbers .entry)) (now (offsets .entry)))) ⌝ }
+        (comparison-given (given-numbers kind body operands bases indexes scales numbers offsets))
+        (given-build length depth parts fields starts) (now (buffer .entry)) ⌝ }
+    ensures { λ _. ⌜ ComparisonFits (comparison-given (given-numbers kind body operands bases indexes scales numbers offsets)) ⌝ }
 {
     let given_body = *body;
     let given_operands = *operands;
@@ -253,13 +249,11 @@ pub extern "C" fn pokchrei_add(
     offsets: &[u64; 3],
 ) -> u8
     ensures { λ r. ⌜
-        outcome r (lent-build (now (length .exit)) (now (depth .exit)) (now (parts .exit)) (now (fields .exit)) (now (starts .exit))) (now (buffer .exit))
+        outcome r (left-build length depth parts fields starts) (now (buffer .exit))
         ≡ add-given
-        (instruction-given (lent-numbers kind (now (body .entry)) (now (operands .entry)) (now (bases .entry)) (now (indexes .entry))
-        (now (scales .entry)) (now (numbers .entry)) (now (offsets .entry))))
-        (lent-build (now (length .entry)) (now (depth .entry)) (now (parts .entry)) (now (fields .entry)) (now (starts .entry))) (now (buffer .entry)) ⌝ }
-    ensures { λ _. ⌜ InstructionFits (instruction-given (lent-numbers kind (now (body .entry)) (now (operands .entry)) (now (bases .entry)) (now (indexes .entry))
-        (now (scales .entry)) (now (numbers .entry)) (now (offsets .entry)))) ⌝ }
+        (instruction-given (given-numbers kind body operands bases indexes scales numbers offsets))
+        (given-build length depth parts fields starts) (now (buffer .entry)) ⌝ }
+    ensures { λ _. ⌜ InstructionFits (instruction-given (given-numbers kind body operands bases indexes scales numbers offsets)) ⌝ }
 {
     let given_body = *body;
     let given_operands = *operands;

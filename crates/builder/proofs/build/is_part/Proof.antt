@@ -18,9 +18,13 @@ returns-2 c =
 
 returns-3 : tie.Need-returns-3
 returns-3 c =
-    let part = c .before .before .before .before .before .before .args .part in
-    last-test (c .before .before .before .before .before .before .args .length) (part .kind) (part .field) (part .start) (c .before .before .before .before .if1 .left)
-    (omega (arith, c .before .if2 .left, c .before .before .before .wide .ensures, c .before .before .wide2 .ensures))
+    let start = c .before .before in
+    let field = start .before in
+    let kind = field .before in
+    let args = kind .before .before .args in
+    let part = args .part in
+    last-test (args .length) (part .kind) (part .field) (part .start) (kind .if1 .left)
+    (omega (arith, c .before .if2 .left, field .wide .ensures, start .wide2 .ensures))
 
 pub is-part-spec : {M : Type 1} → statement M
 is-part-spec =

@@ -15,24 +15,35 @@ returns-2 c = close-inside _ (omega (arith, c .before .before .if1 .left)) (too-
 
 returns-3 : tie.Need-returns-3
 returns-3 c =
-    let build = c .before .before .before .before .before .before .before .args .build in
-    let part = c .before .before .innermost in
-    close-inside build (omega (arith, c .before .before .before .before .before .if1 .left))
-    (no-part build ltb (part .result) (part .ensures) (c .before .before .before .if2 .left) (c .before .is-part .ensures) (not-true _ (c .if3 .taken)))
+    let tested = c .before in
+    let part = tested .before in
+    let few = part .before in
+    let some = few .before .before in
+    close-inside _ (omega (arith, some .if1 .left))
+    (no-part (some .before .before .args .build) ltb (part .innermost .result) (part .innermost .ensures) (few .if2 .left)
+    (tested .is-part .ensures) (not-true _ (c .if3 .taken)))
 
 returns-4 : tie.Need-returns-4
 returns-4 c =
-    let build = c .before .before .before .before .before .before .before .before .before .args .build in
-    let part = c .before .before .before .before .innermost in
-    close-inside build (omega (arith, c .before .before .before .before .before .before .before .if1 .left))
-    (codes-part build ltb (part .result) (part .ensures) (c .before .before .before .before .before .if2 .left) (c .before .before .before .is-part .ensures) (not-false _ (c .before .before .if3 .left)) (c .if4 .taken))
+    let sound = c .before .before in
+    let tested = sound .before in
+    let part = tested .before in
+    let few = part .before in
+    let some = few .before .before in
+    close-inside _ (omega (arith, some .if1 .left))
+    (codes-part (some .before .before .args .build) ltb (part .innermost .result) (part .innermost .ensures) (few .if2 .left)
+    (tested .is-part .ensures) (not-false _ (sound .if3 .left)) (c .if4 .taken))
 
 returns-5 : tie.Need-returns-5
 returns-5 c =
-    let build = c .before .before .before .before .before .before .before .before .before .before .args .build in
-    let part = c .before .before .before .before .before .innermost in
-    close-inside build (omega (arith, c .before .before .before .before .before .before .before .before .if1 .left))
-    (one-part build ltb (part .result) (part .ensures) (c .before .before .before .before .before .before .if2 .left) (c .before .before .before .before .is-part .ensures) (not-false _ (c .before .before .before .if3 .left)) (c .before .if4 .left))
+    let sound = c .before .before .before in
+    let tested = sound .before in
+    let part = tested .before in
+    let few = part .before in
+    let some = few .before .before in
+    close-inside _ (omega (arith, some .if1 .left))
+    (one-part (some .before .before .args .build) ltb (part .innermost .result) (part .innermost .ensures) (few .if2 .left)
+    (tested .is-part .ensures) (not-false _ (sound .if3 .left)) (c .before .if4 .left))
 
 pub takes-close-spec : {M : Type 1} → statement M
 takes-close-spec =

@@ -1,7 +1,7 @@
 -- The record, and nothing before it.
 use native.Mathlib.Omega.{arith}
 use Rattle.builder.proofs.Judged.{was-taken}
-use Rattle.builder.proofs.Calling.{same-room, add-is, add-fits, taken-as, refused-as}
+use Rattle.builder.proofs.Calling.{same-room, add-is, add-fits, taken-as, refused-as, handed-back}
 use borrow.Author.Needs.{needs}
 use Rattle.builder.proofs.calls.add.Statement.{statement}
 use Rattle.builder.proofs.calls.add.Tie as tie
@@ -34,12 +34,13 @@ returns c =
 
 returns-2 : tie.Need-returns-2
 returns-2 c =
-    let appended = c .before .before .before .append .ensures in
-    let named = c .before .before .before .before in
+    let test = c .before in
+    let appended = test .before .before .before .append .ensures in
+    let named = test .before .before .before .before in
     let written = named .before .before .before in
     let given = written .before .before .record-of in (
       add-is _ _ _ _ _ (given .result) (named .is-named .ensures) _ (given .ensures) (written .put-record .ensures .0)
-          (refused-as _ _ _ _ (appended .0) (appended .1) (c .if1 .left)),
+          (handed-back (c .refused .ensures) (refused-as _ _ _ _ (appended .0) (appended .1) (test .if1 .left))),
       add-fits _ (given .ensures) (written .put-record .ensures .1),
     )
 
@@ -47,4 +48,4 @@ pub add-spec : {M : Type 1} → statement M
 add-spec =
     tie.close
     (tie.spec (λ c κs. search needs) (λ c κs. search needs) slice-aggregate-append (λ c κs. search needs)
-    append-requires longer-requires (λ c. search needs) returns (λ c. search needs) returns-2)
+    append-requires longer-requires (λ c. search needs) returns (λ c κs. search needs) (λ c. search needs) returns-2)

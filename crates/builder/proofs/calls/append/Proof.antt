@@ -19,18 +19,23 @@ copy-requires c κs =
 
 returns : tie.Need-returns
 returns c =
-    let args = c .before .before .before .before .before .before .before .before .before .before .before .args in (
-      same-judge _ _ _ _ _ _ _ _ (c .before .before .before .before .before .before .before .before .takes-code .ensures) (ap (λ (d : ℕ). d + 1) (c .before .before .before .before .before .before .before .wide .ensures))
-          (ap (λ (l : ℕ). l + args .n) (c .before .before .before .before .before .before .wide2 .ensures)) (c .before .before .before .before .before .judge .ensures),
-      stored _ _ (c .before .before .before .before .if1 .taken)
-          (c .before .before .copy .ensures ∙ ap (λ (at : ℕ). sets (now (args .buffer)) at (take (args .n) (now (args .bytes)))) (c .before .before .before .before .before .before .wide2 .ensures)),
+    let test = c .before .before .before .before in
+    let length = test .before .before in
+    let depth = length .before in
+    let args = depth .before .before .before .before .args in
+    let stored-at : ℕ → List ℕ = λ at. sets (now (args .buffer)) at (take (args .n) (now (args .bytes))) in (
+      same-judge _ _ _ _ _ _ _ _ (depth .before .takes-code .ensures) (ap (λ (d : ℕ). d + 1) (depth .wide .ensures))
+          (ap (λ (l : ℕ). l + args .n) (length .wide2 .ensures)) (test .before .judge .ensures),
+      stored _ _ (test .if1 .taken) (c .before .before .copy .ensures ∙ ap stored-at (length .wide2 .ensures)),
     )
 
 returns-2 : tie.Need-returns-2
 returns-2 c =
-    let args = c .before .before .before .before .before .before .before .args in (
-      same-judge _ _ _ _ _ _ _ _ (c .before .before .before .before .takes-code .ensures) (ap (λ (d : ℕ). d + 1) (c .before .before .before .wide .ensures))
-          (ap (λ (l : ℕ). l + args .n) (c .before .before .wide2 .ensures)) (c .before .judge .ensures),
+    let length = c .before .before in
+    let depth = length .before in
+    let args = depth .before .before .before .before .args in (
+      same-judge _ _ _ _ _ _ _ _ (depth .before .takes-code .ensures) (ap (λ (d : ℕ). d + 1) (depth .wide .ensures))
+          (ap (λ (l : ℕ). l + args .n) (length .wide2 .ensures)) (c .before .judge .ensures),
       not-stored _ _ (c .if1 .left),
     )
 
