@@ -14,9 +14,9 @@ use Rattle.code.specs.Layout.{Layout, layout, ocmp-layout}
 use Rattle.code.specs.Writer.{bytes-of, bytes-of-record, bytes-of-ins, bytes-of-ocmp}
 use Rattle.builder.specs.declared.build.Build.{Build}
 use Rattle.builder.specs.declared.record.Record.{Record}
-use Rattle.builder.specs.Calls.{open-block, open-if-else, open-while, add, close, bytes-of-call, record-named, call-named, RecordFits, CallFits}
-use Rattle.builder.specs.Building.{kind-of, field-of, start-of, is-part, takes-code, takes-close, call-fits, depth-of, judge, refusal, longer, opened, turned, shut, build-after, buffer-after, Closable, Outcome, outcome, answered, call}
-use Rattle.builder.specs.Rendered.{layout-of, Wrote}
+use Rattle.builder.specs.Calls.{open-block, open-if-else, open-while, add, close, bytes-of-call, record-named, call-named, RecordTyped, CallTyped}
+use Rattle.builder.specs.Building.{kind-of, field-of, start-of, is-part, takes-code, takes-close, call-fits, depth-of, judge, refusal, longer, opened, turned, shut, build-after, buffer-after, Outcome, outcome, answered, call}
+use Rattle.builder.specs.Rendered.{layout-of, Wrote, Closable}
 use Rattle.builder.proofs.Judged.{both, was-taken, same-judge}
 
 -- ---- what a record leaves in the array
@@ -91,17 +91,17 @@ block-is b entry h = h
 
 -- ---- the call is one of the types
 
-pub add-fits : (i : Instruction) {l : Layout} → l ≡ layout i → RecordFits l → CallFits (add i)
-unfolding CallFits
-add-fits i = subst RecordFits
+pub add-fits : (i : Instruction) {l : Layout} → l ≡ layout i → RecordTyped l → CallTyped (add i)
+unfolding CallTyped
+add-fits i = subst RecordTyped
 
-pub if-else-fits : (c : Ocmp) {l : Layout} → l ≡ ocmp-layout c → RecordFits l → CallFits (open-if-else c)
-unfolding CallFits
-if-else-fits c = subst RecordFits
+pub if-else-fits : (c : Ocmp) {l : Layout} → l ≡ ocmp-layout c → RecordTyped l → CallTyped (open-if-else c)
+unfolding CallTyped
+if-else-fits c = subst RecordTyped
 
-pub while-fits : (c : Ocmp) {l : Layout} → l ≡ ocmp-layout c → RecordFits l → CallFits (open-while c)
-unfolding CallFits
-while-fits c = subst RecordFits
+pub while-fits : (c : Ocmp) {l : Layout} → l ≡ ocmp-layout c → RecordTyped l → CallTyped (open-while c)
+unfolding CallTyped
+while-fits c = subst RecordTyped
 
 -- ---- what was taken and what was refused, where the bytes were stored or not
 

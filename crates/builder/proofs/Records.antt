@@ -15,7 +15,7 @@ use Rattle.machine.specs.declared.Operand.{Operand}
 use Rattle.machine.specs.declared.Operand.the-variants.{OConst, OReg, OMem}
 use Rattle.code.specs.WellFormed.{Signed, All}
 use Rattle.code.specs.Writer.{bytes-of, signed-bytes, bytes-of-maddr, bytes-of-operand, bytes-of-operands}
-use Rattle.builder.specs.Calls.{MaddrFits, OperandFits, ByteFits, RecordFits}
+use Rattle.builder.specs.Calls.{MaddrTyped, OperandTyped, ByteTyped, RecordTyped}
 use Rattle.builder.specs.declared.record.Record.{Record}
 use Rattle.builder.specs.Rendered.{body-of, operands-of, layout-of}
 use Rattle.builder.proofs.Writing.{back}
@@ -53,32 +53,32 @@ signed16 (pos n) f = omega (arith, f .sfits)
 signed16 (negsuc n) f = omega (arith, f .sfits)
 
 module _ (m : Maddr) where
-  pub const-fits : {n : ℕ} → m ≡ MConst n → n < 2 ^ 64 → MaddrFits m
-  unfolding MaddrFits
-  const-fits e h = subst⁻¹ MaddrFits e h
+  pub const-fits : {n : ℕ} → m ≡ MConst n → n < 2 ^ 64 → MaddrTyped m
+  unfolding MaddrTyped
+  const-fits e h = subst⁻¹ MaddrTyped e h
 
-  pub reg-fits : {r : Reg} {z : ℤ} → m ≡ MReg r z → r .number < 256 → SFits w64 z → MaddrFits m
-  unfolding MaddrFits
-  reg-fits {z} e h f = subst⁻¹ MaddrFits e (h, signed64 z f)
+  pub reg-fits : {r : Reg} {z : ℤ} → m ≡ MReg r z → r .number < 256 → SFits w64 z → MaddrTyped m
+  unfolding MaddrTyped
+  reg-fits {z} e h f = subst⁻¹ MaddrTyped e (h, signed64 z f)
 
   pub index-fits :
       {base index : Reg} {s z : ℤ} → m ≡ MIndex base s index z → base .number < 256 → SFits w16 s → index .number < 256 → SFits w64 z
-      → MaddrFits m
-  unfolding MaddrFits
-  index-fits {s} {z} e h f k g = subst⁻¹ MaddrFits e (h, signed16 s f, k, signed64 z g)
+      → MaddrTyped m
+  unfolding MaddrTyped
+  index-fits {s} {z} e h f k g = subst⁻¹ MaddrTyped e (h, signed16 s f, k, signed64 z g)
 
 module _ (o : Operand) where
-  pub o-const-fits : {n : ℕ} → o ≡ OConst n → n < 2 ^ 64 → OperandFits o
-  unfolding OperandFits
-  o-const-fits e h = subst⁻¹ OperandFits e h
+  pub o-const-fits : {n : ℕ} → o ≡ OConst n → n < 2 ^ 64 → OperandTyped o
+  unfolding OperandTyped
+  o-const-fits e h = subst⁻¹ OperandTyped e h
 
-  pub o-reg-fits : {r : Reg} → o ≡ OReg r → r .number < 256 → OperandFits o
-  unfolding OperandFits
-  o-reg-fits e h = subst⁻¹ OperandFits e h
+  pub o-reg-fits : {r : Reg} → o ≡ OReg r → r .number < 256 → OperandTyped o
+  unfolding OperandTyped
+  o-reg-fits e h = subst⁻¹ OperandTyped e h
 
-  pub o-mem-fits : {m : Maddr} → o ≡ OMem m → MaddrFits m → OperandFits o
-  unfolding OperandFits
-  o-mem-fits e h = subst⁻¹ OperandFits e h
+  pub o-mem-fits : {m : Maddr} → o ≡ OMem m → MaddrTyped m → OperandTyped o
+  unfolding OperandTyped
+  o-mem-fits e h = subst⁻¹ OperandTyped e h
 
 all-append : (xs ys : List (Type 0)) → All xs → All ys → All (xs ++ ys)
 all-append [] ys h k = k
@@ -87,9 +87,9 @@ all-append (A ∷ []) (B ∷ ys) h k = (h, k)
 all-append (A ∷ B ∷ xs) ys h k = (h .0, all-append (B ∷ xs) ys (h .1) k)
 
 pub record-fits :
-    (r : Record) → All (map ByteFits (body-of (r .body))) → All (map OperandFits (operands-of (r .operands))) → RecordFits (layout-of r)
-unfolding RecordFits
-record-fits r = all-append (map ByteFits (body-of (r .body))) (map OperandFits (operands-of (r .operands)))
+    (r : Record) → All (map ByteTyped (body-of (r .body))) → All (map OperandTyped (operands-of (r .operands))) → RecordTyped (layout-of r)
+unfolding RecordTyped
+record-fits r = all-append (map ByteTyped (body-of (r .body))) (map OperandTyped (operands-of (r .operands)))
 
 -- ---- operands in a row, as they are written one behind the other
 

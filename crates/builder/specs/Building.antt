@@ -1,6 +1,6 @@
--- What a call does, one definition for every build and buffer. No call left a build whose innermost open part does not begin behind its length
--- and within the build: such a part takes nothing.
-use Prim.Native.Nat.{ℕ, _+_, _-_, _≤_, _<_}
+-- What a call does: one definition for every call, build and buffer. A build that no call left is answered by it too. Where its depth is above 32, or its
+-- innermost part has a kind above 2 or does not begin behind its length and within the build, that part takes neither code nor close; any other is taken at its word.
+use Prim.Native.Nat.{ℕ, _+_, _-_}
 use mathlib.Core.Bool.{Bool, true, false, _&&_, _||_, cond}
 use mathlib.Core.List.{List}
 use lib.Dec.{eqb, ltb, leb}
@@ -41,15 +41,6 @@ takes-code b = cond (eqb (b .depth) 0) (eqb (b .length) 0) (is-part b && (eqb (k
 unfoldable pub takes-close : Build → Bool
 takes-close b = ltb 0 (b .depth) && is-part b && (eqb (kind-of b) 0 || ltb (start-of b) (b .length))
 
--- what is known of a build whose innermost part was found to take a close, in a buffer that holds it
-pub record Closable (b : Build) (room : ℕ) : Type 0 where
-  pub some-open : 0 < b .depth
-  pub not-many : b .depth ≤ 32
-  pub behind-field : field-of b + 4 ≤ start-of b
-  pub in-build : start-of b ≤ b .length
-  pub in-room : b .length ≤ room
-  pub in-all : b .length ≤ 16384
-
 -- ---- refusals
 
 -- whether a call fits the open part
@@ -73,7 +64,7 @@ unfoldable pub unless : Bool → ℕ → ℕ → ℕ
 unless true n next = next
 unless false n next = n
 
--- the refusals in their order, of a call that fits or not, is named or not, works at a depth, and leaves so many bytes
+-- the refusals in their order: whether the call fits, whether its register and xmm numbers are at most 15, its depth, the build's bytes with its own, the room
 unfoldable pub judge : Bool → Bool → ℕ → ℕ → ℕ → ℕ
 judge fits names depth bytes room =
     unless fits 51 (unless names 4 (unless (leb depth 32) 53 (unless (leb bytes room && leb bytes 16384) 52 0)))
@@ -122,13 +113,25 @@ build-after (open-while c) b = opened 2 b (length (bytes-of-call (open-while c))
 build-after (add i) b = longer b (length (bytes-of-call (add i)))
 build-after close b = cond (eqb (kind-of b) 1) (turned b) (shut b)
 
--- and the buffer: the call's bytes are stored behind the build's; a close stores the length of what it closes
+-- what a taken call stores: the bytes that it adds; a close stores the length of what it closes
+abbrev pub stored : Call → Build → List ℕ
+stored open-block b = bytes-of-call open-block
+stored (open-if-else c) b = bytes-of-call (open-if-else c)
+stored (open-while c) b = bytes-of-call (open-while c)
+stored (add i) b = bytes-of-call (add i)
+stored close b = bytes-of 4 (b .length - start-of b)
+
+-- and where: behind the build's bytes, or where that length stands
+abbrev pub place-of : Call → Build → ℕ
+place-of open-block b = b .length
+place-of (open-if-else c) b = b .length
+place-of (open-while c) b = b .length
+place-of (add i) b = b .length
+place-of close b = field-of b
+
+-- the buffer after a taken call
 unfoldable pub buffer-after : Call → Build → List ℕ → List ℕ
-buffer-after open-block b buffer = sets buffer (b .length) (bytes-of-call open-block)
-buffer-after (open-if-else c) b buffer = sets buffer (b .length) (bytes-of-call (open-if-else c))
-buffer-after (open-while c) b buffer = sets buffer (b .length) (bytes-of-call (open-while c))
-buffer-after (add i) b buffer = sets buffer (b .length) (bytes-of-call (add i))
-buffer-after close b buffer = sets buffer (field-of b) (bytes-of 4 (b .length - start-of b))
+buffer-after c b buffer = sets buffer (place-of c b) (stored c b)
 
 -- ---- a call
 

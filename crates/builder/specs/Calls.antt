@@ -76,30 +76,30 @@ call-named close = true
 -- ---- what every call of the types meets: a register or xmm number is some byte
 
 -- a memory operand
-unfoldable pub MaddrFits : Maddr → Type 0
-MaddrFits (MConst n) = n < 2 ^ 64
-MaddrFits (MReg r offset) = (r .number < 256) × Signed 64 offset
-MaddrFits (MIndex base scale index offset) = (base .number < 256) × Signed 16 scale × (index .number < 256) × Signed 64 offset
+unfoldable pub MaddrTyped : Maddr → Type 0
+MaddrTyped (MConst n) = n < 2 ^ 64
+MaddrTyped (MReg r offset) = (r .number < 256) × Signed 64 offset
+MaddrTyped (MIndex base scale index offset) = (base .number < 256) × Signed 16 scale × (index .number < 256) × Signed 64 offset
 
 -- an operand
-unfoldable pub OperandFits : Operand → Type 0
-OperandFits (OConst n) = n < 2 ^ 64
-OperandFits (OReg r) = r .number < 256
-OperandFits (OMem m) = MaddrFits m
+unfoldable pub OperandTyped : Operand → Type 0
+OperandTyped (OConst n) = n < 2 ^ 64
+OperandTyped (OReg r) = r .number < 256
+OperandTyped (OMem m) = MaddrTyped m
 
 -- a byte of a body
-unfoldable pub ByteFits : Byte → Type 0
-ByteFits (number n) = n < 256
-ByteFits (amount n) = n < 256
+unfoldable pub ByteTyped : Byte → Type 0
+ByteTyped (number n) = n < 256
+ByteTyped (amount n) = n < 256
 
 -- a record's body and operands
-unfoldable pub RecordFits : Layout → Type 0
-RecordFits l = All (map ByteFits (l .body) ++ map OperandFits (l .operands))
+unfoldable pub RecordTyped : Layout → Type 0
+RecordTyped l = All (map ByteTyped (l .body) ++ map OperandTyped (l .operands))
 
 -- a call
-unfoldable pub CallFits : Call → Type 0
-CallFits open-block = Unit {0}
-CallFits (open-if-else c) = RecordFits (ocmp-layout c)
-CallFits (open-while c) = RecordFits (ocmp-layout c)
-CallFits (add i) = RecordFits (layout i)
-CallFits close = Unit {0}
+unfoldable pub CallTyped : Call → Type 0
+CallTyped open-block = Unit {0}
+CallTyped (open-if-else c) = RecordTyped (ocmp-layout c)
+CallTyped (open-while c) = RecordTyped (ocmp-layout c)
+CallTyped (add i) = RecordTyped (layout i)
+CallTyped close = Unit {0}

@@ -1,5 +1,5 @@
--- How a record passes from value to bytes: the parts of its layout, and what a writer leaves.
-use Prim.Native.Nat.{ℕ, _+_, _-_, _≤_}
+-- What the functions below the calls promise: how a record passes from value to bytes, and which builds are closed.
+use Prim.Native.Nat.{ℕ, _+_, _-_, _≤_, _<_}
 use mathlib.Core.Path.{_≡_}
 use mathlib.Core.List.{List, [], _∷_}
 use lib.IntN.{ℤ, pos, negsuc}
@@ -7,12 +7,14 @@ use lib.ListN.{length}
 use lib.Seq.{sets}
 use Rattle.machine.specs.declared.Operand.{Operand}
 use Rattle.code.specs.Layout.{Byte, number, amount, Layout, laid}
+use Rattle.builder.specs.declared.build.Build.{Build}
 use Rattle.builder.specs.declared.record.Body.{Body}
 use Rattle.builder.specs.declared.record.Body.the-variants.{Nothing, Xmms, XmmAmount, XmmsAmount}
 use Rattle.builder.specs.declared.record.Operands.{Operands}
 use Rattle.builder.specs.declared.record.Operands.the-variants.{One, Two, Three}
 use Rattle.builder.specs.declared.record.Operands.the-variants.{Nothing as NoOperands}
 use Rattle.builder.specs.declared.record.Record.{Record}
+use Rattle.builder.specs.Building.{field-of, start-of}
 
 -- the bytes of a body
 abbrev pub body-of : Body → List Byte
@@ -32,7 +34,7 @@ operands-of (Three a b c) = a ∷ b ∷ c ∷ []
 abbrev pub layout-of : Record → Layout
 layout-of r = laid (r .kind) (body-of (r .body)) (operands-of (r .operands))
 
--- n as it stands, or two's complement where it is negative: negsuc k is -(k + 1)
+-- a signed number as an unsigned one, two's complement: `most` is 2^(8n) - 1 for n bytes, and negsuc k is -(k + 1)
 abbrev pub complement : ℤ → ℕ → ℕ
 complement (pos k) most = k
 complement (negsuc k) most = most - k
@@ -42,3 +44,12 @@ pub record Wrote (most : ℕ) (before : List ℕ) (at : ℕ) (text after : List 
   pub bytes : after ≡ sets before at text
   pub place : next ≡ at + length text
   pub within : next ≤ at + most
+
+-- what is known of a build whose innermost part was found to take a close, in a buffer that holds it
+pub record Closable (b : Build) (room : ℕ) : Type 0 where
+  pub some-open : 0 < b .depth
+  pub not-many : b .depth ≤ 32
+  pub behind-field : field-of b + 4 ≤ start-of b
+  pub in-build : start-of b ≤ b .length
+  pub in-room : b .length ≤ room
+  pub in-all : b .length ≤ 16384

@@ -4,7 +4,8 @@ ghost use mathlib.Core.Bool.{_&&_};
 ghost use Prim.Native.Nat.{_+_, _≤_, _<_};
 ghost use lib.Dec.{leb};
 ghost use Rattle.builder.specs.Calls.{close};
-ghost use Rattle.builder.specs.Building.{empty, kind-of, field-of, start-of, takes-code, takes-close, Closable, longer, opened, turned, shut, build-after};
+ghost use Rattle.builder.specs.Rendered.{Closable};
+ghost use Rattle.builder.specs.Building.{empty, kind-of, field-of, start-of, takes-code, takes-close, longer, opened, turned, shut, build-after};
 
 // What a build holds besides its bytes, which stand at the front of the lent buffer: how many they are, and the open
 // parts, outermost first. A part has a kind, the place of the length that counts it, and the place where it begins.

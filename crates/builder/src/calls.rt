@@ -5,8 +5,9 @@ ghost use Prim.Native.Nat.{_+_, _≤_};
 ghost use lib.Dec.{eqb};
 ghost use lib.ListN.{length, take};
 ghost use lib.Seq.{sets};
-ghost use Rattle.builder.specs.Calls.{open-block, open-if-else, open-while, add, close, CallFits};
-ghost use Rattle.builder.specs.Building.{takes-code, Closable, judge, refusal, opened, buffer-after, answered, left, call};
+ghost use Rattle.builder.specs.Calls.{open-block, open-if-else, open-while, add, close, CallTyped};
+ghost use Rattle.builder.specs.Rendered.{Closable};
+ghost use Rattle.builder.specs.Building.{takes-code, judge, refusal, opened, buffer-after, answered, left, call};
 use crate::build::Build;
 use crate::build::Built;
 use crate::build::CODES;
@@ -108,7 +109,7 @@ pub fn open_block(build: Build, buffer: &mut [u8]) -> Built
 
 pub fn open_if_else(build: Build, buffer: &mut [u8], condition: Ocmp) -> Built
     ensures { λ r. ⌜ left r (now (buffer .exit)) ≡ call (open-if-else condition) build (now (buffer .entry)) ⌝ }
-    ensures { λ _. ⌜ CallFits (open-if-else condition) ⌝ }
+    ensures { λ _. ⌜ CallTyped (open-if-else condition) ⌝ }
 {
     let given = record_of_ocmp(condition);
     let mut bytes = [0u8; 52];
@@ -119,7 +120,7 @@ pub fn open_if_else(build: Build, buffer: &mut [u8], condition: Ocmp) -> Built
 
 pub fn open_while(build: Build, buffer: &mut [u8], condition: Ocmp) -> Built
     ensures { λ r. ⌜ left r (now (buffer .exit)) ≡ call (open-while condition) build (now (buffer .entry)) ⌝ }
-    ensures { λ _. ⌜ CallFits (open-while condition) ⌝ }
+    ensures { λ _. ⌜ CallTyped (open-while condition) ⌝ }
 {
     let given = record_of_ocmp(condition);
     let mut bytes = [0u8; 52];
@@ -130,7 +131,7 @@ pub fn open_while(build: Build, buffer: &mut [u8], condition: Ocmp) -> Built
 
 pub fn add(build: Build, buffer: &mut [u8], instruction: Instruction) -> Built
     ensures { λ r. ⌜ left r (now (buffer .exit)) ≡ call (add instruction) build (now (buffer .entry)) ⌝ }
-    ensures { λ _. ⌜ CallFits (add instruction) ⌝ }
+    ensures { λ _. ⌜ CallTyped (add instruction) ⌝ }
 {
     let given = record_of(instruction);
     let mut bytes = [0u8; 52];

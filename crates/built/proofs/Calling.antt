@@ -12,9 +12,9 @@ use Rattle.code.specs.Writer.{bytes-of}
 use Rattle.code.proofs.Held.{length-bytes}
 use Rattle.builder.specs.declared.build.Build.{Build}
 use Rattle.builder.specs.Calls.{Call, open-block, open-if-else, open-while, add, close, bytes-of-call, call-named}
-use Rattle.builder.specs.Building.{kind-of, field-of, start-of, is-part, takes-close, call-fits, depth-of, refusal, turned, shut, build-after, buffer-after, Outcome, outcome, call}
+use Rattle.builder.specs.Building.{kind-of, field-of, start-of, is-part, takes-close, call-fits, depth-of, refusal, turned, shut, build-after, stored, place-of, buffer-after, Outcome, outcome, call}
 use Rattle.built.specs.Claims.{Judged}
-use Rattle.built.proofs.Named.{both}
+use Rattle.builder.proofs.Judged.{both}
 use Rattle.built.proofs.Filling.{drop-sets}
 use Rattle.built.proofs.Judging.{judged-51, judged-4, judged-53, judged-52, judged-0}
 
@@ -86,6 +86,20 @@ untouched close b buffer h =
     rw (closed-length (eqb (kind-of b) 1) b)
     (drop-sets (b .length) (field-of b) (bytes-of 4 n) buffer (omega (arith, length-bytes 4 n, length-inside b h)))
 
+-- and it stores within the room
+within-close :
+    (b : Build) (room : ℕ) → call-fits close b ≡ true → b .length + length (bytes-of-call close) ≤ room
+    → field-of b + length (bytes-of 4 (b .length - start-of b)) ≤ room
+unfolding call-fits bytes-of-call
+within-close b room h k = omega (arith, k, length-bytes 4 (b .length - start-of b), length-inside b h)
+
+within : (c : Call) (b : Build) (room : ℕ) → call-fits c b ≡ true → b .length + length (bytes-of-call c) ≤ room → place-of c b + length (stored c b) ≤ room
+within open-block b room h k = k
+within (open-if-else c) b room h k = k
+within (open-while c) b room h k = k
+within (add i) b room h k = k
+within close b room h k = within-close b room h k
+
 pub judged : (c : Call) (b : Build) (buffer : List ℕ) → Judged c b buffer
 unfolding refusal
 judged c b buffer =
@@ -103,6 +117,7 @@ judged c b buffer =
       is-taken = rw e (judged-0 fits names depth bytes room);
       refused =
           either c b buffer (λ o. (o .answer ≡ 0 → ⊥) → o ≡ outcome (o .answer) b buffer) (λ t k. absurd (k refl)) (λ k h. refl);
+      in-bounds = rw e (λ t. let w = judged-0 fits names depth bytes room .0 t in within c b room (w .0) (w .3 .0));
       same-room = either c b buffer (λ o. length (o .buffer) ≡ room) (λ t. stored-length c b buffer) (λ k. refl);
       behind =
           either c b buffer (λ o. drop (o .build .length) (o .buffer) ≡ drop (o .build .length) buffer)

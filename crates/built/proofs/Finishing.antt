@@ -17,7 +17,7 @@ use Rattle.builder.specs.declared.build.Build.{Build}
 use Rattle.builder.specs.Calls.{Call}
 use Rattle.builder.specs.Building.{empty}
 use Rattle.built.specs.Sketch.{Sketch, codes, _▷_, bytes-so-far, calls-of-code, calls-of-codes, calls-so-far, parts-open}
-use Rattle.built.specs.Claims.{AllFit, IsFinished, end, taken-calls, front, SoFar, Finished, Builds}
+use Rattle.built.specs.Claims.{AllTyped, IsFinished, end, taken-calls, front, SoFar, Finished, Builds}
 use Rattle.built.proofs.Parts.{size}
 use Rattle.built.proofs.Steps.{join, add-code, steps, code-added}
 use Rattle.built.proofs.Sound.{Sound, legal-none, sound-depth}
@@ -73,7 +73,7 @@ is-finished c st =
     ((st .kept .depth, omega (arith, ap length e, code-bytes c)), front-is st ∙ e)
 
 -- ---- the claims of calls in a row
-module _ (calls : List Call) (buffer : List ℕ) (fit : AllFit calls) where
+module _ (calls : List Call) (buffer : List ℕ) (fit : AllTyped calls) where
   abbrev was-taken : List Call
   was-taken = taken-calls calls buffer
 

@@ -7,7 +7,7 @@ use borrow.Author.Tests.{leb-true, le-leb}
 use lib.Dec.{leb}
 use Rattle.builder.specs.Building.{unless, judge}
 use Rattle.built.specs.Claims.{Exactly}
-use Rattle.built.proofs.Named.{both}
+use Rattle.builder.proofs.Judged.{both}
 
 -- ---- one condition, a test p of P: its number n, and what follows
 module _ {P : Type 0} where

@@ -12,7 +12,8 @@ use Rattle.machine.specs.declared.Operand.the-variants.{OConst, OReg, OMem}
 use Rattle.code.specs.Layout.{Byte, number, amount, Layout, layout, ocmp-layout}
 use Rattle.code.specs.WellFormed.{WfMaddr, WfOperand, WfByte, WfLayout, WfIns, WfOcmp, All}
 use Rattle.code.proofs.Layouts.{WfBytes, WfOperands, bounds, bounded}
-use Rattle.builder.specs.Calls.{Call, open-block, open-if-else, open-while, add, close, named, byte-named, maddr-named, operand-named, body-named, operands-named, record-named, call-named, MaddrFits, OperandFits, ByteFits, RecordFits, CallFits}
+use Rattle.builder.proofs.Judged.{both}
+use Rattle.builder.specs.Calls.{Call, open-block, open-if-else, open-while, add, close, named, byte-named, maddr-named, operand-named, body-named, operands-named, record-named, call-named, MaddrTyped, OperandTyped, ByteTyped, RecordTyped, CallTyped}
 
 -- a well-formed call
 unfoldable pub WfCall : Call → Type 0
@@ -22,30 +23,25 @@ WfCall (open-while c) = WfOcmp c
 WfCall (add i) = WfIns i
 WfCall close = Unit {0}
 
--- two tests that both hold
-pub both : (p q : Bool) → p && q ≡ true → (p ≡ true) × (q ≡ true)
-both true q h = (refl, h)
-both false q h = absurd (false≢true h)
-
 number-wf : (n : ℕ) → named n ≡ true → n < 16
 number-wf n h = omega (arith, leb-true n 15 h)
 
-maddr-wf : (m : Maddr) → MaddrFits m → maddr-named m ≡ true → WfMaddr m
-unfolding MaddrFits maddr-named
+maddr-wf : (m : Maddr) → MaddrTyped m → maddr-named m ≡ true → WfMaddr m
+unfolding MaddrTyped maddr-named
 maddr-wf (MConst n) f h = f
 maddr-wf (MReg r offset) f h = (number-wf (r .number) h, f .1)
 maddr-wf (MIndex base scale index offset) f h =
     let w = both (named (base .number)) (named (index .number)) h in
     (number-wf (base .number) (w .0), f .1, number-wf (index .number) (w .1), f .3)
 
-operand-wf : (o : Operand) → OperandFits o → operand-named o ≡ true → WfOperand o
-unfolding OperandFits operand-named
+operand-wf : (o : Operand) → OperandTyped o → operand-named o ≡ true → WfOperand o
+unfolding OperandTyped operand-named
 operand-wf (OConst n) f h = f
 operand-wf (OReg r) f h = number-wf (r .number) h
 operand-wf (OMem m) f h = maddr-wf m f h
 
-byte-wf : (b : Byte) → ByteFits b → byte-named b ≡ true → WfByte b
-unfolding ByteFits byte-named
+byte-wf : (b : Byte) → ByteTyped b → byte-named b ≡ true → WfByte b
+unfolding ByteTyped byte-named
 byte-wf (number n) f h = number-wf n h
 byte-wf (amount n) f h = f
 
@@ -58,34 +54,34 @@ others : (A : Type 0) (As : List (Type 0)) → All (A ∷ As) → All As
 others A [] h = tt
 others A (B ∷ As) h = h .1
 
-operands-wf : (os : List Operand) → All (map OperandFits os) → operands-named os ≡ true → WfOperands os
+operands-wf : (os : List Operand) → All (map OperandTyped os) → operands-named os ≡ true → WfOperands os
 unfolding operands-named
 operands-wf [] f h = tt
 operands-wf (o ∷ os) f h =
     let w = both (operand-named o) (operands-named os) h in
-    let As = map OperandFits os in
-    (operand-wf o (first (OperandFits o) As f) (w .0), operands-wf os (others (OperandFits o) As f) (w .1))
+    let As = map OperandTyped os in
+    (operand-wf o (first (OperandTyped o) As f) (w .0), operands-wf os (others (OperandTyped o) As f) (w .1))
 
 body-wf :
-    (bs : List Byte) (os : List Operand) → All (map ByteFits bs ++ map OperandFits os) → body-named bs ≡ true → operands-named os ≡ true
+    (bs : List Byte) (os : List Operand) → All (map ByteTyped bs ++ map OperandTyped os) → body-named bs ≡ true → operands-named os ≡ true
     → WfBytes bs × WfOperands os
 unfolding body-named
 body-wf [] os f h k = (tt, operands-wf os f k)
 body-wf (b ∷ bs) os f h k =
     let w = both (byte-named b) (body-named bs) h in
-    let As = map ByteFits bs ++ map OperandFits os in
-    let r = body-wf bs os (others (ByteFits b) As f) (w .1) k in
-    ((byte-wf b (first (ByteFits b) As f) (w .0), r .0), r .1)
+    let As = map ByteTyped bs ++ map OperandTyped os in
+    let r = body-wf bs os (others (ByteTyped b) As f) (w .1) k in
+    ((byte-wf b (first (ByteTyped b) As f) (w .0), r .0), r .1)
 
-record-wf : (l : Layout) → RecordFits l → record-named l ≡ true → WfLayout l
-unfolding RecordFits record-named
+record-wf : (l : Layout) → RecordTyped l → record-named l ≡ true → WfLayout l
+unfolding RecordTyped record-named
 record-wf l f h =
     let w = both (body-named (l .body)) (operands-named (l .operands)) h in
     let r = body-wf (l .body) (l .operands) f (w .0) (w .1) in
     bounded (l .kind) (l .body) (l .operands) (r .0) (r .1)
 
-pub call-wf : (c : Call) → CallFits c → call-named c ≡ true → WfCall c
-unfolding CallFits call-named WfCall WfIns WfOcmp
+pub call-wf : (c : Call) → CallTyped c → call-named c ≡ true → WfCall c
+unfolding CallTyped call-named WfCall WfIns WfOcmp
 call-wf open-block f h = tt
 call-wf (open-if-else c) f h = record-wf (ocmp-layout c) f h
 call-wf (open-while c) f h = record-wf (ocmp-layout c) f h

@@ -8,10 +8,10 @@ use borrow.Author.Tests.{ne-eqb}
 use lib.Dec.{eqb}
 use lib.ListN.{length}
 use Rattle.builder.specs.declared.build.Build.{Build}
-use Rattle.builder.specs.Calls.{Call, open-block, open-if-else, open-while, add, close, bytes-of-call, call-named, CallFits}
+use Rattle.builder.specs.Calls.{Call, open-block, open-if-else, open-while, add, close, bytes-of-call, call-named, CallTyped}
 use Rattle.builder.specs.Building.{call-fits, depth-of, refusal, build-after, buffer-after, Outcome}
 use Rattle.built.specs.Sketch.{Sketch, calls-so-far}
-use Rattle.built.specs.Claims.{after, taken, AllFit}
+use Rattle.built.specs.Claims.{after, taken, AllTyped}
 use Rattle.built.proofs.Steps.{next, steps}
 use Rattle.built.proofs.Sound.{Sound, sound-depth}
 use Rattle.built.proofs.Named.{call-wf, wf-call}
@@ -46,7 +46,7 @@ module _ (s : Sketch) (b : Build) (h : Sound s) (k : Kept s b) where
 
 module _ {before buffer : List ℕ} (c : Call) (s : Sketch) (b : Build) (st : Stands before s b buffer) where
   -- a call that is taken is in order
-  fine : CallFits c → number c b buffer ≡ 0 → Fine (length buffer) c s
+  fine : CallTyped c → number c b buffer ≡ 0 → Fine (length buffer) c s
   unfolding refusal
   fine f e =
       let bytes = b .length + length (bytes-of-call c) in
@@ -86,9 +86,9 @@ pub record Runs (before : List ℕ) (s : Sketch) (calls : List Call) (o : Outcom
   pub history : calls-so-far (steps calls s) ≡ calls-so-far s ++ calls
 
 pub runs :
-    {before : List ℕ} (calls : List Call) (s : Sketch) (b : Build) (buffer : List ℕ) → AllFit calls → Stands before s b buffer
+    {before : List ℕ} (calls : List Call) (s : Sketch) (b : Build) (buffer : List ℕ) → AllTyped calls → Stands before s b buffer
     → Runs before s (taken calls b buffer) (after calls b buffer)
-unfolding taken after AllFit steps
+unfolding taken after AllTyped steps
 runs [] s b buffer f st = record { stands = st; history = sym (append-nil (calls-so-far s)) }
 runs {before} (c ∷ calls) s b buffer f st =
     either c b buffer

@@ -1,8 +1,8 @@
 -- The claims of request 2026-01, in one record: `Builder`. What it says of a single call holds of every call, build and buffer; what it says of calls
--- in a row holds of every call of the types (`CallFits`), which the contracts of the calls promise of theirs.
+-- in a row holds of every call of the types (`CallTyped`), which the contracts of the calls promise of theirs.
 use Prim.Native.Nat.{ℕ, _+_, _≤_, _<_}
 use mathlib.Core.Path.{_≡_}
-use mathlib.Core.Bool.{true, false, cond}
+use mathlib.Core.Bool.{true, cond}
 use mathlib.Core.List.{List, [], _∷_}
 use lib.Dec.{eqb}
 use lib.ListN.{length, take, drop}
@@ -13,8 +13,8 @@ use Rattle.code.specs.Spells.{Nests}
 use Rattle.code.specs.WellFormed.{WfCode}
 use Rattle.code.specs.Writer.{bytes-of-code, place-code}
 use Rattle.builder.specs.declared.build.Build.{Build}
-use Rattle.builder.specs.Calls.{Call, bytes-of-call, call-named, CallFits}
-use Rattle.builder.specs.Building.{empty, takes-code, takes-close, call-fits, depth-of, Outcome, outcome, call}
+use Rattle.builder.specs.Calls.{Call, bytes-of-call, call-named, CallTyped}
+use Rattle.builder.specs.Building.{empty, takes-code, takes-close, call-fits, depth-of, stored, place-of, Outcome, outcome, call}
 use Rattle.built.specs.Sketch.{Sketch, bytes-so-far, calls-of-code, calls-so-far, parts-open, code-fits, close-fits}
 
 -- each holds exactly when the other does
@@ -47,16 +47,17 @@ module _ (c : Call) (b : Build) (buffer : List ℕ) where
   abbrev pub Short : Type 0
   Short = (bytes-with ≤ length buffer) × (bytes-with ≤ 16384)
 
-  -- each refusal exactly where its condition is not met and the earlier ones are; a close is never too deep
+  -- each refusal exactly where the call fails its test and passes those before it
   pub record Judged : Type 0 where
     pub is-51 : Exactly (leaves .answer ≡ 51) (Fits → ⊥)
     pub is-4 : Exactly (leaves .answer ≡ 4) (Fits × (Named → ⊥))
     pub is-53 : Exactly (leaves .answer ≡ 53) (Fits × Named × (Shallow → ⊥))
     pub is-52 : Exactly (leaves .answer ≡ 52) (Fits × Named × Shallow × (Short → ⊥))
     pub is-taken : Exactly (leaves .answer ≡ 0) (Fits × Named × Shallow × Short)
-    -- a refused call changes neither buffer nor build
+    -- after a refusal build and buffer are what they were
     pub refused : (leaves .answer ≡ 0 → ⊥) → leaves ≡ outcome (leaves .answer) b buffer
-    -- no call leaves the bounds of the buffer, or touches a byte behind the build
+    -- a taken call stores within the buffer, which keeps its length, and touches no byte behind the build
+    pub in-bounds : leaves .answer ≡ 0 → place-of c b + length (stored c b) ≤ length buffer
     pub same-room : length (leaves .buffer) ≡ length buffer
     pub behind : drop (leaves .build .length) (leaves .buffer) ≡ drop (leaves .build .length) buffer
 
@@ -76,9 +77,9 @@ taken (c ∷ cs) b buffer =
     cond (eqb (o .answer) 0) (c ∷ rest) rest
 
 -- every call is one of the types
-unfoldable pub AllFit : List Call → Type 0
-AllFit [] = Unit {0}
-AllFit (c ∷ cs) = CallFits c × AllFit cs
+unfoldable pub AllTyped : List Call → Type 0
+AllTyped [] = Unit {0}
+AllTyped (c ∷ cs) = CallTyped c × AllTyped cs
 
 -- a build is finished: nothing is open, and its outermost code is complete
 abbrev pub IsFinished : Build → Type 0
@@ -122,16 +123,20 @@ module _ (calls : List Call) (buffer : List ℕ) where
 
   -- what the calls build
   pub record Builds : Type 0 where
+    -- something was built so far
     pub so-far : (s : Sketch) × SoFar s
+    -- and where the build is finished, a code
     pub finished : IsFinished (end .build) → (c : Code) × Finished c
     -- to one byte string: whatever calls finish with this tree leave its bytes
     pub one-string : (c : Code) → calls-of-code c ≡ taken-calls → IsFinished (end .build) × (front ≡ bytes-of-code c)
 
 -- ---- the claims
 pub record Builder : Type 0 where
+  -- every call is judged so
   pub judged : (c : Call) (b : Build) (buffer : List ℕ) → Judged c b buffer
-  pub builds : (calls : List Call) (buffer : List ℕ) → AllFit calls → Builds calls buffer
-  -- every code within the limits can be built, in every buffer that holds it: its calls are all taken, and leave its bytes
+  -- calls in a row build so
+  pub builds : (calls : List Call) (buffer : List ℕ) → AllTyped calls → Builds calls buffer
+  -- no code within the limits is left out: in every buffer that holds it its calls are all taken, and leave its bytes
   pub every-code : (c : Code) (buffer : List ℕ) → WfCode c → Nests c 32 → length (bytes-of-code c) ≤ 16384
       → length (bytes-of-code c) ≤ length buffer
       → (taken-calls (calls-of-code c) buffer ≡ calls-of-code c)

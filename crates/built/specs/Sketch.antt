@@ -81,7 +81,7 @@ unfoldable pub some : Codes → Bool
 some ⟨⟩ = false
 some (c ∷ᶜ cs) = true
 
--- a code fits: first of all, in a Block, and in another part that has none
+-- a code fits: as the outermost where there is none, in a Block, and in another part that has none
 unfoldable pub code-fits : Sketch → Bool
 code-fits (codes cs) = none cs
 code-fits (s ▷ block cs) = true

@@ -5,13 +5,13 @@ use mathlib.Core.List.{List}
 use Rattle.code.specs.declared.tree.Instruction.{Instruction}
 use Rattle.code.specs.declared.tree.Ocmp.{Ocmp}
 use Rattle.builder.specs.declared.build.Build.{Build}
-use Rattle.builder.specs.Calls.{add, open-if-else, open-while, CallFits}
+use Rattle.builder.specs.Calls.{add, open-if-else, open-while, CallTyped}
 use Rattle.builder.specs.Building.{Outcome, outcome, call}
 use Rattle.numbered.specs.declared.values.GivenInstruction.{GivenInstruction}
 use Rattle.numbered.specs.declared.values.GivenInstruction.the-variants.{Value, Nothing}
 use Rattle.numbered.specs.declared.values.GivenComparison.{GivenComparison}
 use Rattle.numbered.specs.declared.values.GivenComparison.the-variants.{Value as Compares, Nothing as NoComparison}
-use Rattle.capi.specs.Lent.{add-given, if-else-given, while-given, InstructionFits, ComparisonFits}
+use Rattle.capi.specs.Lent.{add-given, if-else-given, while-given, InstructionTyped, ComparisonTyped}
 
 -- the build is handed back
 pub handed : {r : ℕ} {lent b : Build} {buffer : List ℕ} {o : Outcome} → lent ≡ b → outcome r b buffer ≡ o → outcome r lent buffer ≡ o
@@ -41,18 +41,18 @@ module _ (b : Build) (buffer : List ℕ) where
     while-not-opened e = ap (λ (x : GivenComparison). while-given x b buffer) (sym e ∙ given)
 
 -- what was given is one of the types
-pub instruction-fits : {g v : GivenInstruction} {i : Instruction} → v ≡ g → v ≡ Value i → CallFits (add i) → InstructionFits g
-instruction-fits given e = subst InstructionFits (sym e ∙ given)
+pub instruction-fits : {g v : GivenInstruction} {i : Instruction} → v ≡ g → v ≡ Value i → CallTyped (add i) → InstructionTyped g
+instruction-fits given e = subst InstructionTyped (sym e ∙ given)
 
-pub no-instruction-fits : {g v : GivenInstruction} → v ≡ g → v ≡ Nothing → InstructionFits g
-no-instruction-fits given e = subst InstructionFits (sym e ∙ given) tt
+pub no-instruction-fits : {g v : GivenInstruction} → v ≡ g → v ≡ Nothing → InstructionTyped g
+no-instruction-fits given e = subst InstructionTyped (sym e ∙ given) tt
 
-pub if-fits : {g v : GivenComparison} {c : Ocmp} → v ≡ g → v ≡ Compares c → CallFits (open-if-else c) → ComparisonFits g
-if-fits given e = subst ComparisonFits (sym e ∙ given)
+pub if-fits : {g v : GivenComparison} {c : Ocmp} → v ≡ g → v ≡ Compares c → CallTyped (open-if-else c) → ComparisonTyped g
+if-fits given e = subst ComparisonTyped (sym e ∙ given)
 
-pub while-fits : {g v : GivenComparison} {c : Ocmp} → v ≡ g → v ≡ Compares c → CallFits (open-while c) → ComparisonFits g
-unfolding CallFits
-while-fits given e = subst ComparisonFits (sym e ∙ given)
+pub while-fits : {g v : GivenComparison} {c : Ocmp} → v ≡ g → v ≡ Compares c → CallTyped (open-while c) → ComparisonTyped g
+unfolding CallTyped
+while-fits given e = subst ComparisonTyped (sym e ∙ given)
 
-pub no-comparison-fits : {g v : GivenComparison} → v ≡ g → v ≡ NoComparison → ComparisonFits g
-no-comparison-fits given e = subst ComparisonFits (sym e ∙ given) tt
+pub no-comparison-fits : {g v : GivenComparison} → v ≡ g → v ≡ NoComparison → ComparisonTyped g
+no-comparison-fits given e = subst ComparisonTyped (sym e ∙ given) tt

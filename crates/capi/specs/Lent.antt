@@ -4,7 +4,7 @@ use mathlib.Core.List.{List}
 use denote.Ref.{RefT, now}
 use denote.Triple.Both.{Both}
 use Rattle.builder.specs.declared.build.Build.{Build}
-use Rattle.builder.specs.Calls.{add, open-if-else, open-while, CallFits}
+use Rattle.builder.specs.Calls.{add, open-if-else, open-while, CallTyped}
 use Rattle.builder.specs.Building.{Outcome, outcome, call}
 use Rattle.numbered.specs.declared.operands.Numbers.{Numbers}
 use Rattle.numbered.specs.declared.values.GivenInstruction.{GivenInstruction}
@@ -67,11 +67,11 @@ while-given (Compares c) b buffer = call (open-while c) b buffer
 while-given NoComparison b buffer = outcome 2 b buffer
 
 -- what is given is one of the types
-abbrev pub InstructionFits : GivenInstruction → Type 0
-InstructionFits (Value i) = CallFits (add i)
-InstructionFits Nothing = Unit {0}
+abbrev pub InstructionTyped : GivenInstruction → Type 0
+InstructionTyped (Value i) = CallTyped (add i)
+InstructionTyped Nothing = Unit {0}
 
--- a comparison fits either structure
-abbrev pub ComparisonFits : GivenComparison → Type 0
-ComparisonFits (Compares c) = CallFits (open-if-else c)
-ComparisonFits NoComparison = Unit {0}
+-- the same of a comparison; `open-while` asks of it what `open-if-else` does
+abbrev pub ComparisonTyped : GivenComparison → Type 0
+ComparisonTyped (Compares c) = CallTyped (open-if-else c)
+ComparisonTyped NoComparison = Unit {0}

@@ -3,7 +3,7 @@ ghost use mathlib.Core.Path.{_≡_};
 ghost use Rattle.builder.specs.Calls.{open-block, close};
 ghost use Rattle.builder.specs.Building.{empty, outcome, call};
 ghost use Rattle.numbered.specs.Values.{instruction-given, comparison-given};
-ghost use Rattle.capi.specs.Lent.{given-build, left-build, given-numbers, add-given, if-else-given, while-given, InstructionFits, ComparisonFits};
+ghost use Rattle.capi.specs.Lent.{given-build, left-build, given-numbers, add-given, if-else-given, while-given, InstructionTyped, ComparisonTyped};
 use builder::Build;
 use builder::Built;
 use builder::add;
@@ -133,7 +133,7 @@ pub extern "C" fn pokchrei_open_if_else(
         ≡ if-else-given
         (comparison-given (given-numbers kind body operands bases indexes scales numbers offsets))
         (given-build length depth parts fields starts) (now (buffer .entry)) ⌝ }
-    ensures { λ _. ⌜ ComparisonFits (comparison-given (given-numbers kind body operands bases indexes scales numbers offsets)) ⌝ }
+    ensures { λ _. ⌜ ComparisonTyped (comparison-given (given-numbers kind body operands bases indexes scales numbers offsets)) ⌝ }
 {
     let given_body = *body;
     let given_operands = *operands;
@@ -193,7 +193,7 @@ pub extern "C" fn pokchrei_open_while(
         ≡ while-given
         (comparison-given (given-numbers kind body operands bases indexes scales numbers offsets))
         (given-build length depth parts fields starts) (now (buffer .entry)) ⌝ }
-    ensures { λ _. ⌜ ComparisonFits (comparison-given (given-numbers kind body operands bases indexes scales numbers offsets)) ⌝ }
+    ensures { λ _. ⌜ ComparisonTyped (comparison-given (given-numbers kind body operands bases indexes scales numbers offsets)) ⌝ }
 {
     let given_body = *body;
     let given_operands = *operands;
@@ -253,7 +253,7 @@ pub extern "C" fn pokchrei_add(
         ≡ add-given
         (instruction-given (given-numbers kind body operands bases indexes scales numbers offsets))
         (given-build length depth parts fields starts) (now (buffer .entry)) ⌝ }
-    ensures { λ _. ⌜ InstructionFits (instruction-given (given-numbers kind body operands bases indexes scales numbers offsets)) ⌝ }
+    ensures { λ _. ⌜ InstructionTyped (instruction-given (given-numbers kind body operands bases indexes scales numbers offsets)) ⌝ }
 {
     let given_body = *body;
     let given_operands = *operands;
