@@ -1,5 +1,6 @@
 -- What a call does: one definition for every call, build and buffer. A build that no call left is answered by it too. Where its depth is above 32, or its
--- innermost part has a kind above 2 or does not begin behind its length and within the build, that part takes neither code nor close; any other is taken at its word.
+-- innermost part has a kind above 2 or does not begin behind its length and within the build, the part takes neither code nor close. Any other is taken
+-- at its word.
 use Prim.Native.Nat.{ℕ, _+_, _-_}
 use mathlib.Core.Bool.{Bool, true, false, _&&_, _||_, cond}
 use mathlib.Core.List.{List}

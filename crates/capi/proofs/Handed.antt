@@ -5,7 +5,7 @@ use mathlib.Core.List.{List}
 use Rattle.code.specs.declared.tree.Instruction.{Instruction}
 use Rattle.code.specs.declared.tree.Ocmp.{Ocmp}
 use Rattle.builder.specs.declared.build.Build.{Build}
-use Rattle.builder.specs.Calls.{add, open-if-else, open-while, CallTyped}
+use Rattle.builder.specs.Calls.{Call, add, open-if-else, open-while, CallTyped}
 use Rattle.builder.specs.Building.{Outcome, outcome, call}
 use Rattle.numbered.specs.declared.values.GivenInstruction.{GivenInstruction}
 use Rattle.numbered.specs.declared.values.GivenInstruction.the-variants.{Value, Nothing}
@@ -16,6 +16,10 @@ use Rattle.capi.specs.Lent.{add-given, if-else-given, while-given, Instr
 -- the build is handed back
 pub handed : {r : ℕ} {lent b : Build} {buffer : List ℕ} {o : Outcome} → lent ≡ b → outcome r b buffer ≡ o → outcome r lent buffer ≡ o
 handed {r} {buffer} e f = ap (λ (b : Build). outcome r b buffer) e ∙ f
+
+-- the build that the call was given is the lent one
+pub from : {b lent : Build} {o : Outcome} (c : Call) (buffer : List ℕ) → b ≡ lent → o ≡ call c b buffer → o ≡ call c lent buffer
+from c buffer e f = f ∙ ap (λ (b : Build). call c b buffer) e
 
 module _ (b : Build) (buffer : List ℕ) where
   module _ {g v : GivenInstruction} (given : v ≡ g) where

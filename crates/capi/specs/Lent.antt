@@ -13,7 +13,7 @@ use Rattle.numbered.specs.declared.values.GivenComparison.{GivenComparison}
 use Rattle.numbered.specs.declared.values.GivenComparison.the-variants.{Value as Compares, Nothing as NoComparison}
 
 -- the build that is lent in parts
-abbrev lent-build : ℕ → ℕ → List ℕ → List ℕ → List ℕ → Build
+abbrev pub lent-build : ℕ → ℕ → List ℕ → List ℕ → List ℕ → Build
 lent-build length depth parts fields starts =
     record { length = length; depth = depth; parts = parts; fields = fields; starts = starts }
 

@@ -3,7 +3,7 @@ ghost use mathlib.Core.Path.{_≡_};
 ghost use Rattle.builder.specs.Calls.{open-block, close};
 ghost use Rattle.builder.specs.Building.{empty, outcome, call};
 ghost use Rattle.numbered.specs.Values.{instruction-given, comparison-given};
-ghost use Rattle.capi.specs.Lent.{given-build, left-build, given-numbers, add-given, if-else-given, while-given, InstructionTyped, ComparisonTyped};
+ghost use Rattle.capi.specs.Lent.{lent-build, given-build, left-build, given-numbers, add-given, if-else-given, while-given, InstructionTyped, ComparisonTyped};
 use builder::Build;
 use builder::Built;
 use builder::add;
@@ -20,6 +20,60 @@ use numbered::instruction_of;
 
 // What is given is no value: a kind is none of those allowed there.
 const NO_VALUE: u8 = 2;
+
+// A build from its lent parts.
+fn lent_build(
+    length: u16,
+    depth: u16,
+    parts: &[u8; 32],
+    fields: &[u16; 32],
+    starts: &[u16; 32],
+) -> Build
+    ensures { λ r. ⌜ r ≡ lent-build length depth (now (parts .entry)) (now (fields .entry)) (now (starts .entry)) ⌝ }
+{
+    let parts = *parts;
+    let fields = *fields;
+    let starts = *starts;
+    Build {
+        length,
+        depth,
+        parts,
+        fields,
+        starts,
+    }
+}
+
+// Numbers from theirs.
+fn lent_numbers(
+    kind: u8,
+    body: &[u8; 3],
+    operands: &[u8; 3],
+    bases: &[u8; 3],
+    indexes: &[u8; 3],
+    scales: &[u16; 3],
+    numbers: &[u64; 3],
+    offsets: &[u64; 3],
+) -> Numbers
+    ensures { λ r. ⌜ r ≡ given-numbers kind body operands bases indexes scales numbers offsets ⌝ }
+{
+    let body = *body;
+    let operands = *operands;
+    let bases = *bases;
+    let indexes = *indexes;
+    let scales = *scales;
+    let numbers = *numbers;
+    let offsets = *offsets;
+    Numbers {
+        kind,
+        body,
+        operands,
+        bases,
+        indexes,
+        scales,
+        numbers,
+        offsets,
+    }
+}
 
 // The build into its lent parts.
 fn hand_back(
@@ -68,16 +122,7 @@ pub extern "C" fn pokchrei_open_block(
         outcome r (left-build length depth parts fields starts) (now (buffer .exit))
         ≡ call open-block (given-build length depth parts fields starts) (now (buffer .entry)) ⌝ }
 {
-    let old_parts = *parts;
-    let old_fields = *fields;
-    let old_starts = *starts;
-    let build = Build {
-        length: *length,
-        depth: *depth,
-        parts: old_parts,
-        fields: old_fields,
-        starts: old_starts,
-    };
+    let build = lent_build(*length, *depth, parts, fields, starts);
     let built = open_block(build, buffer);
     hand_back(built.build, length, depth, parts, fields, starts);
     built.answer
@@ -96,16 +141,7 @@ pub extern "C" fn pokchrei_close(
         outcome r (left-build length depth parts fields starts) (now (buffer .exit))
         ≡ call close (given-build length depth parts fields starts) (now (buffer .entry)) ⌝ }
 {
-    let old_parts = *parts;
-    let old_fields = *fields;
-    let old_starts = *starts;
-    let build = Build {
-        length: *length,
-        depth: *depth,
-        parts: old_parts,
-        fields: old_fields,
-        starts: old_starts,
-    };
+    let build = lent_build(*length, *depth, parts, fields, starts);
     let built = close(build, buffer);
     hand_back(built.build, length, depth, parts, fields, starts);
     built.answer
@@ -135,37 +171,21 @@ pub extern "C" fn pokchrei_open_if_else(
         (given-build length depth parts fields starts) (now (buffer .entry)) ⌝ }
     ensures { λ _. ⌜ ComparisonTyped (comparison-given (given-numbers kind body operands bases indexes scales numbers offsets)) ⌝ }
 {
-    let given_body = *body;
-    let given_operands = *operands;
-    let given_bases = *bases;
-    let given_indexes = *indexes;
-    let given_scales = *scales;
-    let given_numbers = *numbers;
-    let given_offsets = *offsets;
-    let given = Numbers {
+    let given = lent_numbers(
         kind,
-        body: given_body,
-        operands: given_operands,
-        bases: given_bases,
-        indexes: given_indexes,
-        scales: given_scales,
-        numbers: given_numbers,
-        offsets: given_offsets,
-    };
+        body,
+        operands,
+        bases,
+        indexes,
+        scales,
+        numbers,
+        offsets,
+    );
     let value = comparison_of(given);
     let GivenComparison::Value(value) = value else {
         return NO_VALUE;
     };
-    let old_parts = *parts;
-    let old_fields = *fields;
-    let old_starts = *starts;
-    let build = Build {
-        length: *length,
-        depth: *depth,
-        parts: old_parts,
-        fields: old_fields,
-        starts: old_starts,
-    };
+    let build = lent_build(*length, *depth, parts, fields, starts);
     let built = open_if_else(build, buffer, value);
     hand_back(built.build, length, depth, parts, fields, starts);
     built.answer
@@ -195,37 +215,21 @@ pub extern "C" fn pokchrei_open_while(
         (given-build length depth parts fields starts) (now (buffer .entry)) ⌝ }
     ensures { λ _. ⌜ ComparisonTyped (comparison-given (given-numbers kind body operands bases indexes scales numbers offsets)) ⌝ }
 {
-    let given_body = *body;
-    let given_operands = *operands;
-    let given_bases = *bases;
-    let given_indexes = *indexes;
-    let given_scales = *scales;
-    let given_numbers = *numbers;
-    let given_offsets = *offsets;
-    let given = Numbers {
+    let given = lent_numbers(
         kind,
-        body: given_body,
-        operands: given_operands,
-        bases: given_bases,
-        indexes: given_indexes,
-        scales: given_scales,
-        numbers: given_numbers,
-        offsets: given_offsets,
-    };
+        body,
+        operands,
+        bases,
+        indexes,
+        scales,
+        numbers,
+        offsets,
+    );
     let value = comparison_of(given);
     let GivenComparison::Value(value) = value else {
         return NO_VALUE;
     };
-    let old_parts = *parts;
-    let old_fields = *fields;
-    let old_starts = *starts;
-    let build = Build {
-        length: *length,
-        depth: *depth,
-        parts: old_parts,
-        fields: old_fields,
-        starts: old_starts,
-    };
+    let build = lent_build(*length, *depth, parts, fields, starts);
     let built = open_while(build, buffer, value);
     hand_back(built.build, length, depth, parts, fields, starts);
     built.answer
@@ -255,37 +259,21 @@ pub extern "C" fn pokchrei_add(
         (given-build length depth parts fields starts) (now (buffer .entry)) ⌝ }
     ensures { λ _. ⌜ InstructionTyped (instruction-given (given-numbers kind body operands bases indexes scales numbers offsets)) ⌝ }
 {
-    let given_body = *body;
-    let given_operands = *operands;
-    let given_bases = *bases;
-    let given_indexes = *indexes;
-    let given_scales = *scales;
-    let given_numbers = *numbers;
-    let given_offsets = *offsets;
-    let given = Numbers {
+    let given = lent_numbers(
         kind,
-        body: given_body,
-        operands: given_operands,
-        bases: given_bases,
-        indexes: given_indexes,
-        scales: given_scales,
-        numbers: given_numbers,
-        offsets: given_offsets,
-    };
+        body,
+        operands,
+        bases,
+        indexes,
+        scales,
+        numbers,
+        offsets,
+    );
     let value = instruction_of(given);
     let GivenInstruction::Value(value) = value else {
         return NO_VALUE;
     };
-    let old_parts = *parts;
-    let old_fields = *fields;
-    let old_starts = *starts;
-    let build = Build {
-        length: *length,
-        depth: *depth,
-        parts: old_parts,
-        fields: old_fields,
-        starts: old_starts,
-    };
+    let build = lent_build(*length, *depth, parts, fields, starts);
     let built = add(build, buffer, value);
     hand_back(built.build, length, depth, parts, fields, starts);
     built.answer

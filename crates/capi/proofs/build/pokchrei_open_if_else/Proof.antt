@@ -1,24 +1,30 @@
 -- What the numbers give, and the call where they give something.
-use Rattle.capi.proofs.Handed.{handed, if-opened, if-not-opened, if-fits, no-comparison-fits}
+use mathlib.Core.Path.{ap, _∙_}
+use Rattle.builder.specs.Calls.{open-if-else}
+use Rattle.numbered.specs.Values.{comparison-given}
+use Rattle.capi.proofs.Handed.{handed, from, if-opened, if-not-opened, if-fits, no-comparison-fits}
 use borrow.Author.Needs.{needs}
 use Rattle.capi.proofs.build.pokchrei_open_if_else.Statement.{statement}
 use Rattle.capi.proofs.build.pokchrei_open_if_else.Tie as tie
 
 returns : tie.Need-returns
 returns c =
-    let given = c .before .before .comparison-of .ensures in
+    let given = c .before .before .comparison-of .ensures ∙ ap comparison-given (c .before .before .before .lent-numbers .ensures) in
     (if-not-opened _ _ given (c .enum-told .given .1), no-comparison-fits given (c .enum-told .given .1))
 
 returns-2 : tie.Need-returns-2
 returns-2 c =
     let call = c .before .before .before .before .before .before .before .before in
-    let value = call .before .before .before .before .before .before .before .before in
-    let given = value .before .before .comparison-of .ensures in
-    let is = value .value .given .1 in
-    (if-opened _ _ given is (handed (c .hand-back .ensures) (call .open-if-else .ensures .0)), if-fits given is (call .open-if-else .ensures .1))
+    let lent = call .before .before in
+    let value = lent .before .before .before .before .before .before .before in
+    let given = value .before .before .comparison-of .ensures ∙ ap comparison-given (value .before .before .before .lent-numbers .ensures) in
+    let is = value .value .given .1 in (
+      if-opened _ _ given is (from (open-if-else _) _ (lent .lent-build .ensures) (handed (c .hand-back .ensures) (call .open-if-else .ensures .0))),
+      if-fits given is (call .open-if-else .ensures .1),
+    )
 
 pub pokchrei-open-if-else-spec : {M : Type 1} → statement M
 pokchrei-open-if-else-spec =
     tie.close
-    (tie.spec (λ c κs. search needs) (λ c. search needs) (λ c. search needs) returns (λ c κs. search needs)
-    (λ c κs. search needs) (λ c. search needs) returns-2)
+    (tie.spec (λ c κs. search needs) (λ c κs. search needs) (λ c. search needs) (λ c. search needs) returns
+    (λ c κs. search needs) (λ c κs. search needs) (λ c κs. search needs) (λ c. search needs) returns-2)
