@@ -11,7 +11,7 @@ static uint8_t build(pokchrei_build *kernel, uint8_t *buffer, size_t room)
     uint8_t refusal;
 
     pokchrei_build_begin(kernel);
-    refusal = pokchrei_build_while(kernel, buffer, room, pokchrei_compare(POKCHREI_O_NE, rax, pokchrei_const(0)));
+    refusal = pokchrei_build_open_while(kernel, buffer, room, pokchrei_compare(POKCHREI_O_NE, rax, pokchrei_const(0)));
     if (refusal != 0)
         return refusal;
     refusal = pokchrei_build_add(kernel, buffer, room, pokchrei_two(POKCHREI_SUB64, rax, pokchrei_const(1)));
@@ -41,10 +41,12 @@ int main(void)
     pokchrei_build kernel;
 
     uint8_t refusal = build(&kernel, buffer, sizeof buffer);
-    if (refusal != 0 || !pokchrei_build_finished(&kernel)) {
+    if (refusal != 0) {
         fprintf(stderr, "refused %u\n", refusal);
         return 1;
     }
+    if (!pokchrei_build_finished(&kernel))
+        return 1;
     for (size_t i = 0; i < kernel.length; i++)
         printf("%02x%c", buffer[i], i + 1 < kernel.length ? ' ' : '\n');
     if (run(buffer, kernel.length, regs, 4) != POKCHREI_DONE)

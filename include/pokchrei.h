@@ -82,10 +82,10 @@ uint8_t pokchrei_run(const uint8_t *code, size_t code_length, const uint64_t *ad
 size_t pokchrei_job(const uint8_t *input, size_t input_length, uint8_t out[POKCHREI_JOB_ROOM]);
 
 /*
- * The builder: calls open a Block, an IfElse or a While, add an instruction, and close, and the lengths are filled in.
- * The code grows at the front of a lent buffer; a length is 0 until what it counts is closed, and the bytes behind the
- * build stay. An IfElse opens with its true part, whose close opens the false part. The functions of the library take
- * numbers and arrays; the pokchrei_build_ functions at the end are the short way to call them.
+ * The builder writes code at the front of a lent buffer, call by call, and works out the lengths: each stands as 0 as
+ * long as its part is open. It writes nothing behind what it has built. An IfElse opens with its true part; to close
+ * that is to open the false part. The functions of the library take numbers and arrays; the pokchrei_build_ functions
+ * at the end are the short way to call them.
  */
 
 /* The room that the longest code needs. */
@@ -176,16 +176,17 @@ typedef struct pokchrei_record {
 void pokchrei_begin(uint16_t *length, uint16_t *depth, uint8_t parts[32], uint16_t fields[32], uint16_t starts[32]);
 
 /*
- * The calls. Each answers 0 where it is taken, else the number of the first of these that holds, and then changes
- * neither buffer nor build:
+ * The calls. Each answers 0 where it is taken. Else it answers the first of these numbers that holds, and build and
+ * buffer are as they were:
  *
- *      2  the kind is no instruction's (add) or no comparison's (open_if_else, open_while), or an operand's kind is
- *         none
- *     51  the call does not fit the open part: a close with nothing open or of a part that lacks its code, a second
- *         code in a part that takes one, anything after the finish
- *      4  a register or xmm number is above 15
- *     53  the added code would stand at depth 33
- *     52  the build's bytes with the call's exceed the buffer or 16,384
+ *      2  a kind is no instruction's (add), no comparison's (open_if_else, open_while) or no operand's
+ *     51  nothing is open to close, or the open part has not the code that it needs, or has the one that it takes, or
+ *         the build is finished
+ *      4  a register or xmm number above 15
+ *     53  the code would be the 33rd level; an IfElse or a While that is opened at the 32nd is taken, but no code fits
+ *         into it, and so it can't be closed
+ *     52  too many bytes for the buffer, or more than 16,384; a close too, where the buffer is now shorter than what
+ *         was built
  */
 uint8_t pokchrei_open_block(uint16_t *length, uint16_t *depth, uint8_t parts[32], uint16_t fields[32],
                             uint16_t starts[32], uint8_t *buffer, size_t buffer_length);
@@ -210,7 +211,10 @@ uint8_t pokchrei_add(uint16_t *length, uint16_t *depth, uint8_t parts[32], uint1
 uint8_t pokchrei_close(uint16_t *length, uint16_t *depth, uint8_t parts[32], uint16_t fields[32], uint16_t starts[32],
                        uint8_t *buffer, size_t buffer_length);
 
-/* Operands. A register is given as a number, so that one above 15 gets the builder's answer. */
+/*
+ * Operands. A register is given as a number, so that one from 16 to 255 gets the builder's answer, 4; a wider number is
+ * cut down by C itself before it is seen (-Wconversion tells), and so are a scale and an amount.
+ */
 
 static inline pokchrei_operand pokchrei_const(uint64_t number)
 {
@@ -243,7 +247,10 @@ static inline pokchrei_operand pokchrei_mindex(uint8_t base, int16_t scale, uint
     return operand;
 }
 
-/* Records, by what their kinds have. */
+/*
+ * Records, by what their kinds have. Each kind has its own helper: where another is used, an operand that is missing is
+ * answered 2, but bytes are taken by their position, and what is over is dropped.
+ */
 
 static inline pokchrei_record pokchrei_record_of(uint8_t kind, uint8_t x, uint8_t y, uint8_t z)
 {
@@ -331,12 +338,12 @@ static inline void pokchrei_build_begin(pokchrei_build *build)
     pokchrei_begin(&build->length, &build->depth, build->parts, build->fields, build->starts);
 }
 
-static inline uint8_t pokchrei_build_block(pokchrei_build *build, uint8_t *buffer, size_t room)
+static inline uint8_t pokchrei_build_open_block(pokchrei_build *build, uint8_t *buffer, size_t room)
 {
     return pokchrei_open_block(&build->length, &build->depth, build->parts, build->fields, build->starts, buffer, room);
 }
 
-static inline uint8_t pokchrei_build_if_else(pokchrei_build *build, uint8_t *buffer, size_t room,
+static inline uint8_t pokchrei_build_open_if_else(pokchrei_build *build, uint8_t *buffer, size_t room,
                                              pokchrei_record comparison)
 {
     return pokchrei_open_if_else(&build->length, &build->depth, build->parts, build->fields, build->starts, buffer,
@@ -344,7 +351,7 @@ static inline uint8_t pokchrei_build_if_else(pokchrei_build *build, uint8_t *buf
                                  comparison.indexes, comparison.scales, comparison.numbers, comparison.offsets);
 }
 
-static inline uint8_t pokchrei_build_while(pokchrei_build *build, uint8_t *buffer, size_t room,
+static inline uint8_t pokchrei_build_open_while(pokchrei_build *build, uint8_t *buffer, size_t room,
                                            pokchrei_record comparison)
 {
     return pokchrei_open_while(&build->length, &build->depth, build->parts, build->fields, build->starts, buffer,

@@ -12,19 +12,19 @@ pub const CODE_ROOM: usize = 16_384;
 /// Why a call was not taken. It has no place.
 #[derive(Clone, Copy, Debug, PartialEq, Eq)]
 pub enum BuildRefusal {
-    /// 51: a close with nothing open or of a part that lacks its code, a second code in a part that takes one, or
-    /// anything after the finish.
+    /// 51: nothing is open to close, or the open part has not the code that it needs, or has the one that it takes,
+    /// or the build is finished.
     Misfit,
-    /// 4: a register or xmm number is above 15.
+    /// 4: a register or xmm number above 15.
     NoRegister,
-    /// 53: the added code would stand at depth 33.
+    /// 53: the code would be the 33rd level.
     TooDeep,
-    /// 52: the build's bytes with the call's exceed the buffer or [`CODE_ROOM`].
+    /// 52: too many bytes for the buffer, or more than [`CODE_ROOM`].
     NoRoom,
 }
 
 impl BuildRefusal {
-    /// The number that document 02 gives it.
+    /// Its number, as in C.
     pub fn number(self) -> u8 {
         match self {
             BuildRefusal::Misfit => 51,
@@ -38,10 +38,10 @@ impl BuildRefusal {
 impl fmt::Display for BuildRefusal {
     fn fmt(&self, f: &mut fmt::Formatter<'_>) -> fmt::Result {
         let reason = match self {
-            BuildRefusal::Misfit => "the call does not fit the open part",
-            BuildRefusal::NoRegister => "a register or xmm number is above 15",
-            BuildRefusal::TooDeep => "the code would stand deeper than 32",
-            BuildRefusal::NoRoom => "the code would exceed the buffer or 16,384 bytes",
+            BuildRefusal::Misfit => "the open part does not take this call",
+            BuildRefusal::NoRegister => "a register or xmm number above 15",
+            BuildRefusal::TooDeep => "the code would be the 33rd level",
+            BuildRefusal::NoRoom => "too many bytes for the buffer, or more than 16,384",
         };
         write!(f, "refused {}: {reason}", self.number())
     }
@@ -106,12 +106,13 @@ impl<'a> Builder<'a> {
         self.call(raw::pokchrei_open_block)
     }
 
-    /// Opens an IfElse, and its true part, which takes one code. Closing that opens the false part.
+    /// Opens an IfElse, and its true part, which takes one code. To close that is to open the false part. At the 32nd
+    /// level no code fits into it, and so it cannot be closed.
     pub fn open_if_else(&mut self, condition: Comparison) -> Result<(), BuildRefusal> {
         self.call_with(raw::pokchrei_open_if_else, condition.into())
     }
 
-    /// Opens a While: its part takes one code.
+    /// Opens a While: its part takes one code. At the 32nd level none fits into it, and so it cannot be closed.
     pub fn open_while(&mut self, condition: Comparison) -> Result<(), BuildRefusal> {
         self.call_with(raw::pokchrei_open_while, condition.into())
     }

@@ -203,6 +203,20 @@ fn numbers_above_15() {
 }
 
 #[test]
+fn a_while_at_the_last_level_takes_nothing() -> Result<(), BuildRefusal> {
+    let mut buffer = [0; CODE_ROOM];
+    let mut builder = Builder::new(&mut buffer);
+    for _ in 0..31 {
+        builder.open_block()?;
+    }
+    builder.open_while(ONe(RAX, OConst(0)))?;
+    assert_eq!(builder.add(Sub64(RAX, OConst(1))), Err(BuildRefusal::TooDeep));
+    assert_eq!(builder.close(), Err(BuildRefusal::Misfit));
+    assert_eq!(builder.depth(), 32);
+    Ok(())
+}
+
+#[test]
 fn depth_33() -> Result<(), BuildRefusal> {
     let mut buffer = [0; 160];
     let mut builder = Builder::new(&mut buffer);
@@ -257,7 +271,7 @@ fn a_refusal_has_its_number() {
     use BuildRefusal::*;
     let numbers = [Misfit, NoRegister, TooDeep, NoRoom].map(BuildRefusal::number);
     assert_eq!(numbers, [51, 4, 53, 52]);
-    let text = "refused 51: the call does not fit the open part";
+    let text = "refused 51: the open part does not take this call";
     assert_eq!(Misfit.to_string(), text);
 }
 
