@@ -54,6 +54,7 @@ compare stored N SEED DIR        the same, and N generated jobs to DIR/random
 compare check FILE PROGRAM       run a stored set through a program
 compare make SEED INDEX JOBFILE  write one generated job
 compare builds N SEED [BUILDER]  compare N generated lists of builder calls
+compare store-builds DIR         write stored lists to DIR/systematic and random
 PROGRAM is a path with arguments, or `self` for this evaluator, or (built
 with the feature c_target) `c` for the port linked in. BUILDER is `c`, or
 `self` for the rule over a build's fields.";
@@ -92,6 +93,10 @@ fn command(words: &[String]) -> Result<(), String> {
         }
         ["builds", n, seed] => run_builds(n, seed, "c"),
         ["builds", n, seed, builder] => run_builds(n, seed, builder),
+        ["store-builds", dir] => {
+            write_builds(dir, "systematic", builder::systematic()?)?;
+            write_builds(dir, "random", builder::random())
+        }
         _ => Err(USAGE.to_string()),
     }
 }
@@ -152,6 +157,12 @@ fn run_builds(n: &str, seed: &str, name: &str) -> Result<(), String> {
     print!("{}", tally.report());
     tally.verdict()?;
     println!("no difference, seed {seed}");
+    Ok(())
+}
+
+fn write_builds(dir: &str, name: &str, (stored, count): builder::Stored) -> Result<(), String> {
+    write_set(dir, name, &stored)?;
+    println!("{name}: {} lists, {} calls", count.lists, count.calls);
     Ok(())
 }
 

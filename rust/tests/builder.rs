@@ -210,7 +210,10 @@ fn a_while_at_the_last_level_takes_nothing() -> Result<(), BuildRefusal> {
         builder.open_block()?;
     }
     builder.open_while(ONe(RAX, OConst(0)))?;
-    assert_eq!(builder.add(Sub64(RAX, OConst(1))), Err(BuildRefusal::TooDeep));
+    assert_eq!(
+        builder.add(Sub64(RAX, OConst(1))),
+        Err(BuildRefusal::TooDeep)
+    );
     assert_eq!(builder.close(), Err(BuildRefusal::Misfit));
     assert_eq!(builder.depth(), 32);
     Ok(())

@@ -7,6 +7,7 @@ use super::forged::{self, Build};
 use super::lists::list;
 use super::maker::{List, Step};
 use super::model::{Model, Stand};
+use super::own::Own;
 use super::record::RawCall;
 use super::tally::{Met, Tally};
 use crate::reader::read;
@@ -53,14 +54,12 @@ pub fn compare(lists: u64, seed: u64, builder: &mut dyn Builder) -> Tally {
 }
 
 pub fn drive(list: &List, builder: &mut dyn Builder, tally: &mut Tally) -> Result<(), String> {
-    let start = Side {
-        build: list.build.clone(),
-        buffer: list.buffer.clone(),
-    };
     let mut drive = Drive {
-        own: start.clone(),
-        theirs: start,
-        model: None,
+        own: Own::new(list.build.clone(), list.buffer.clone()),
+        theirs: Side {
+            build: list.build.clone(),
+            buffer: list.buffer.clone(),
+        },
         builder,
         tally,
     };
@@ -71,17 +70,14 @@ pub fn drive(list: &List, builder: &mut dyn Builder, tally: &mut Tally) -> Resul
     Ok(())
 }
 
-#[derive(Clone)]
 struct Side {
     build: Build,
     buffer: Vec<u8>,
 }
 
 struct Drive<'a> {
-    own: Side,
+    own: Own,
     theirs: Side,
-    /// None while the build is one that no call left.
-    model: Option<Model>,
     builder: &'a mut dyn Builder,
     tally: &'a mut Tally,
 }
@@ -90,15 +86,17 @@ impl Drive<'_> {
     fn step(&mut self, step: &Step) -> Result<(), String> {
         match step {
             Step::Begin => {
-                self.model = Some(Model::default());
-                self.own.build = Build::default();
+                self.own.begin();
                 self.builder.begin(&mut self.theirs.build);
             }
             Step::Damage(seed) => {
-                self.model = None;
-                let Side { build, buffer } = &mut self.own;
-                damage(build, buffer, &mut Rng::new(*seed));
-                self.theirs = self.own.clone();
+                let mut rng = Rng::new(*seed);
+                self.own
+                    .damage(|build, buffer| damage(build, buffer, &mut rng));
+                self.theirs = Side {
+                    build: self.own.build.clone(),
+                    buffer: self.own.buffer.clone(),
+                };
             }
             Step::Call(call, lent) => self.call(call, *lent)?,
         }
@@ -106,8 +104,8 @@ impl Drive<'_> {
     }
 
     fn call(&mut self, call: &RawCall, lent: usize) -> Result<(), String> {
-        let stand = self.model.as_ref().map(Model::stand);
-        let own = self.own_answer(call, lent);
+        let stand = self.own.model.as_ref().map(Model::stand);
+        let own = self.own.call(call, lent);
         let Side { build, buffer } = &mut self.theirs;
         let theirs = self.builder.call(build, &mut buffer[..lent], call);
         if own != theirs {
@@ -116,29 +114,14 @@ impl Drive<'_> {
             ));
         }
         self.tally.add(Met { stand, answer: own }, call);
-        match &self.model {
-            Some(model) if own == 0 && model.stand() == Stand::Finished => self.finished(),
+        let Some(model) = &self.own.model else {
+            return Ok(());
+        };
+        self.tally.deepest = self.tally.deepest.max(model.depth());
+        match (own, model.stand()) {
+            (0, Stand::Finished) => self.finished(),
             _ => Ok(()),
         }
-    }
-
-    fn own_answer(&mut self, raw: &RawCall, lent: usize) -> u8 {
-        let Side { build, buffer } = &mut self.own;
-        let Some(call) = raw.value() else {
-            return 2;
-        };
-        let Some(model) = &mut self.model else {
-            return forged::call(build, &mut buffer[..lent], &call);
-        };
-        let answer = model.answer(&call, lent);
-        if answer == 0 {
-            model.take(call);
-            let front = model.front();
-            buffer[..front.len()].copy_from_slice(&front);
-            model.describe(build);
-            self.tally.deepest = self.tally.deepest.max(model.depth());
-        }
-        answer
     }
 
     fn same(&self) -> Result<(), String> {
@@ -159,7 +142,7 @@ impl Drive<'_> {
 
     /// What has to hold of a finished build beyond its bytes.
     fn finished(&mut self) -> Result<(), String> {
-        let Some(model) = &self.model else {
+        let Some(model) = &self.own.model else {
             return Ok(());
         };
         let front = model.front();

@@ -15,13 +15,17 @@ mod linked;
 mod lists;
 mod maker;
 mod model;
+mod own;
 mod record;
+mod stored;
+mod systematic;
 mod tally;
 mod values;
 
 use drive::{Builder, Rule};
 
 pub use drive::compare;
+pub use stored::{random, systematic, Stored};
 
 /// `self` is the rule for damaged builds, `c` the port linked in.
 pub fn builder_of(name: &str) -> Result<Box<dyn Builder>, String> {

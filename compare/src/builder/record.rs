@@ -133,6 +133,13 @@ impl RawCall {
         RawCall { entry, record }
     }
 
+    /// A record of this kind, body and operands, the rest left to chance.
+    pub fn with(entry: Entry, head: &[u8], operands: &[Operand], rng: &mut Rng) -> RawCall {
+        let mut record = Record::any(rng);
+        record.set(head, operands);
+        RawCall { entry, record }
+    }
+
     /// Any record at all, most of them no values.
     pub fn any(rng: &mut Rng) -> RawCall {
         let entry = rng.pick(&[Entry::OpenIfElse, Entry::OpenWhile, Entry::Add, Entry::Add]);

@@ -100,7 +100,7 @@ impl Tally {
     }
 
     /// What can be met and was not.
-    fn missing(&self) -> Vec<String> {
+    pub fn missing(&self) -> Vec<String> {
         let mut missing = Vec::new();
         for (name, stand, answers) in STANDS {
             let absent = answers.iter().filter(|&&a| self.count(stand, a) == 0);
