@@ -1,5 +1,6 @@
 pub mod Words
 pub mod Bits
+pub mod Counts
 pub mod Types
 pub mod Sums
 pub mod Flags

@@ -1,6 +1,7 @@
 // Words_s, Words.Two_s, Words.Four_s, Types_s and TypesNative_s: words of 32 and 64 bits, their
 // halves and quarters, their bits, and the carry and overflow bits of a flags word.
 mod bits;
+mod counts;
 mod flags;
 mod halves;
 mod lanes;
@@ -15,6 +16,9 @@ pub use bits::ishr32;
 pub use bits::ishr64;
 pub use bits::ixor32;
 pub use bits::ixor64;
+pub use counts::lzcnt64;
+pub use counts::popcnt64;
+pub use counts::tzcnt64;
 pub use flags::cf;
 pub use flags::overflow;
 pub use flags::update_cf;
