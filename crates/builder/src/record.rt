@@ -128,6 +128,9 @@ pub fn record_of(instruction: Instruction) -> Record
         Instruction::Pinsrd(dst, src, index) => lane(0x16, dst, index, src),
         Instruction::Pinsrq(dst, src, index) => lane(0x17, dst, index, src),
         Instruction::VPSLLDQ(dst, src, count) => xmms_amount(0x18, dst, src, count),
+        Instruction::Popcnt64(dst, src) => two(0x19, dst, src),
+        Instruction::Lzcnt64(dst, src) => two(0x1a, dst, src),
+        Instruction::Tzcnt64(dst, src) => two(0x1b, dst, src),
     }
 }
 

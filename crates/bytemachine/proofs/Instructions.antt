@@ -4,13 +4,16 @@ use mathlib.Core.Path.{_≡_, refl, _∙_, ap, subst}
 use mathlib.Core.Bool.{Bool, true, false}
 use Prim.Native.Nat.{ℕ, _+_, _%_, _^_, _<_}
 use native.Mathlib.Omega.{arith}
+use lib.Dec.{eqb}
 use lib.ListN.{set}
 use lib.Seq.{getD-set-other}
 use Rattle.words.specs.Words.{Two, Four, four-to-two-two, two-select, two-to-nat}
 use Rattle.words.specs.Bits.{bit, iand, ixor, ishl, ishr}
+use Rattle.words.specs.Counts.{popcnt, lzcnt, tzcnt}
 use Rattle.words.specs.Sums.{sum-mod, sum-carry, sub-mod, mul-mod}
 use Rattle.words.specs.Flags.{cf, overflow, update-cf, update-of}
 use Rattle.words.proofs.BitLaws.{iand-lt, ixor-lt}
+use Rattle.words.proofs.CountLaws.{popcnt-le, lzcnt-le, tzcnt-le}
 use Rattle.words.proofs.ShiftLaws.{ishl-lt, ishr-lt}
 use Rattle.words.proofs.SumLaws.{sum-mod-lt, sub-mod-lt}
 use Rattle.words.proofs.ProductLaws.{mul-mod-lt, mul-div-lt}
@@ -21,7 +24,7 @@ use Rattle.machine.specs.Bytes.{ByteMemory}
 use Rattle.machine.proofs.RegisterLaws.{words-set}
 use Rattle.machine.specs.declared.Operand.{Operand}
 use Rattle.code.specs.declared.tree.Instruction.{Instruction}
-use Rattle.code.specs.declared.tree.Instruction.the-variants.{Mov64, Add64, AddLea64, AddCarry64, Adcx64, Adox64, Sub64, Mul64, Mulx64, IMul64, Xor64, And64, Shr64, Shl64, Paddd, Pxor, Pslld, Psrld, Pshufd, Pcmpeqd, Pextrq, Pinsrd, Pinsrq, VPSLLDQ}
+use Rattle.code.specs.declared.tree.Instruction.the-variants.{Mov64, Add64, AddLea64, AddCarry64, Adcx64, Adox64, Sub64, Mul64, Mulx64, IMul64, Xor64, And64, Shr64, Shl64, Paddd, Pxor, Pslld, Psrld, Pshufd, Pcmpeqd, Pextrq, Pinsrd, Pinsrq, VPSLLDQ, Popcnt64, Lzcnt64, Tzcnt64}
 use Rattle.code.specs.WellFormed.{WfIns}
 use Rattle.code.proofs.Accepted.{WfTwo}
 use Rattle.eval.specs.Config.{Env, Config, with-flags, with-regs, End, ends, done, fault, check}
@@ -181,3 +184,10 @@ module _ (env : Env) (memory : ByteMemory) where
         (wrote-xmm p dst _ (s .flags) (insert-nat64-quad _ _ (index % 2) (xmm-quad dst kept)) (c .1))
     follows-ins p (VPSLLDQ dst src count) fits e =
         wrote-xmm p dst _ (s .flags) (shift-quad-quad _ (xmm-quad src kept)) (passed _ 35 p s _ t e .1)
+    follows-ins p (Popcnt64 dst src) fits e =
+        combined p dst src (λ a b. popcnt 64 b) (λ a b. update-cf (update-of (env .fill) false) false) fits
+        (λ a b h k. omega (arith, popcnt-le 64 b)) e
+    follows-ins p (Lzcnt64 dst src) fits e =
+        combined p dst src (λ a b. lzcnt 64 b) (λ a b. update-cf (env .fill) (eqb b 0)) fits (λ a b h k. omega (arith, lzcnt-le 64 b)) e
+    follows-ins p (Tzcnt64 dst src) fits e =
+        combined p dst src (λ a b. tzcnt 64 b) (λ a b. update-cf (env .fill) (eqb b 0)) fits (λ a b h k. omega (arith, tzcnt-le 64 b)) e

@@ -6,6 +6,7 @@ use mathlib.Core.Option.{Option, none, some}
 use lib.Dec.{eqb, ltb, leb}
 use Rattle.words.specs.Words.{Four, four-to-two-two, two-select, two-to-nat}
 use Rattle.words.specs.Bits.{bit, iand, ixor, ishl, ishr}
+use Rattle.words.specs.Counts.{popcnt, lzcnt, tzcnt}
 use Rattle.words.specs.Types.{quad32-xor, insert-nat32, insert-nat64, add-lanes, equal-lanes, shl-lanes, shr-lanes, shuffle-lanes, shift-quad}
 use Rattle.words.specs.Sums.{sum-mod, sum-carry, sub-mod, mul-div, mul-mod}
 use Rattle.words.specs.Flags.{cf, overflow, update-cf, update-of}
@@ -15,7 +16,7 @@ use Rattle.machine.specs.Bytes.{ByteMemory, wrap, read-bytes, write-bytes}
 use Rattle.machine.specs.declared.Operand.{Operand}
 use Rattle.machine.specs.declared.Operand.the-variants.{OConst, OReg, OMem}
 use Rattle.code.specs.declared.tree.Instruction.{Instruction}
-use Rattle.code.specs.declared.tree.Instruction.the-variants.{Mov64, Add64, AddLea64, AddCarry64, Adcx64, Adox64, Sub64, Mul64, Mulx64, IMul64, Xor64, And64, Shr64, Shl64, Paddd, Pxor, Pslld, Psrld, Pshufd, Pcmpeqd, Pextrq, Pinsrd, Pinsrq, VPSLLDQ}
+use Rattle.code.specs.declared.tree.Instruction.the-variants.{Mov64, Add64, AddLea64, AddCarry64, Adcx64, Adox64, Sub64, Mul64, Mulx64, IMul64, Xor64, And64, Shr64, Shl64, Paddd, Pxor, Pslld, Psrld, Pshufd, Pcmpeqd, Pextrq, Pinsrd, Pinsrq, VPSLLDQ, Popcnt64, Lzcnt64, Tzcnt64}
 use Rattle.code.specs.declared.tree.Ocmp.{Ocmp}
 use Rattle.code.specs.declared.tree.Ocmp.the-variants.{OEq, ONe, OLe, OGe, OLt, OGt}
 use Rattle.code.specs.Tree.{Code, Ins, Block, IfElse, While, Codes, ⟨⟩, _∷ᶜ_}
@@ -106,6 +107,9 @@ module _ (fill : ℕ) where
   exec-ins (Pinsrd dst src index) s = write-xmm dst (insert-nat32 (xmm-at (s .xmms) dst) (read src s % 2 ^ 32) (index % 4)) s
   exec-ins (Pinsrq dst src index) s = write-xmm dst (insert-nat64 (xmm-at (s .xmms) dst) (read src s) (index % 2)) s
   exec-ins (VPSLLDQ dst src count) s = write-xmm dst (shift-quad (xmm-at (s .xmms) src)) s
+  exec-ins (Popcnt64 dst src) s = with-flags (update-cf (update-of fill false) false) (write dst (popcnt 64 (read src s)) s)
+  exec-ins (Lzcnt64 dst src) s = let b = read src s in with-flags (update-cf fill (eqb b 0)) (write dst (lzcnt 64 b) s)
+  exec-ins (Tzcnt64 dst src) s = let b = read src s in with-flags (update-cf fill (eqb b 0)) (write dst (tzcnt 64 b) s)
 
   -- a comparison, unsigned
   unfoldable pub test : Ocmp → BState → Bool

@@ -11,7 +11,7 @@ use lib.ListN.{length, getD}
 use Rattle.machine.specs.declared.Operand.{Operand}
 use Rattle.machine.specs.declared.Operand.the-variants.{OConst}
 use Rattle.code.specs.declared.tree.Instruction.{Instruction}
-use Rattle.code.specs.declared.tree.Instruction.the-variants.{Mov64, Add64, AddLea64, AddCarry64, Adcx64, Adox64, Sub64, Mul64, Mulx64, IMul64, Xor64, And64, Shr64, Shl64, Paddd, Pxor, Pslld, Psrld, Pshufd, Pcmpeqd, Pextrq, Pinsrd, Pinsrq, VPSLLDQ}
+use Rattle.code.specs.declared.tree.Instruction.the-variants.{Mov64, Add64, AddLea64, AddCarry64, Adcx64, Adox64, Sub64, Mul64, Mulx64, IMul64, Xor64, And64, Shr64, Shl64, Paddd, Pxor, Pslld, Psrld, Pshufd, Pcmpeqd, Pextrq, Pinsrd, Pinsrq, VPSLLDQ, Popcnt64, Lzcnt64, Tzcnt64}
 use Rattle.code.specs.declared.tree.Ocmp.{Ocmp}
 use Rattle.code.specs.declared.tree.Ocmp.the-variants.{OEq, ONe, OLe, OGe, OLt, OGt}
 use Rattle.code.specs.Layout.{Byte, number, amount, Layout, laid, layout, ocmp-layout, values, numbers-from, ins-forms, last-ins, ins-of, ocmp-of, shape}
@@ -82,6 +82,9 @@ told (Pextrq a x n) = (refl, refl)
 told (Pinsrd x a n) = (refl, refl)
 told (Pinsrq x a n) = (refl, refl)
 told (VPSLLDQ x y n) = (refl, refl)
+told (Popcnt64 a b) = (refl, refl)
+told (Lzcnt64 a b) = (refl, refl)
+told (Tzcnt64 a b) = (refl, refl)
 
 abbrev OcmpTold : Ocmp → Type 0
 OcmpTold c = (agrees is-ocmp (ocmp-layout c) ≡ true) × (ocmp-of (ocmp-layout c .kind) (ocmp-layout c .operands) ≡ c)

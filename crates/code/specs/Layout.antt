@@ -6,7 +6,7 @@ use lib.ListN.{getD}
 use Rattle.machine.specs.declared.Operand.{Operand}
 use Rattle.machine.specs.declared.Operand.the-variants.{OConst}
 use Rattle.code.specs.declared.tree.Instruction.{Instruction}
-use Rattle.code.specs.declared.tree.Instruction.the-variants.{Mov64, Add64, AddLea64, AddCarry64, Adcx64, Adox64, Sub64, Mul64, Mulx64, IMul64, Xor64, And64, Shr64, Shl64, Paddd, Pxor, Pslld, Psrld, Pshufd, Pcmpeqd, Pextrq, Pinsrd, Pinsrq, VPSLLDQ}
+use Rattle.code.specs.declared.tree.Instruction.the-variants.{Mov64, Add64, AddLea64, AddCarry64, Adcx64, Adox64, Sub64, Mul64, Mulx64, IMul64, Xor64, And64, Shr64, Shl64, Paddd, Pxor, Pslld, Psrld, Pshufd, Pcmpeqd, Pextrq, Pinsrd, Pinsrq, VPSLLDQ, Popcnt64, Lzcnt64, Tzcnt64}
 use Rattle.code.specs.declared.tree.Ocmp.{Ocmp}
 use Rattle.code.specs.declared.tree.Ocmp.the-variants.{OEq, ONe, OLe, OGe, OLt, OGt}
 
@@ -50,6 +50,9 @@ layout (Pextrq dst src index) = laid 0x15 (number src ∷ amount index ∷ []) (
 layout (Pinsrd dst src index) = laid 0x16 (number dst ∷ amount index ∷ []) (src ∷ [])
 layout (Pinsrq dst src index) = laid 0x17 (number dst ∷ amount index ∷ []) (src ∷ [])
 layout (VPSLLDQ dst src count) = laid 0x18 (number dst ∷ number src ∷ amount count ∷ []) []
+layout (Popcnt64 dst src) = laid 0x19 [] (dst ∷ src ∷ [])
+layout (Lzcnt64 dst src) = laid 0x1a [] (dst ∷ src ∷ [])
+layout (Tzcnt64 dst src) = laid 0x1b [] (dst ∷ src ∷ [])
 
 -- the layout of each comparison
 abbrev pub ocmp-layout : Ocmp → Layout
@@ -102,11 +105,14 @@ ins-forms b o =
     ∷ Pinsrd (b 0) (o 0) (b 1)
     ∷ Pinsrq (b 0) (o 0) (b 1)
     ∷ VPSLLDQ (b 0) (b 1) (b 2)
+    ∷ Popcnt64 (o 0) (o 1)
+    ∷ Lzcnt64 (o 0) (o 1)
+    ∷ Tzcnt64 (o 0) (o 1)
     ∷ []
 
 -- the last kind of an instruction: the list above goes from 01 to it
 abbrev pub last-ins : ℕ
-last-ins = 0x18
+last-ins = 0x1b
 
 -- the instruction of a kind, of its body's bytes and its operands
 abbrev pub ins-of : ℕ → List ℕ → List Operand → Instruction

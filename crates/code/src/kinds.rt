@@ -21,7 +21,7 @@ pub fn class_of(kind: u8) -> Class
     ensures { λ r. ⌜ r ≡ class kind ⌝ }
 {
     match kind {
-        0x01..=0x18 => Class::Instruction,
+        0x01..=0x1b => Class::Instruction,
         0x20..=0x22 => Class::Structure,
         0x30..=0x35 => Class::Comparison,
         0x40..=0x44 => Class::Operand,
@@ -57,9 +57,9 @@ const TABLE: [u8; 256] = [
     9,
     9,
     12,
-    255,
-    255,
-    255,
+    2,
+    2,
+    2,
     255,
     255,
     255,
@@ -298,7 +298,7 @@ fn entry(kind: u8) -> usize
 
 // Bit k is set where k is the kind of an instruction of a destination and a source. A word of bits
 // and no table: the evaluator asks at each instruction, and so reads no memory for it.
-const TWOS: u64 = 0b0111_1100_1111_0110;
+const TWOS: u64 = 0b1110_0000_0000_0111_1100_1111_0110;
 
 // Whether a kind is that of an instruction of a destination and a source.
 pub fn is_two(kind: u8) -> bool

@@ -1,4 +1,4 @@
-// `ins` and `ocmp` as values: xmm numbers, shift amounts and imm8 are bytes.
+// `ins` and `ocmp` as values: xmm numbers, shift amounts and imm8 are bytes. The last three are request 2026-02's.
 use machine::Operand;
 
 pub enum Instruction {
@@ -26,6 +26,9 @@ pub enum Instruction {
     Pinsrd(u8, Operand, u8),
     Pinsrq(u8, Operand, u8),
     VPSLLDQ(u8, u8, u8),
+    Popcnt64(Operand, Operand),
+    Lzcnt64(Operand, Operand),
+    Tzcnt64(Operand, Operand),
 }
 
 pub enum Ocmp {

@@ -7,6 +7,7 @@ use mathlib.Core.Option.{Option}
 use lib.Dec.{eqb, ltb, leb}
 use Rattle.words.specs.Words.{Four, four-to-two-two, two-select, two-to-nat}
 use Rattle.words.specs.Bits.{bit, iand, ixor, ishl, ishr}
+use Rattle.words.specs.Counts.{popcnt, lzcnt, tzcnt}
 use Rattle.words.specs.Types.{quad32-xor, insert-nat32, insert-nat64, add-lanes, equal-lanes, shl-lanes, shr-lanes, shuffle-lanes, shift-quad}
 use Rattle.words.specs.Sums.{sum-mod, sum-carry, sub-mod, mul-div, mul-mod}
 use Rattle.words.specs.Flags.{cf, overflow, update-cf, update-of}
@@ -18,7 +19,7 @@ use Rattle.machine.specs.declared.Maddr.{Maddr}
 use Rattle.machine.specs.declared.Operand.{Operand}
 use Rattle.machine.specs.declared.Operand.the-variants.{OConst, OReg, OMem}
 use Rattle.code.specs.declared.tree.Instruction.{Instruction}
-use Rattle.code.specs.declared.tree.Instruction.the-variants.{Mov64, Add64, AddLea64, AddCarry64, Adcx64, Adox64, Sub64, Mul64, Mulx64, IMul64, Xor64, And64, Shr64, Shl64, Paddd, Pxor, Pslld, Psrld, Pshufd, Pcmpeqd, Pextrq, Pinsrd, Pinsrq, VPSLLDQ}
+use Rattle.code.specs.declared.tree.Instruction.the-variants.{Mov64, Add64, AddLea64, AddCarry64, Adcx64, Adox64, Sub64, Mul64, Mulx64, IMul64, Xor64, And64, Shr64, Shl64, Paddd, Pxor, Pslld, Psrld, Pshufd, Pcmpeqd, Pextrq, Pinsrd, Pinsrq, VPSLLDQ, Popcnt64, Lzcnt64, Tzcnt64}
 use Rattle.code.specs.declared.tree.Ocmp.{Ocmp}
 use Rattle.code.specs.declared.tree.Ocmp.the-variants.{OEq, ONe, OLe, OGe, OLt, OGt}
 use Rattle.code.specs.Families.{at-kind}
@@ -29,7 +30,7 @@ unfoldable pub add-flags : (fill flags a b c : ℕ) → ℕ
 add-flags fill flags a b c = update-cf flags (sum-carry 64 (a + b + c))
 
 -- the word that an instruction of a destination and a source writes, of their words a and b: Mov64, Add64, AddCarry64, Adcx64, Adox64, Sub64,
--- IMul64, Xor64, And64, Shr64, Shl64
+-- IMul64, Xor64, And64, Shr64, Shl64, Popcnt64, Lzcnt64, Tzcnt64
 unfoldable pub two-word : (k flags a b : ℕ) → ℕ
 two-word k flags a b =
     at-kind k 0x01 b
@@ -42,10 +43,13 @@ two-word k flags a b =
     (at-kind k 0x0b (ixor 64 a b)
     (at-kind k 0x0c (iand 64 a b)
     (at-kind k 0x0d (ishr a b)
-    (at-kind k 0x0e (ishl 64 a b) 0))))))))))
+    (at-kind k 0x0e (ishl 64 a b)
+    (at-kind k 0x19 (popcnt 64 b)
+    (at-kind k 0x1a (lzcnt 64 b)
+    (at-kind k 0x1b (tzcnt 64 b) 0)))))))))))))
 
--- the flags that it leaves: Mov64 keeps the old ones, sums change one of them, Xor64 clears two of the fill word's, and the others leave the
--- fill word
+-- the flags that it leaves: Mov64 keeps the old ones, sums change one of them, Xor64 and Popcnt64 clear two of the fill word's, Lzcnt64 and
+-- Tzcnt64 set the fill word's carry exactly for a source of 0, and the others leave the fill word
 unfoldable pub two-flags : (k fill flags a b : ℕ) → ℕ
 two-flags k fill flags a b =
     at-kind k 0x01 flags
@@ -53,7 +57,10 @@ two-flags k fill flags a b =
     (at-kind k 0x04 (add-flags fill flags a b (bit (cf flags)))
     (at-kind k 0x05 (update-cf flags (sum-carry 64 (a + b + bit (cf flags))))
     (at-kind k 0x06 (update-of flags (sum-carry 64 (a + b + bit (overflow flags))))
-    (at-kind k 0x0b (update-cf (update-of fill false) false) fill)))))
+    (at-kind k 0x0b (update-cf (update-of fill false) false)
+    (at-kind k 0x19 (update-cf (update-of fill false) false)
+    (at-kind k 0x1a (update-cf fill (eqb b 0))
+    (at-kind k 0x1b (update-cf fill (eqb b 0)) fill))))))))
 
 -- the kinds of Shr64 and Shl64, whose amount is checked
 abbrev pub checks-amount : ℕ → Bool
@@ -231,6 +238,9 @@ module _ (env : Env) where
   act (Pinsrq dst src index) s = inserts-act 0x17 dst src index s
   -- 35: a count that is not 4
   act (VPSLLDQ dst src count) s = to-xmm ((eqb count 4, 35) ∷ []) dst (shift-quad (xmm-at (s .xmms) src)) (s .flags)
+  act (Popcnt64 dst src) s = two-act 0x19 dst src s
+  act (Lzcnt64 dst src) s = two-act 0x1a dst src s
+  act (Tzcnt64 dst src) s = two-act 0x1b dst src s
 
   -- an instruction at a place
   unfoldable pub run-ins : ℕ → Instruction → Config → End

@@ -2,6 +2,7 @@
 ghost use mathlib.Core.Path.{_≡_};
 ghost use mathlib.Core.Bool.{true, false};
 ghost use Prim.Native.Nat.{_+_};
+ghost use lib.Dec.{eqb};
 ghost use Rattle.words.specs.Bits.{bit};
 ghost use Rattle.words.specs.Flags as Flags;
 ghost use Rattle.words.specs.Sums.{sum-mod, sum-carry};
@@ -14,9 +15,12 @@ use words::iand64;
 use words::ishl64;
 use words::ishr64;
 use words::ixor64;
+use words::lzcnt64;
 use words::mul_mod;
 use words::overflow;
+use words::popcnt64;
 use words::sub64;
+use words::tzcnt64;
 use words::update_cf;
 use words::update_of;
 
@@ -65,11 +69,18 @@ fn overflow_addition(flags: u64, a: u64, b: u64) -> Effect
     }
 }
 
-// The flags of Xor64.
+// The flags of Xor64 and Popcnt64.
 fn cleared(fill: u64) -> u64
     ensures { λ r. ⌜ r ≡ Flags.update-cf (Flags.update-of fill false) false ⌝ }
 {
     update_cf(update_of(fill, false), false)
+}
+
+// The flags of Lzcnt64 and Tzcnt64.
+fn carry_for_zero(fill: u64, source: u64) -> u64
+    ensures { λ r. ⌜ r ≡ Flags.update-cf fill (eqb source 0) ⌝ }
+{
+    update_cf(fill, source == 0)
 }
 
 pub fn effect_of(kind: u8, fill: u64, flags: u64, a: u64, b: u64) -> Effect
@@ -105,6 +116,18 @@ pub fn effect_of(kind: u8, fill: u64, flags: u64, a: u64, b: u64) -> Effect
         0x0e => Effect {
             word: ishl64(a, b),
             flags: fill,
+        },
+        0x19 => Effect {
+            word: popcnt64(b),
+            flags: cleared(fill),
+        },
+        0x1a => Effect {
+            word: lzcnt64(b),
+            flags: carry_for_zero(fill, b),
+        },
+        0x1b => Effect {
+            word: tzcnt64(b),
+            flags: carry_for_zero(fill, b),
         },
         // No other kind comes here.
         _ => Effect { word: b, flags },

@@ -32,10 +32,10 @@ ocmp-range k h =
     let e = both (leb 0x30 k) (leb k 0x35) h in
     (leb-true 0x30 k (e .0), leb-true k 0x35 (e .1))
 
-pub ins-range : (k : ℕ) → is-ins k ≡ true → (0x01 ≤ k) × (k ≤ 0x18)
+pub ins-range : (k : ℕ) → is-ins k ≡ true → (0x01 ≤ k) × (k ≤ 0x1b)
 ins-range k h =
-    let e = both (leb 0x01 k) (leb k 0x18) h in
-    (leb-true 0x01 k (e .0), leb-true k 0x18 (e .1))
+    let e = both (leb 0x01 k) (leb k 0x1b) h in
+    (leb-true 0x01 k (e .0), leb-true k 0x1b (e .1))
 
 not-ins : (k : ℕ) (r : Class) → r ≡ class k → (tag r ≡ 0 → ⊥) → is-ins k ≡ false
 not-ins k r of g = go (is-ins k) refl

@@ -49,7 +49,7 @@ fn is_comparison(given: Numbers) -> bool
     }
 }
 
-// The instructions in four groups by kind: of operands, whatever the body; of bytes, whatever the operands; of both.
+// The instructions in five groups by kind: of operands, whatever the body; of bytes, whatever the operands; of both.
 fn sums(kind: u8, a: Operand, b: Operand, c: Operand) -> Instruction
     requires { ⌜ (0x01 ≤ kind) × (kind ≤ 0x07) ⌝ }
     ensures { λ r. ⌜ ((bytes : List ℕ) → r ≡ ins-of kind bytes (a ∷ b ∷ c ∷ [])) ⌝ }
@@ -106,6 +106,17 @@ fn insertions(kind: u8, x: u8, y: u8, z: u8, a: Operand) -> Instruction
     }
 }
 
+fn counts(kind: u8, a: Operand, b: Operand) -> Instruction
+    requires { ⌜ (0x19 ≤ kind) × (kind ≤ 0x1b) ⌝ }
+    ensures { λ r. ⌜ ((c : Operand) (bytes : List ℕ) → r ≡ ins-of kind bytes (a ∷ b ∷ c ∷ [])) ⌝ }
+{
+    match kind {
+        0x19 => Instruction::Popcnt64(a, b),
+        0x1a => Instruction::Lzcnt64(a, b),
+        _ => Instruction::Tzcnt64(a, b),
+    }
+}
+
 fn comparison(kind: u8, a: Operand, b: Operand) -> Ocmp
     requires { ⌜ is-ocmp kind ≡ true ⌝ }
     ensures { λ r. ⌜ ((os : List Operand) → r ≡ ocmp-of kind (a ∷ b ∷ os)) ⌝ }
@@ -137,7 +148,8 @@ pub fn instruction_of(given: Numbers) -> GivenInstruction
         0x00..=0x07 => GivenInstruction::Value(sums(kind, a, b, c)),
         0x08..=0x0e => GivenInstruction::Value(products(kind, a, b, c)),
         0x0f..=0x14 => GivenInstruction::Value(lanes(kind, x, y, z)),
-        _ => GivenInstruction::Value(insertions(kind, x, y, z, a)),
+        0x15..=0x18 => GivenInstruction::Value(insertions(kind, x, y, z, a)),
+        _ => GivenInstruction::Value(counts(kind, a, b)),
     }
 }
 

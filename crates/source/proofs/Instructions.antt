@@ -9,6 +9,7 @@ use lib.Dec.{eqb, ltb, leb}
 use lib.IntN.{ℤ}
 use Rattle.words.specs.Words.{Four}
 use Rattle.words.specs.Bits.{bit, iand, ixor, ishl, ishr}
+use Rattle.words.specs.Counts.{popcnt, lzcnt, tzcnt}
 use Rattle.words.specs.Types.{insert-nat32, insert-nat64, add-lanes, equal-lanes, shl-lanes, shr-lanes, shuffle-lanes, shift-quad}
 use Rattle.words.specs.Sums.{sum-mod, sum-carry, sub-mod, mul-div, mul-mod}
 use Rattle.words.specs.Flags.{cf, overflow, update-cf, update-of}
@@ -16,7 +17,7 @@ use Rattle.machine.specs.Registers.{Rax, Rdx, reg-at, set-reg, xmm-at, set-xmm}
 use Rattle.machine.specs.Memory.{Memory, LoadsMem64}
 use Rattle.machine.specs.declared.Operand.{Operand}
 use Rattle.code.specs.declared.tree.Instruction.{Instruction}
-use Rattle.code.specs.declared.tree.Instruction.the-variants.{Mov64, Add64, AddLea64, AddCarry64, Adcx64, Adox64, Sub64, Mul64, Mulx64, IMul64, Xor64, And64, Shr64, Shl64, Paddd, Pxor, Pslld, Psrld, Pshufd, Pcmpeqd, Pextrq, Pinsrd, Pinsrq, VPSLLDQ}
+use Rattle.code.specs.declared.tree.Instruction.the-variants.{Mov64, Add64, AddLea64, AddCarry64, Adcx64, Adox64, Sub64, Mul64, Mulx64, IMul64, Xor64, And64, Shr64, Shl64, Paddd, Pxor, Pslld, Psrld, Pshufd, Pcmpeqd, Pextrq, Pinsrd, Pinsrq, VPSLLDQ, Popcnt64, Lzcnt64, Tzcnt64}
 use Rattle.code.proofs.Layouts.{every-ins}
 use Rattle.code.specs.WellFormed.{WfOperand, WfIns}
 use Rattle.code.proofs.Accepted.{WfTwo}
@@ -372,6 +373,13 @@ module _ (env : Env) where
       says-ins (Pinsrq dst src index) fits = says-get _ _ (says-insert dst src (fits .1 .1) (λ a. insert-nat64 (xmm-at (s .xmms) dst) a (index % 2)))
       says-ins (VPSLLDQ dst src count) fits =
           says-get _ _ (says-then p s _ _ s s _ 35 _ (check-gate 35 (λ _. eqb count 4) s _ h refl) (λ _. says-xmm dst _ _ refl))
+      says-ins (Popcnt64 dst src) fits =
+          says-get _ _ (says-source src _ _ (λ e. says-flags dst (Popcnt64 dst src) _ _ (Source.update-cf-of false false) _
+          (λ d. ap (popcnt 64) (is src (fits .1) e)) (λ d t. refl)))
+      says-ins (Lzcnt64 dst src) fits =
+          says-get _ _ (says-sum dst src fits (Lzcnt64 dst src) (λ a b. lzcnt 64 b) (λ a b. update-cf (env .fill) (eqb b 0)))
+      says-ins (Tzcnt64 dst src) fits =
+          says-get _ _ (says-sum dst src fits (Tzcnt64 dst src) (λ a b. tzcnt 64 b) (λ a b. update-cf (env .fill) (eqb b 0)))
 
 -- without its notes an instruction is the source's
 module _ (load-mem64 : ℤ → Memory → ℕ) (int-to-nat64 : ℤ → ℕ) (fill : ℕ) where

@@ -8,6 +8,7 @@ use lib.Dec.{eqb, ltb, leb}
 use lib.IntN.{ℤ}
 use Rattle.words.specs.Words.{mkfour, four-map, four-to-two-two, two-select, two-to-nat}
 use Rattle.words.specs.Bits.{bit, iand, ixor, ishl, ishr}
+use Rattle.words.specs.Counts.{popcnt, lzcnt, tzcnt}
 use Rattle.words.specs.Types.{insert-nat32, insert-nat64}
 use Rattle.words.specs.Sums.{sub-mod, mul-div, mul-mod}
 use Rattle.words.specs.Flags.{cf, overflow, update-cf, update-of}
@@ -15,7 +16,7 @@ use Rattle.machine.specs.Registers.{Rax, Rdx}
 use Rattle.machine.specs.Memory.{Memory}
 use Rattle.machine.specs.declared.Operand.{Operand}
 use Rattle.code.specs.declared.tree.Instruction.{Instruction}
-use Rattle.code.specs.declared.tree.Instruction.the-variants.{Mov64, Add64, AddLea64, AddCarry64, Adcx64, Adox64, Sub64, Mul64, Mulx64, IMul64, Xor64, And64, Shr64, Shl64, Paddd, Pxor, Pslld, Psrld, Pshufd, Pcmpeqd, Pextrq, Pinsrd, Pinsrq, VPSLLDQ}
+use Rattle.code.specs.declared.tree.Instruction.the-variants.{Mov64, Add64, AddLea64, AddCarry64, Adcx64, Adox64, Sub64, Mul64, Mulx64, IMul64, Xor64, And64, Shr64, Shl64, Paddd, Pxor, Pslld, Psrld, Pshufd, Pcmpeqd, Pextrq, Pinsrd, Pinsrq, VPSLLDQ, Popcnt64, Lzcnt64, Tzcnt64}
 use Rattle.code.specs.declared.tree.Ocmp.{Ocmp}
 use Rattle.code.specs.Tree.{Code, Ins, Block, IfElse, While, Codes, ⟨⟩, _∷ᶜ_}
 use Rattle.eval.specs.Instructions.{add-flags}
@@ -246,6 +247,21 @@ module _ (load-mem64 : ℤ → Memory → ℕ) (int-to-nat64 : ℤ → ℕ) (fil
     let src-q = eval-xmm src s
     let shifted-xmm = mkfour 0 (src-q .lo0) (src-q .lo1) (src-q .hi2)
     quiet (update-xmm-preserve-flags dst shifted-xmm)
+  note-ins (Popcnt64 dst src) = do
+    s ← get
+    check 31 (valid-operand src)
+    update-operand dst (Popcnt64 dst src) (popcnt 64 (eval-operand src s))
+    quiet (update-cf-of false false)
+  note-ins (Lzcnt64 dst src) = do
+    s ← get
+    check 31 (valid-operand src)
+    update-operand dst (Lzcnt64 dst src) (lzcnt 64 (eval-operand src s))
+    quiet (update-flags (update-cf (havoc s (Lzcnt64 dst src)) (eqb (eval-operand src s) 0)))
+  note-ins (Tzcnt64 dst src) = do
+    s ← get
+    check 31 (valid-operand src)
+    update-operand dst (Tzcnt64 dst src) (tzcnt 64 (eval-operand src s))
+    quiet (update-flags (update-cf (havoc s (Tzcnt64 dst src)) (eqb (eval-operand src s) 0)))
 
   -- `run_ocmp`
   unfoldable pub note-ocmp : State → Ocmp → (State × Bool) × List Note

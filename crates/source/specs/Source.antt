@@ -9,6 +9,7 @@ use lib.Dec.{eqb, ltb, leb}
 use lib.IntN.{ℤ, pos}
 use Rattle.words.specs.Words.{Four, mkfour, four-map, four-to-two-two, two-select, two-to-nat}
 use Rattle.words.specs.Bits.{bit, iand, ixor, ishl, ishr}
+use Rattle.words.specs.Counts.{popcnt, lzcnt, tzcnt}
 use Rattle.words.specs.Types.{byte-to-twobits, select-word, quad32-xor, insert-nat32, insert-nat64}
 use Rattle.words.specs.Sums.{sub-mod, mul-div, mul-mod}
 use Rattle.words.specs.Flags.{cf, overflow, update-cf, update-of}
@@ -20,7 +21,7 @@ use Rattle.machine.specs.declared.Maddr.{Maddr}
 use Rattle.machine.specs.declared.Operand.{Operand}
 use Rattle.machine.specs.declared.Operand.the-variants.{OConst, OReg, OMem}
 use Rattle.code.specs.declared.tree.Instruction.{Instruction}
-use Rattle.code.specs.declared.tree.Instruction.the-variants.{Mov64, Add64, AddLea64, AddCarry64, Adcx64, Adox64, Sub64, Mul64, Mulx64, IMul64, Xor64, And64, Shr64, Shl64, Paddd, Pxor, Pslld, Psrld, Pshufd, Pcmpeqd, Pextrq, Pinsrd, Pinsrq, VPSLLDQ}
+use Rattle.code.specs.declared.tree.Instruction.the-variants.{Mov64, Add64, AddLea64, AddCarry64, Adcx64, Adox64, Sub64, Mul64, Mulx64, IMul64, Xor64, And64, Shr64, Shl64, Paddd, Pxor, Pslld, Psrld, Pshufd, Pcmpeqd, Pextrq, Pinsrd, Pinsrq, VPSLLDQ, Popcnt64, Lzcnt64, Tzcnt64}
 use Rattle.code.specs.declared.tree.Ocmp.{Ocmp}
 use Rattle.code.specs.declared.tree.Ocmp.the-variants.{OEq, ONe, OLe, OGe, OLt, OGt}
 use Rattle.code.specs.Tree.{Code, Ins, Block, IfElse, While, Codes, ⟨⟩, _∷ᶜ_}
@@ -391,6 +392,22 @@ module _ (load-mem64 : ℤ → Memory → ℕ) (int-to-nat64 : ℤ → ℕ) (fil
     let src-q = eval-xmm src s
     let shifted-xmm = mkfour 0 (src-q .lo0) (src-q .lo1) (src-q .hi2)
     update-xmm-preserve-flags dst shifted-xmm
+  -- F* has none of the last three: they go by request 2026-02
+  eval-ins (Popcnt64 dst src) = do
+    s ← get
+    check (valid-operand src)
+    update-operand dst (Popcnt64 dst src) (popcnt 64 (eval-operand src s))
+    update-cf-of false false
+  eval-ins (Lzcnt64 dst src) = do
+    s ← get
+    check (valid-operand src)
+    update-operand dst (Lzcnt64 dst src) (lzcnt 64 (eval-operand src s))
+    update-flags (update-cf (havoc s (Lzcnt64 dst src)) (eqb (eval-operand src s) 0))
+  eval-ins (Tzcnt64 dst src) = do
+    s ← get
+    check (valid-operand src)
+    update-operand dst (Tzcnt64 dst src) (tzcnt 64 (eval-operand src s))
+    update-flags (update-cf (havoc s (Tzcnt64 dst src)) (eqb (eval-operand src s) 0))
 
   -- `run_ocmp`
   unfoldable pub run-ocmp : State → Ocmp → State × Bool

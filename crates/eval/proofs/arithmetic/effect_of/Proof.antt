@@ -45,6 +45,24 @@ ishr64-requires c κs = search needs
 ishl64-requires : tie.Need-ishl64-requires
 ishl64-requires c κs = search needs
 
+popcnt64-requires : tie.Need-popcnt64-requires
+popcnt64-requires c κs = search needs
+
+cleared-requires-2 : tie.Need-cleared-requires-2
+cleared-requires-2 c κs = search needs
+
+lzcnt64-requires : tie.Need-lzcnt64-requires
+lzcnt64-requires c κs = search needs
+
+carry-for-zero-requires : tie.Need-carry-for-zero-requires
+carry-for-zero-requires c κs = search needs
+
+tzcnt64-requires : tie.Need-tzcnt64-requires
+tzcnt64-requires c κs = search needs
+
+carry-for-zero-requires-2 : tie.Need-carry-for-zero-requires-2
+carry-for-zero-requires-2 c κs = search needs
+
 returns : tie.Need-returns
 unfolding two-word two-flags
 returns c = record { word-is = rw (c .match .keys1); flags-is = rw (c .match .keys1) }
@@ -103,7 +121,25 @@ unfolding two-word two-flags
 returns-11 c = record { word-is = rw (c .before .match .keys11) (c .ishl64 .ensures); flags-is = rw (c .before .match .keys11) }
 
 returns-12 : tie.Need-returns-12
-returns-12 c = absurd (never (sym (c .before .pre) ∙ none-matched _ _ twos (c .match .rest)))
+unfolding two-word two-flags
+returns-12 c =
+    let kind = c .before .before .match .keys12 in
+    record { word-is = rw kind (c .before .popcnt64 .ensures); flags-is = rw kind (c .cleared2 .ensures) }
+
+returns-13 : tie.Need-returns-13
+unfolding two-word two-flags
+returns-13 c =
+    let kind = c .before .before .match .keys13 in
+    record { word-is = rw kind (c .before .lzcnt64 .ensures); flags-is = rw kind (c .carry-for-zero .ensures) }
+
+returns-14 : tie.Need-returns-14
+unfolding two-word two-flags
+returns-14 c =
+    let kind = c .before .before .match .keys14 in
+    record { word-is = rw kind (c .before .tzcnt64 .ensures); flags-is = rw kind (c .carry-for-zero2 .ensures) }
+
+returns-15 : tie.Need-returns-15
+returns-15 c = absurd (never (sym (c .before .pre) ∙ none-matched _ _ twos (c .match .rest)))
 
 pub effect-of-spec : {M : Type 1} → statement M
 effect-of-spec =
@@ -121,6 +157,12 @@ effect-of-spec =
     iand64-requires
     ishr64-requires
     ishl64-requires
+    popcnt64-requires
+    cleared-requires-2
+    lzcnt64-requires
+    carry-for-zero-requires
+    tzcnt64-requires
+    carry-for-zero-requires-2
     returns
     returns-2
     returns-3
@@ -132,4 +174,7 @@ effect-of-spec =
     returns-9
     returns-10
     returns-11
-    returns-12)
+    returns-12
+    returns-13
+    returns-14
+    returns-15)

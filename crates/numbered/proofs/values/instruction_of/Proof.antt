@@ -12,9 +12,9 @@ sums-requires c κs =
     let range = ins-range (asked .before .before .args .t1 .kind) (given-kind _ (asked .before .is-instruction .ensures) (asked .if1 .left)) in
     (range .0, omega arith)
 
-insertions-requires : tie.Need-insertions-requires
-insertions-requires c κs =
-    let asked = c .before .before .before .before .before .before .before .before .before in
+counts-requires : tie.Need-counts-requires
+counts-requires c κs =
+    let asked = c .before .before .before .before .before .before .before .before .before .before in
     let range = ins-range (asked .before .before .args .t1 .kind) (given-kind _ (asked .before .is-instruction .ensures) (asked .if1 .left)) in
     (omega arith, range .1)
 
@@ -44,14 +44,23 @@ returns-4 c =
 
 returns-5 : tie.Need-returns-5
 returns-5 c =
-    let first = c .before .before .before .before .before .before .before .before .before in
+    let first = c .before .before .before .before .before .before .before .before .before .before in
     let asked = first .before in
     gives _ (asked .before .is-instruction .ensures) (asked .if1 .left)
     (of-both _ (first .operand-of .ensures) (c .insertions .ensures))
+
+returns-6 : tie.Need-returns-6
+returns-6 c =
+    let third = c .before .before .before .before .before .before .before .before in
+    let second = third .before in
+    let first = second .before in
+    let asked = first .before in
+    gives _ (asked .before .is-instruction .ensures) (asked .if1 .left)
+    (of-operands _ (first .operand-of .ensures) (second .operand-of2 .ensures) (third .operand-of3 .ensures) (c .counts .ensures _))
 
 pub instruction-of-spec : {M : Type 1} → statement M
 instruction-of-spec =
     tie.close
     (tie.spec (λ c κs. search needs) (λ c. search gives-none) (λ c κs. search needs) (λ c κs. search needs)
     (λ c κs. search needs) (λ c. search needs) (λ c. search needs) (λ c. search needs) sums-requires (λ c κs. search needs)
-    (λ c κs. search needs) insertions-requires returns-2 returns-3 returns-4 returns-5)
+    (λ c κs. search needs) (λ c κs. search needs) counts-requires returns-2 returns-3 returns-4 returns-5 returns-6)
