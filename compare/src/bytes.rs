@@ -205,6 +205,12 @@ impl Machine {
             And64(dst, src) => self.arithmetic(dst, src, |a, b| a & b),
             Shr64(dst, amt) => self.arithmetic(dst, amt, |a, n| shift(a, n, u64::checked_shr)),
             Shl64(dst, amt) => self.arithmetic(dst, amt, |a, n| shift(a, n, u64::checked_shl)),
+            Popcnt64(dst, src) => {
+                self.count(dst, self.read(src), ones);
+                self.put_flag(CARRY | OVERFLOW, false);
+            }
+            Lzcnt64(dst, src) => self.zeros(dst, src, |a| steps_to_a_one(a, 1 << 63, |a| a << 1)),
+            Tzcnt64(dst, src) => self.zeros(dst, src, |a| steps_to_a_one(a, 1, |a| a >> 1)),
             other => self.xmm_instruction(other),
         }
     }
@@ -261,6 +267,18 @@ impl Machine {
         self.flags = self.fill;
     }
 
+    fn count(&mut self, dst: Operand, value: u64, work: fn(u64) -> u64) {
+        self.write(dst, work(value));
+        self.flags = self.fill;
+    }
+
+    /// The source is read once: the count may go to the same place.
+    fn zeros(&mut self, dst: Operand, src: Operand, work: fn(u64) -> u64) {
+        let value = self.read(src);
+        self.count(dst, value, work);
+        self.put_flag(CARRY, value == 0);
+    }
+
     fn mul(&mut self, src: Operand) {
         let product = u128::from(self.regs[usize::from(RAX)]) * u128::from(self.read(src));
         self.regs[usize::from(RAX)] = product as u64;
@@ -312,6 +330,21 @@ impl Machine {
 fn shift(value: u64, amount: u64, by: fn(u64, u32) -> Option<u64>) -> u64 {
     let amount = u32::try_from(amount).ok();
     amount.and_then(|n| by(value, n)).unwrap_or(0)
+}
+
+fn ones(value: u64) -> u64 {
+    (0..64).map(|place| value >> place & 1).sum()
+}
+
+/// How many steps bring a one under the mask `end`, 64 where there is none.
+fn steps_to_a_one(mut value: u64, end: u64, step: fn(u64) -> u64) -> u64 {
+    for taken in 0..64 {
+        if value & end != 0 {
+            return taken;
+        }
+        value = step(value);
+    }
+    64
 }
 
 #[cfg(test)]

@@ -1,6 +1,8 @@
-//! What the byte machine does where the run would fault.
+//! What the byte machine does where the run would fault, and its counts.
 
 use super::*;
+use crate::build::{at, number, reg};
+use crate::count_table::{flags, words};
 
 fn machine() -> Machine {
     let start = Start {
@@ -63,4 +65,65 @@ fn fuel_is_tested_first() {
     let code = Code::unplaced(Node::While(never, nothing));
     assert_eq!(machine().run(&code, 0), Err(OutOfFuel));
     assert_eq!(machine().run(&code, 1), Ok(()));
+}
+
+/// A machine with a fill word, after one instruction over a word in Rbx and
+/// in the bytes at 0.
+fn counted(ins: Instruction, fill: u64, old_flags: u64, word: u64) -> Machine {
+    let mut m = machine();
+    (m.fill, m.flags, m.regs[1]) = (fill, old_flags, word);
+    m.memory.spell(0, word, 8);
+    assert_eq!(m.run(&one(ins), 0), Ok(()));
+    m
+}
+
+#[test]
+fn counts_of_every_kind_of_source() {
+    for (word, expected) in words() {
+        for (count, expected) in COUNTS.into_iter().zip(expected) {
+            for src in [reg(1), number(word), at(0)] {
+                let m = counted(count(reg(0), src), 5, 0, word);
+                assert_eq!(m.regs[..2], [expected, word]);
+                let m = counted(count(at(0), src), 5, 0, word);
+                assert_eq!(m.memory.gather(0, 8), expected);
+            }
+            let m = counted(count(reg(1), reg(1)), 0, 0, word);
+            let apart = counted(count(reg(0), reg(1)), 0, 0, word);
+            assert_eq!((m.regs[1], m.flags), (expected, apart.flags));
+        }
+    }
+}
+
+#[test]
+fn flags_of_counts_come_from_the_fill_word() {
+    for (fill, word, expected) in flags() {
+        for old in [0, 1, 2048, 2049, u64::MAX] {
+            for (count, expected) in COUNTS.into_iter().zip(expected) {
+                for dst in [reg(0), at(8), number(3), reg(RSP)] {
+                    let m = counted(count(dst, reg(1)), fill, old, word);
+                    assert_eq!(m.flags, expected, "fill {fill}, source {word}");
+                }
+            }
+        }
+    }
+}
+
+#[test]
+fn counts_where_a_run_would_fault() {
+    for (count, expected) in COUNTS.into_iter().zip([2, 62, 0]) {
+        let m = counted(count(number(9), number(3)), 0, 0, 8);
+        let untouched = counted(Mov64(reg(0), number(0)), 0, 0, 8);
+        assert_eq!(m.regs, untouched.regs);
+        assert_eq!(m.memory.written, untouched.memory.written);
+        let m = counted(count(reg(RSP), number(3)), 0, 0, 8);
+        assert_eq!(m.regs[usize::from(RSP)], expected);
+        let around = Operand::Mem(Maddr::Reg(1, -2));
+        let m = counted(count(around, number(3)), 0, 0, 1);
+        let bytes = [u64::MAX, 0, 1, 6].map(|a| m.memory.byte(a));
+        assert_eq!(bytes, [expected as u8, 0, 0, 0]);
+        let m = counted(count(reg(0), around), 0, 0, 1);
+        let spelled = m.memory.gather(u64::MAX, 8);
+        let told = counted(count(reg(0), number(spelled)), 0, 0, 1);
+        assert_eq!((m.regs, m.flags), (told.regs, told.flags));
+    }
 }

@@ -2,7 +2,7 @@
 //! its checks, and what is counted on the way.
 
 use crate::state::{eval_operand, State};
-use crate::tree::Operand;
+use crate::tree::{Operand, INSTRUCTION_KINDS};
 
 #[derive(Clone, Copy, Debug, PartialEq, Eq)]
 pub enum Event {
@@ -68,7 +68,7 @@ pub struct Follow {
     pub log: Log,
     pub steps: u64,
     /// How often each instruction was followed, by its number less 1.
-    pub met: [u64; 24],
+    pub met: [u64; INSTRUCTION_KINDS],
     /// The least fuel that a loop test was met with.
     pub least_fuel: u64,
     pub over_budget: bool,
@@ -88,7 +88,7 @@ impl Follow {
             settings,
             log: Log::default(),
             steps: 0,
-            met: [0; 24],
+            met: [0; INSTRUCTION_KINDS],
             least_fuel: u64::MAX,
             over_budget: false,
         }

@@ -113,13 +113,15 @@ fn fault(scene: &mut Scene, turn: usize) -> Instruction {
     let (dst, src) = (scene.destination(), scene.source());
     let high = scene.rng.pick(&[64, 65, 1 << 32, u64::MAX]);
     let nowhere = Operand::Mem(scene.address_of(-1 - i128::from(high % 3)));
-    match (turn % 5, turn / 5 % 3) {
+    match (turn % 5, turn / 5 % 4) {
         (0, 0) => Shl64(dst, nowhere),
         (0, 1) => AddLea64(dst, src, nowhere),
-        (0, _) => Add64(Operand::Const(1), nowhere),
+        (0, 2) => Add64(Operand::Const(1), nowhere),
+        (0, _) => scene.rng.pick(&COUNTS)(Operand::Const(1), nowhere),
         (1, 0) => Mulx64(nowhere, dst, src),
         (1, 1) => Sub64(Operand::Reg(RSP), src),
-        (1, _) => Pextrq(Operand::Const(high), 1, 1),
+        (1, 2) => Pextrq(Operand::Const(high), 1, 1),
+        (1, _) => scene.rng.pick(&COUNTS)(nowhere, src),
         (2, 0) => Shl64(Operand::Const(0), Operand::Const(high)),
         (2, _) => Shr64(dst, Operand::Const(high)),
         (3, 0) => Pslld(2, 32),

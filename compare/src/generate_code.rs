@@ -13,7 +13,7 @@ fn ins(instruction: Instruction) -> Code {
 impl Scene {
     pub fn instruction(&mut self) -> Code {
         let number = if self.favourites.is_empty() || self.rng.percent(20) {
-            1 + self.rng.below(24)
+            1 + self.rng.below(INSTRUCTION_KINDS)
         } else {
             self.rng.pick(&self.favourites)
         };
@@ -45,7 +45,10 @@ impl Scene {
             21 => Pextrq(self.destination(), self.xmm(), self.rng.edge_byte()),
             22 => Pinsrd(self.xmm(), self.source(), self.rng.edge_byte()),
             23 => Pinsrq(self.xmm(), self.source(), self.rng.edge_byte()),
-            _ => Vpslldq(self.xmm(), self.xmm(), self.byte_shift()),
+            24 => Vpslldq(self.xmm(), self.xmm(), self.byte_shift()),
+            25 => Popcnt64(self.destination(), self.counted()),
+            26 => Lzcnt64(self.destination(), self.counted()),
+            _ => Tzcnt64(self.destination(), self.counted()),
         }
     }
 
@@ -88,6 +91,14 @@ impl Scene {
         let set = Mov64(Operand::Reg(RDX), Operand::Const(low));
         vec![ins(set), ins(mulx)]
     }
+
+    /// A word worth counting is put somewhere and counted there.
+    fn count_in_place(&mut self) -> Vec<Code> {
+        let (place, dst) = (self.destination(), self.destination());
+        let set = Mov64(place, Operand::Const(self.rng.run_of_ones()));
+        let count = self.rng.pick(&COUNTS);
+        vec![ins(set), ins(count(dst, place))]
+    }
 }
 
 // Structures.
@@ -103,6 +114,9 @@ impl Scene {
         }
         if self.rng.percent(5) {
             codes.extend(self.mulx_through_low());
+        }
+        if self.rng.percent(5) {
+            codes.extend(self.count_in_place());
         }
         codes
     }

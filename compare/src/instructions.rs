@@ -1,5 +1,6 @@
 //! The source's `eval_ins`. Words are worked out over whole numbers and then
-//! brought back with a remainder, as the source does.
+//! brought back with a remainder, as the source does. Popcnt64, Lzcnt64 and
+//! Tzcnt64, which it does not have, go by request 2026-02 in its manner.
 
 use crate::follow::{Event, Follow};
 use crate::state::*;
@@ -48,11 +49,14 @@ pub fn eval_ins(ins: &Instruction, place: usize, s: State, f: &mut Follow) -> St
         Pinsrd(dst, src, index) => step.pinsrd(dst, &src, index),
         Pinsrq(dst, src, index) => step.pinsrq(dst, &src, index),
         Vpslldq(dst, src, count) => step.vpslldq(dst, src, count),
+        Popcnt64(dst, src) => step.popcnt64(&dst, &src),
+        Lzcnt64(dst, src) => step.zeros64(&dst, &src, zeros_from_the_top),
+        Tzcnt64(dst, src) => step.zeros64(&dst, &src, zeros_from_the_bottom),
     }
     step.now
 }
 
-/// An instruction's number in the order of `ins`, from 1.
+/// An instruction's number, from 1: its kind byte.
 pub fn number(ins: &Instruction) -> usize {
     match ins {
         Mov64(..) => 1,
@@ -79,6 +83,9 @@ pub fn number(ins: &Instruction) -> usize {
         Pinsrd(..) => 22,
         Pinsrq(..) => 23,
         Vpslldq(..) => 24,
+        Popcnt64(..) => 25,
+        Lzcnt64(..) => 26,
+        Tzcnt64(..) => 27,
     }
 }
 
@@ -115,6 +122,10 @@ impl Step<'_> {
     fn update(&mut self, dst: &Operand, value: u64) {
         self.update_preserving_flags(dst, value);
         self.now.flags = self.f.settings.fill;
+    }
+
+    fn clear_cf_and_of(&mut self) {
+        self.now.flags = update_cf(update_of(self.now.flags, false), false);
     }
 
     fn update_xmm(&mut self, dst: Xmm, value: Quad) {
@@ -179,7 +190,7 @@ impl Step<'_> {
 
     fn xor64(&mut self, dst: &Operand, src: &Operand) {
         self.two_words(dst, src, |a, b| a ^ b);
-        self.now.flags = update_cf(update_of(self.now.flags, false), false);
+        self.clear_cf_and_of();
     }
 
     fn mul64(&mut self, src: &Operand) {
@@ -201,6 +212,24 @@ impl Step<'_> {
         self.check_shift(amt);
         let (value, amount) = (self.wide(dst), self.wide(amt));
         self.update(dst, shift(low(value), low(amount)));
+    }
+
+    fn popcnt64(&mut self, dst: &Operand, src: &Operand) {
+        self.count64(dst, src, ones);
+        self.clear_cf_and_of();
+    }
+
+    /// Lzcnt64 and Tzcnt64. The source is the one that the instruction met,
+    /// also where the count has gone to the same place.
+    fn zeros64(&mut self, dst: &Operand, src: &Operand, zeros: fn(u64) -> u64) {
+        self.count64(dst, src, zeros);
+        self.now.flags = update_cf(self.now.flags, self.wide(src) == 0);
+    }
+
+    /// The destination is written and not read.
+    fn count64(&mut self, dst: &Operand, src: &Operand, count: fn(u64) -> u64) {
+        self.check_source(src);
+        self.update(dst, count(low(self.wide(src))));
     }
 }
 
@@ -311,3 +340,41 @@ fn ishl32(value: u32, amount: u8) -> u32 {
 fn ishr32(value: u32, amount: u8) -> u32 {
     ishr64(u64::from(value), u64::from(amount)) as u32
 }
+
+// Counts, one bit after the other.
+fn is_one(value: u64, place: u32) -> bool {
+    value / (1 << place) % 2 == 1
+}
+
+fn ones(value: u64) -> u64 {
+    let mut count = 0;
+    for place in 0..64 {
+        if is_one(value, place) {
+            count += 1;
+        }
+    }
+    count
+}
+
+fn zeros_from_the_top(value: u64) -> u64 {
+    zeros_ahead_of_a_one(value, (0..64).rev())
+}
+
+fn zeros_from_the_bottom(value: u64) -> u64 {
+    zeros_ahead_of_a_one(value, 0..64)
+}
+
+fn zeros_ahead_of_a_one(value: u64, places: impl Iterator<Item = u32>) -> u64 {
+    let mut count = 0;
+    for place in places {
+        if is_one(value, place) {
+            break;
+        }
+        count += 1;
+    }
+    count
+}
+
+#[cfg(test)]
+#[path = "instructions_tests.rs"]
+mod tests;

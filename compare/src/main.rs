@@ -1,5 +1,6 @@
 //! An evaluator and a builder written apart from the port, from document 01,
-//! request 2026-01 and the F* text alone, and their comparison with it.
+//! requests 2026-01 and 2026-02 and the F* text alone, and their comparison
+//! with it.
 
 // Calls of the linked port are the only ones that Rust cannot check.
 #![cfg_attr(not(feature = "c_target"), forbid(unsafe_code))]
@@ -12,6 +13,8 @@ mod builder;
 mod bytes;
 mod cells;
 mod checks;
+#[cfg(test)]
+mod count_table;
 mod damage;
 mod follow;
 mod generate;

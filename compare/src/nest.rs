@@ -81,7 +81,10 @@ fn innermost(rng: &mut Rng, turn: usize) -> (Vec<u8>, usize) {
         0 => (vec![0x02, 0x41, 0x00, 0x41, 0x01], 1),
         1 => (vec![0x20, 0, 0, 0, 0], 1),
         2 => (Vec::new(), 1),
-        3 => (vec![rng.pick(&[0x00, 0x19, 0x23, 0x30, 0x40, 0xff])], 1),
+        3 => (
+            vec![rng.pick(&[0x00, 0x1c, 0x1f, 0x23, 0x30, 0x40, 0xff])],
+            1,
+        ),
         4 => (vec![0x20, 0, 0, 0], 1),
         5 => (vec![0x10, 16, 16], 1),
         6 => (vec![0x20, 5, 0, 0, 0, 0x01, 0x41, 0x02, 0x41, 0x01], 2),

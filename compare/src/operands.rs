@@ -60,6 +60,15 @@ impl Scene {
         Operand::Const(self.rng.edge_word())
     }
 
+    /// What is counted. By chance alone about half of the bits would be ones,
+    /// and hardly any zeros at the ends.
+    pub fn counted(&mut self) -> Operand {
+        if self.rng.percent(30) {
+            return Operand::Const(self.rng.run_of_ones());
+        }
+        self.source()
+    }
+
     pub fn destination(&mut self) -> Operand {
         if self.goes_wild() {
             return match self.rng.below(4) {

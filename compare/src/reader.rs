@@ -143,7 +143,7 @@ impl Reader<'_> {
 
     fn code(&mut self, end: usize, depth: usize) -> Read<Code> {
         let place = self.at;
-        let kind = self.kind(end, |k| matches!(k, 0x01..=0x18 | 0x20..=0x22))?;
+        let kind = self.kind(end, |k| matches!(k, 0x01..=0x1b | 0x20..=0x22))?;
         if depth > DEEPEST {
             return trouble(5, place);
         }
@@ -230,11 +230,14 @@ impl Reader<'_> {
             0x15 => self.lane(place, end, |xmm, operand, i| Pextrq(operand, xmm, i)),
             0x16 => self.lane(place, end, Pinsrd),
             0x17 => self.lane(place, end, Pinsrq),
-            _ => self.xmm_xmm_byte(place, end, Vpslldq),
+            0x18 => self.xmm_xmm_byte(place, end, Vpslldq),
+            0x19 => self.two(end, Popcnt64),
+            0x1a => self.two(end, Lzcnt64),
+            _ => self.two(end, Tzcnt64),
         }
     }
 
-    fn two(&mut self, end: usize, make: fn(Operand, Operand) -> Instruction) -> Read<Instruction> {
+    fn two(&mut self, end: usize, make: OfTwo) -> Read<Instruction> {
         let first = self.operand(end)?;
         let second = self.operand(end)?;
         Ok(make(first, second))

@@ -1,6 +1,7 @@
 //! The order of the troubles and their places.
 
 use super::*;
+use crate::writer::write;
 
 fn answer(bytes: &[u8]) -> Option<(u8, usize)> {
     read(bytes).err().map(|t| (t.number, t.place))
@@ -48,7 +49,9 @@ fn lengths_of_the_input() {
 
 #[test]
 fn kinds_where_they_are_allowed() {
-    for kind in [0x00, 0x19, 0x1f, 0x23, 0x30, 0x35, 0x40, 0x44, 0xff] {
+    for kind in [
+        0x00, 0x1c, 0x1d, 0x1e, 0x1f, 0x23, 0x30, 0x35, 0x40, 0x44, 0xff,
+    ] {
         assert_eq!(answer(&[kind]), Some((2, 0)));
     }
     assert_eq!(answer(&[0x08]), Some((3, 1)));
@@ -75,6 +78,26 @@ fn bodies_cut_short_come_before_numbers() {
 }
 
 #[test]
+fn counts_are_a_destination_and_a_source() {
+    for (kind, count) in (0x19..).zip(COUNTS) {
+        let record = [
+            kind, 0x41, 1, 0x44, 2, 0xff, 0xff, 3, 5, 0, 0, 0, 0, 0, 0, 0,
+        ];
+        let memory = Operand::Mem(Maddr::Index(2, -1, 3, 5));
+        let code = Code::unplaced(Node::Ins(count(Operand::Reg(1), memory)));
+        assert_eq!(write(&code), record);
+        assert_eq!(read(&record), Ok(code));
+        assert_eq!(answer(&[kind]), Some((3, 1)));
+        assert_eq!(answer(&record[..3]), Some((3, 3)));
+        assert_eq!(answer(&record[..15]), Some((3, 3)));
+        assert_eq!(answer(&[kind, 0x41, 16, 0x41, 16]), Some((4, 2)));
+        assert_eq!(answer(&[kind, 0x41, 15, 0x41, 16]), Some((4, 4)));
+        assert_eq!(answer(&[kind, 0x41, 0, 0x41, 0, 0]), Some((6, 5)));
+        assert_eq!(answer(&nested(32, &[kind])), Some((5, 32 * 5)));
+    }
+}
+
+#[test]
 fn the_end_of_a_part_is_an_end() {
     assert_eq!(answer(&[0x20, 2, 0, 0, 0, 0x10, 0, 1]), Some((3, 5)));
     assert_eq!(answer(&[0x20, 3, 0, 0, 0, 0x10, 0]), Some((6, 0)));
@@ -89,7 +112,7 @@ fn depth() {
     assert_eq!(answer(&nested(32, &[])), None);
     assert_eq!(answer(&nested(32, &XOR)), Some((5, 32 * 5)));
     assert_eq!(answer(&nested(32, &[0x10])), Some((5, 32 * 5)));
-    assert_eq!(answer(&nested(32, &[0x19])), Some((2, 32 * 5)));
+    assert_eq!(answer(&nested(32, &[0x1c])), Some((2, 32 * 5)));
     assert_eq!(
         answer(&nested(31, &while_loop(0, &[]))),
         Some((3, 31 * 5 + 10))

@@ -76,6 +76,18 @@ impl Rng {
         }
     }
 
+    /// Ones in a row: none, one or all of the bits, or those at one end.
+    pub fn run_of_ones(&mut self) -> u64 {
+        let low = (1 << self.below(64)) - 1;
+        match self.below(5) {
+            0 => 0,
+            1 => 1 << self.below(64),
+            2 => low,
+            3 => !low,
+            _ => u64::MAX,
+        }
+    }
+
     pub fn edge_half(&mut self) -> u32 {
         match self.below(4) {
             0 => self.pick(&[0, 1, 2, (1 << 31) - 1, 1 << 31, u32::MAX - 1, u32::MAX]),

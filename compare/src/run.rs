@@ -8,13 +8,13 @@ use crate::job::{parse, Job};
 use crate::reader::{self, Trouble};
 use crate::source::eval_code;
 use crate::state::State;
-use crate::tree::Code;
+use crate::tree::{Code, INSTRUCTION_KINDS};
 
 /// What following a job showed beside its outcome.
 pub struct Followed {
     pub outcome: Outcome,
     pub steps: u64,
-    pub met: [u64; 24],
+    pub met: [u64; INSTRUCTION_KINDS],
     pub least_fuel: u64,
 }
 

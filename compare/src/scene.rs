@@ -110,7 +110,9 @@ impl Scene {
     fn choose_favourites(&mut self) {
         if self.rng.percent(30) {
             let count = 1 + self.rng.below(4);
-            self.favourites = (0..count).map(|_| 1 + self.rng.below(24)).collect();
+            self.favourites = (0..count)
+                .map(|_| 1 + self.rng.below(INSTRUCTION_KINDS))
+                .collect();
         }
     }
 }

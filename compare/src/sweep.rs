@@ -61,6 +61,7 @@ const AGAIN: Operand = Operand::Mem(Maddr::Index(1, -2, 2, 16));
 fn whole() -> Code {
     let mut codes = general();
     codes.extend(of_xmm());
+    codes.extend(counts());
     for relation in RELATIONS {
         let condition = Ocmp::unplaced(relation, B, AGAIN);
         let (yes, no) = (ins(Paddd(0, 1)), Code::unplaced(Node::Block(Vec::new())));
@@ -107,5 +108,10 @@ fn of_xmm() -> Vec<Code> {
         Pinsrq(8, FIRST, 3),
         Vpslldq(9, 10, 4),
     ];
+    list.map(ins).into()
+}
+
+fn counts() -> Vec<Code> {
+    let list = [Popcnt64(A, B), Lzcnt64(LAST, A), Tzcnt64(B, AGAIN)];
     list.map(ins).into()
 }

@@ -1,6 +1,7 @@
 //! How often each answer and number was met.
 
 use crate::answer::Answer;
+use crate::tree::INSTRUCTION_KINDS;
 use std::collections::BTreeMap;
 
 /// Answers that every run of some length has to meet.
@@ -12,7 +13,7 @@ pub struct Tally {
     counts: BTreeMap<String, u64>,
     pub jobs: u64,
     pub steps: u64,
-    pub met: [u64; 24],
+    pub met: [u64; INSTRUCTION_KINDS],
 }
 
 /// An answer without its place.
@@ -47,7 +48,7 @@ impl Tally {
         let mut all = classes();
         all.retain(|c| self.count(c) == 0);
         all.extend(
-            (0..24)
+            (0..INSTRUCTION_KINDS)
                 .filter(|&i| self.met[i] == 0)
                 .map(|i| format!("instruction {}", i + 1)),
         );
@@ -62,7 +63,9 @@ impl Tally {
         }
         text.push_str(&format!("instructions and comparisons {}\n", self.steps));
         let least = self.met.iter().min().copied().unwrap_or(0);
-        text.push_str(&format!("rarest of the 24 instructions {least}\n"));
+        text.push_str(&format!(
+            "rarest of the {INSTRUCTION_KINDS} instructions {least}\n"
+        ));
         text
     }
 }

@@ -30,7 +30,8 @@ pub enum Operand {
     Mem(Maddr),
 }
 
-/// The fields stand in the order of the source's `ins`.
+/// The fields stand in the order of the source's `ins`; behind its 24 come the
+/// three of request 2026-02.
 #[derive(Clone, Copy, Debug, PartialEq, Eq)]
 pub enum Instruction {
     Mov64(Operand, Operand),
@@ -58,7 +59,23 @@ pub enum Instruction {
     Pinsrd(Xmm, Operand, u8),
     Pinsrq(Xmm, Operand, u8),
     Vpslldq(Xmm, Xmm, u8),
+    Popcnt64(Operand, Operand),
+    Lzcnt64(Operand, Operand),
+    Tzcnt64(Operand, Operand),
 }
+
+/// How many instructions there are; their kind bytes are 1 to this number.
+pub const INSTRUCTION_KINDS: usize = 27;
+
+/// A destination and a source make an instruction.
+pub type OfTwo = fn(Operand, Operand) -> Instruction;
+
+/// The three that count bits, in the order of their kinds.
+pub const COUNTS: [OfTwo; 3] = [
+    Instruction::Popcnt64,
+    Instruction::Lzcnt64,
+    Instruction::Tzcnt64,
+];
 
 #[derive(Clone, Copy, Debug, PartialEq, Eq)]
 pub enum Relation {

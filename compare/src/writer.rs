@@ -112,5 +112,8 @@ pub fn instruction_fields(ins: &Instruction) -> (Vec<u8>, Vec<Operand>) {
         Pinsrd(dst, src, index) => record(&[0x16, dst, index], &[src]),
         Pinsrq(dst, src, index) => record(&[0x17, dst, index], &[src]),
         Vpslldq(dst, src, count) => record(&[0x18, dst, src, count], &[]),
+        Popcnt64(dst, src) => record(&[0x19], &[dst, src]),
+        Lzcnt64(dst, src) => record(&[0x1a], &[dst, src]),
+        Tzcnt64(dst, src) => record(&[0x1b], &[dst, src]),
     }
 }

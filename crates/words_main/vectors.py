@@ -4,9 +4,10 @@
 usage: vectors.py rows > src/vectors.rt      (then rt fmt)
        vectors.py lines > stdout             what the program must write
 
-The numbers come from Python's integers and from the text of Vale's F* files and FStar.UInt, and
-from nothing in crates/words. A row is eight words: the function's number in src/apply.rt, the two
-words of x, the two of y, the small argument s, and the two words of the expected result.
+The numbers come from Python's integers and from the text of Vale's F* files, FStar.UInt and
+request 2026-02, and from nothing in crates/words. A row is eight words: the function's number in
+src/apply.rt, the two words of x, the two of y, the small argument s, and the two words of the
+expected result.
 """
 import sys
 
@@ -17,6 +18,7 @@ ixor64 ixor32 ishl64 ishl32 ishr64 ishr32 mul_div mul_mod
 cf overflow update_cf update_of add64 add32 sub64 sub32
 mul_wide four_insert insert_nat32 insert_nat64 quad32_xor add_lanes equal_lanes shl_lanes
 shr_lanes shuffle_lanes shift_quad two_two_to_four four_select select_word extract_nat64
+popcnt64 lzcnt64 tzcnt64
 """.split()
 EDGES64 = [0, 1, 2, 2047, 2048, M32 - 1, M32, 2**63 - 1, 2**63, M64 - 2, M64 - 1]
 SEED = [0x0123456789ABCDEF]
@@ -118,6 +120,12 @@ def table():
     yield "shr_lanes", [row(x, 0, s, quad([a >> s for a in words(x)])) for x in some for s in (0, 1, 31, 32, 255)]
     yield "shuffle_lanes", [row(x, 0, i, quad([words(x)[i >> 2 * k & 3] for k in range(4)])) for x in some[:3] for i in (0, 27, 78, 147, 177, 216, 228, 255)]
     yield "shift_quad", [row(x, 0, 0, quad([0] + words(x)[:3])) for x in quads(6)]
+    # by the binary numeral of 64 digits, the highest first
+    numeral = lambda x: format(x, "064b")
+    counted = EDGES64 + [2**31, 2**62, M64 // 3, M64 // 3 * 2] + [draw(64) >> k for k in (0, 17, 40)] + [draw(40) << 24]
+    yield "popcnt64", [row(x, 0, 0, numeral(x).count("1")) for x in counted]
+    yield "lzcnt64", [row(x, 0, 0, 64 - len(numeral(x).lstrip("0"))) for x in counted]
+    yield "tzcnt64", [row(x, 0, 0, 64 - len(numeral(x).rstrip("0"))) for x in counted]
 
 
 def main():

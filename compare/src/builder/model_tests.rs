@@ -200,6 +200,11 @@ fn every_register_field_is_judged() {
     assert_eq!(bad(Pslld(0, 255)), 0, "an amount");
     assert_eq!(bad(Pextrq(reg(0), 16, 255)), 4);
     assert_eq!(bad(Pinsrd(0, reg(16), 255)), 4);
+    for count in COUNTS {
+        assert_eq!(bad(count(reg(16), reg(0))), 4);
+        assert_eq!(bad(count(number(99), index(0, 16))), 4);
+        assert_eq!(bad(count(number(99), reg(15))), 0);
+    }
 }
 
 #[test]

@@ -42,8 +42,9 @@ pub struct RawCall {
 }
 
 /// Kind bytes inside, at and beyond the ends of the ranges.
-const KINDS: [u8; 16] = [
-    0x00, 0x01, 0x08, 0x0f, 0x15, 0x18, 0x19, 0x1f, 0x20, 0x22, 0x2f, 0x30, 0x35, 0x36, 0x40, 0xff,
+const KINDS: [u8; 18] = [
+    0x00, 0x01, 0x08, 0x0f, 0x15, 0x18, 0x19, 0x1b, 0x1c, 0x1f, 0x20, 0x22, 0x2f, 0x30, 0x35, 0x36,
+    0x40, 0xff,
 ];
 const OPERANDS: [u8; 10] = [0x40, 0x41, 0x42, 0x43, 0x44, 0x3f, 0x45, 0x00, 0x30, 0xff];
 
@@ -108,6 +109,9 @@ impl Record {
             0x16 => Pinsrd(a, o(0)?, b),
             0x17 => Pinsrq(a, o(0)?, b),
             0x18 => Vpslldq(a, b, c),
+            0x19 => Popcnt64(o(0)?, o(1)?),
+            0x1a => Lzcnt64(o(0)?, o(1)?),
+            0x1b => Tzcnt64(o(0)?, o(1)?),
             _ => return None,
         })
     }
@@ -218,6 +222,22 @@ mod tests {
     }
 
     #[test]
+    fn counts_are_looked_at_for_two_operands() {
+        let mut rng = Rng::new(3);
+        let (dst, src) = (Operand::Reg(1), Operand::Mem(Maddr::Reg(2, -3)));
+        for (kind, count) in (0x19..).zip(COUNTS) {
+            let mut raw = RawCall::with(Entry::Add, &[kind], &[dst, src], &mut rng);
+            raw.record.operands[2] = 0;
+            assert_eq!(raw.value(), Some(Call::Add(count(dst, src))));
+            for i in [0, 1] {
+                let mut spoiled = raw.clone();
+                spoiled.record.operands[i] = 0x45;
+                assert_eq!(spoiled.value(), None);
+            }
+        }
+    }
+
+    #[test]
     fn what_is_no_value() {
         let mut rng = Rng::new(2);
         let add = Call::Add(Mul64(Operand::Reg(0)));
@@ -229,7 +249,7 @@ mod tests {
             assert_eq!(raw.value(), None);
         }
         raw.record.operands = [0x40; 3];
-        for kind in [0x00, 0x19, 0x20, 0x2f, 0x30, 0x35, 0x36, 0x40, 0xff] {
+        for kind in [0x00, 0x1c, 0x1f, 0x20, 0x2f, 0x30, 0x35, 0x36, 0x40, 0xff] {
             raw.record.kind = kind;
             raw.entry = Entry::Add;
             assert_eq!(raw.value(), None, "{kind:x} is no instruction");

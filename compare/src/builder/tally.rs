@@ -3,6 +3,7 @@
 use super::model::{PartKind, Stand};
 use super::record::{Entry, RawCall};
 use crate::reader::{DEEPEST, LONGEST};
+use crate::tree::INSTRUCTION_KINDS;
 use std::collections::BTreeMap;
 
 /// Where a call met the build (None where it was damaged), and its answer.
@@ -41,7 +42,7 @@ const STANDS: [(&str, Option<Stand>, &[u8]); 7] = [
 /// Each function of the interface, with each kind that it takes.
 fn every_call() -> impl Iterator<Item = (Entry, Option<u8>)> {
     let plain = [(Entry::OpenBlock, None), (Entry::Close, None)];
-    let added = (0x01..=0x18).map(|kind| (Entry::Add, Some(kind)));
+    let added = (1..=INSTRUCTION_KINDS as u8).map(|kind| (Entry::Add, Some(kind)));
     let opened = (0x30..=0x35).flat_map(|kind| {
         let entries = [Entry::OpenIfElse, Entry::OpenWhile];
         entries.map(|entry| (entry, Some(kind)))

@@ -54,7 +54,7 @@ impl<'a> Values<'a> {
     }
 
     pub fn instruction(&mut self) -> Instruction {
-        match 1 + self.rng.below(24) {
+        match 1 + self.rng.below(INSTRUCTION_KINDS) {
             1 => Mov64(self.operand(), self.operand()),
             2 => Add64(self.operand(), self.operand()),
             3 => AddLea64(self.operand(), self.operand(), self.operand()),
@@ -78,7 +78,10 @@ impl<'a> Values<'a> {
             21 => Pextrq(self.operand(), self.number(), self.rng.edge_byte()),
             22 => Pinsrd(self.number(), self.operand(), self.rng.edge_byte()),
             23 => Pinsrq(self.number(), self.operand(), self.rng.edge_byte()),
-            _ => Vpslldq(self.number(), self.number(), self.rng.edge_byte()),
+            24 => Vpslldq(self.number(), self.number(), self.rng.edge_byte()),
+            25 => Popcnt64(self.operand(), self.operand()),
+            26 => Lzcnt64(self.operand(), self.operand()),
+            _ => Tzcnt64(self.operand(), self.operand()),
         }
     }
 

@@ -4,6 +4,7 @@
 
 mod addresses;
 mod comparisons;
+mod counts;
 mod faults;
 mod flags;
 mod fuel;
@@ -31,6 +32,7 @@ fn jobs() -> Vec<Vec<u8>> {
     jobs.extend(flags::jobs());
     let mut bytes: Vec<Vec<u8>> = jobs.iter().map(Job::to_bytes).collect();
     bytes.extend(refusals::jobs());
+    bytes.extend(counts::jobs().iter().map(Job::to_bytes));
     // Groups meet, so some jobs come twice.
     let mut met = BTreeSet::new();
     bytes.retain(|job| met.insert(job.clone()));

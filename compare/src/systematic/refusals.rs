@@ -9,7 +9,7 @@ use crate::tree::*;
 /// Add64 Rax, 1.
 const ADD: [u8; 12] = [0x02, 0x41, 0, 0x40, 1, 0, 0, 0, 0, 0, 0, 0];
 
-fn of_bytes(code: &[u8]) -> Job {
+pub fn of_bytes(code: &[u8]) -> Job {
     let job = bare(block(Vec::new()));
     Job {
         code: code.to_vec(),
@@ -22,7 +22,7 @@ fn of_bytes(code: &[u8]) -> Job {
 fn kinds() -> Vec<Job> {
     let mut codes: Vec<Vec<u8>> = Vec::new();
     for kind in [
-        0x00, 0x19, 0x1f, 0x23, 0x2f, 0x30, 0x35, 0x36, 0x40, 0x44, 0x45, 0xff,
+        0x00, 0x1c, 0x1f, 0x23, 0x2f, 0x30, 0x35, 0x36, 0x40, 0x44, 0x45, 0xff,
     ] {
         codes.push(vec![kind, 0, 0, 0, 0, 0]);
     }

@@ -50,6 +50,9 @@ fn shapes() -> Vec<Shape> {
         shape(|o| Pextrq(o[0], 1, 1), &[Destination]),
         shape(|o| Pinsrd(1, o[0], 2), &[Source]),
         shape(|o| Pinsrq(1, o[0], 1), &[Source]),
+        shape(|o| Popcnt64(o[0], o[1]), TWO),
+        shape(|o| Lzcnt64(o[0], o[1]), TWO),
+        shape(|o| Tzcnt64(o[0], o[1]), TWO),
     ]
 }
 
@@ -66,7 +69,7 @@ pub fn kinds(behind: i64) -> [Operand; 5] {
 
 /// Memory with no 64-bit cell there: nothing listed, a narrow cell, below 0,
 /// above 2^64-1.
-const BARE: [Operand; 6] = [
+pub const BARE: [Operand; 6] = [
     Operand::Mem(Maddr::Const(BESIDE)),
     Operand::Mem(Maddr::Const(4112)),
     Operand::Mem(Maddr::Reg(NEAR, 113)),

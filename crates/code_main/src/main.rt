@@ -45,12 +45,27 @@ fn document_examples() -> usize {
 // 2: a kind that is no code's
 fn code_kinds() -> usize {
     miss(b"\x00", 2, 0)
-        + miss(b"\x19", 2, 0)
+        + miss(b"\x1c", 2, 0)
+        + miss(b"\x1f", 2, 0)
         + miss(b"\x23", 2, 0)
         + miss(b"\x30\x41\x00\x41\x00", 2, 0)
         + miss(b"\x41\x00", 2, 0)
         + miss(b"\xff", 2, 0)
         + miss(b"\x20\x01\x00\x00\x00\x00", 2, 5)
+}
+
+// request 2026-02: each of its kinds has a destination and a source, and no body
+fn bit_counts() -> usize {
+    miss(b"\x19\x41\x00\x41\x0f", 0, 0)
+        + miss(b"\x1a\x42\x00\x10\x00\x00\x00\x00\x00\x00\x41\x00", 0, 0)
+        + miss(b"\x1b\x41\x00\x40\x00\x00\x00\x00\x00\x00\x00\x00", 0, 0)
+        + miss(b"\x19", 3, 1)
+        + miss(b"\x1a\x41\x00", 3, 3)
+        + miss(b"\x1b\x41\x00\x41", 3, 3)
+        + miss(b"\x19\x41\x10\x41\x10", 4, 2)
+        + miss(b"\x1a\x41\x00\x41\x10", 4, 4)
+        + miss(b"\x1b\x41\x00\x1b", 2, 3)
+        + miss(b"\x1b\x41\x00\x41\x01\x00", 6, 5)
 }
 
 // 2: a kind that is no operand's, and none of a comparison
@@ -232,6 +247,11 @@ fn report_kinds_and_cuts() {
         document_examples(),
         b"document 01: as expected\n",
         b"document 01: FAILED\n",
+    );
+    report(
+        bit_counts(),
+        b"2026-02: as expected\n",
+        b"2026-02: FAILED\n",
     );
     report(counts(), b"1: as expected\n", b"1: FAILED\n");
     report(

@@ -148,6 +148,14 @@ fn quads(op: u8, x: Quad32, y: Quad32, n: u64, s: u8) -> Quad32 {
     }
 }
 
+fn counts(op: u8, x: u64) -> u64 {
+    match op {
+        39 => words::popcnt64(x),
+        40 => words::lzcnt64(x),
+        _ => words::tzcnt64(x),
+    }
+}
+
 pub fn apply(op: u8, x: Pair, y: Pair, s: u64) -> Pair {
     match op {
         0..=5 => twos(op, x, y, byte(s)),
@@ -159,6 +167,7 @@ pub fn apply(op: u8, x: Pair, y: Pair, s: u64) -> Pair {
         }
         36 => one(words::four_select(quad(x), byte(s)) as u64),
         37 => one(words::select_word(quad(x), byte(s)) as u64),
-        _ => one(words::extract_nat64(quad(x), byte(s))),
+        38 => one(words::extract_nat64(quad(x), byte(s))),
+        _ => one(counts(op, x.lo)),
     }
 }

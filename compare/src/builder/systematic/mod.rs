@@ -55,7 +55,7 @@ impl Scribe<'_> {
 
     /// A record that is no value.
     fn no_value(&mut self) {
-        let raw = RawCall::with(Entry::Add, &[0x19], &[], self.rng);
+        let raw = RawCall::with(Entry::Add, &[0x1c], &[], self.rng);
         assert_eq!(self.recorder.call(&raw, self.recorder.room()), 2);
     }
 

@@ -6,7 +6,7 @@ use super::Scribe;
 use crate::build::{at, at_index, at_reg, number, reg};
 use crate::builder::calls::Call;
 use crate::builder::record::{Entry, RawCall};
-use crate::tree::{Maddr, Operand};
+use crate::tree::{Maddr, Operand, INSTRUCTION_KINDS};
 
 const KINDS: usize = 5;
 
@@ -26,7 +26,7 @@ enum Byte {
 use Byte::{Amount, Xmm};
 
 /// Kind, body and number of operands of each instruction.
-const INSTRUCTIONS: [(u8, &[Byte], usize); 24] = [
+const INSTRUCTIONS: [(u8, &[Byte], usize); INSTRUCTION_KINDS] = [
     (0x01, &[], 2),
     (0x02, &[], 2),
     (0x03, &[], 3),
@@ -51,6 +51,9 @@ const INSTRUCTIONS: [(u8, &[Byte], usize); 24] = [
     (0x16, &[Xmm, Amount], 1),
     (0x17, &[Xmm, Amount], 1),
     (0x18, &[Xmm, Xmm, Amount], 0),
+    (0x19, &[], 2),
+    (0x1a, &[], 2),
+    (0x1b, &[], 2),
 ];
 
 const COMPARISONS: std::ops::RangeInclusive<u8> = 0x30..=0x35;
@@ -175,7 +178,7 @@ fn no_values(scribe: &mut Scribe) {
     scribe.list(60);
     scribe.take(&[Call::OpenBlock]);
     let entries = [Entry::Add, Entry::OpenIfElse, Entry::OpenWhile];
-    for kind in [0x00, 0x19, 0x20, 0x22, 0x2f, 0x36, 0x40, 0xff] {
+    for kind in [0x00, 0x1c, 0x1f, 0x20, 0x22, 0x2f, 0x36, 0x40, 0xff] {
         for entry in entries {
             no_value(scribe, entry, kind, None);
         }
