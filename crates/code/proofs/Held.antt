@@ -86,6 +86,18 @@ signed-held n full twice (negsuc k) bs at h l =
     rw (e, le-ltb x (2 ^ (8 * n - 1)) m, y)
 
 -- operands
+maddr-short : (m : Maddr) → length (bytes-of-maddr m) ≤ 13
+unfolding bytes-of-maddr
+maddr-short (MConst n) = omega (arith, length-bytes 8 n)
+maddr-short (MReg r offset) = omega (arith, length-signed 8 offset)
+maddr-short (MIndex base scale index offset) = simp length-append (omega (arith, length-signed 2 scale, length-signed 8 offset))
+
+pub operand-short : (o : Operand) → length (bytes-of-operand o) ≤ 13
+unfolding bytes-of-operand
+operand-short (OConst n) = omega (arith, length-bytes 8 n)
+operand-short (OReg r) = omega arith
+operand-short (OMem m) = maddr-short m
+
 pub record Held (bs : List ℕ) (at : ℕ) (o : Operand) : Type 0 where
   pub kind : is-operand (byte-at bs at) ≡ true
   pub fields : Fields (register-fields (byte-at bs at)) bs at

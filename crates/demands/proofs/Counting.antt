@@ -1,0 +1,97 @@
+-- Each text has the paragraph's clause: the run's and the byte machine's compute to it, and so does the source's where a check fails (`runs-on`).
+-- A record of one instruction is read back as what was written.
+use Prim.Native.Nat.{ℕ, _≤_}
+use mathlib.Core.Path.{_≡_, refl, _∙_, ap, subst, subst⁻¹}
+use mathlib.Core.Bool.{false}
+use mathlib.Core.List.{List, [], _∷_}
+use native.Mathlib.Omega.{arith}
+use lib.Dec.{eqb}
+use lib.ListN.{length, length-append}
+use Rattle.words.specs.Flags.{overflow, update-of}
+use Rattle.words.proofs.FlagLaws.{cf-update-cf, update-cf-rest, overflow-update-cf, overflow-update-of, update-of-low, update-of-high}
+use Rattle.words.proofs.CountLaws.{lzcnt-zero, tzcnt-zero}
+use Rattle.machine.specs.declared.Operand.{Operand}
+use Rattle.code.specs.declared.tree.Instruction.{Instruction}
+use Rattle.code.specs.declared.tree.Instruction.the-variants.{Popcnt64, Lzcnt64, Tzcnt64}
+use Rattle.code.specs.Layout.{layout, laid}
+use Rattle.code.specs.Tree.{Ins}
+use Rattle.code.specs.Reader.{got, parse}
+use Rattle.code.specs.Spells.{Nests}
+use Rattle.code.specs.WellFormed.{WfOperand, WfLayout, WfIns, WfCode}
+use Rattle.code.specs.Writer.{bytes-of-operands, bytes-of-record, bytes-of-ins, bytes-of-code, PlacedAt}
+use Rattle.code.proofs.Held.{operand-short}
+use Rattle.code.proofs.Reading.{writing}
+use Rattle.eval.specs.Instructions.{two-word, two-flags, act, run-ins}
+use Rattle.source.specs.Source.{eval-ins}
+use Rattle.source.proofs.RunsOn.{put-flags, clear-flags, runs-on}
+use Rattle.bytemachine.specs.ByteMachine.{exec-ins}
+use Rattle.demands.specs.Counting.{IsFill, cleared, carry-for-zero, Counting}
+
+-- ---- flags
+cleared-is : (fill b : ℕ) → IsFill fill false false (cleared fill b)
+cleared-is fill b =
+    let f = update-of fill false in
+    let rest = update-cf-rest f false in
+    record {
+      carry-is = cf-update-cf f false;
+      overflow-is = overflow-update-cf f false ∙ overflow-update-of fill false;
+      between = omega (arith, update-of-low fill false);
+      above = omega (arith, update-of-high fill false);
+    }
+
+carry-is : (fill b : ℕ) → IsFill fill (eqb b 0) (overflow fill) (carry-for-zero fill b)
+carry-is fill b =
+    let rest = update-cf-rest fill (eqb b 0) in
+    record {
+      carry-is = cf-update-cf fill (eqb b 0);
+      overflow-is = overflow-update-cf fill (eqb b 0);
+      between = omega arith;
+      above = omega arith;
+    }
+
+-- ---- an instruction of a destination and a source is read
+module _ (k : ℕ) (i : Instruction) (dst src : Operand) (laid-so : layout i ≡ laid k [] (dst ∷ src ∷ [])) where
+  abbrev bytes : List ℕ
+  bytes = k ∷ bytes-of-operands (dst ∷ src ∷ [])
+
+  its-bytes : bytes-of-code (Ins 0 i) ≡ bytes
+  unfolding bytes-of-code bytes-of-ins bytes-of-record
+  its-bytes = ap bytes-of-record laid-so
+
+  short : length bytes ≤ 16384
+  unfolding bytes-of-operands
+  short = simp length-append (omega (arith, operand-short dst, operand-short src))
+
+  read-so : WfOperand dst → WfOperand src → parse bytes ≡ got (Ins 0 i) (length bytes)
+  unfolding WfCode WfIns PlacedAt Nests
+  read-so f g =
+      subst (λ (bs : List ℕ). parse bs ≡ got (Ins 0 i) (length bs)) its-bytes
+      (writing (Ins 0 i) .read-back (subst⁻¹ WfLayout laid-so (f, g)) refl (omega arith) (rw its-bytes short))
+
+-- ---- the three
+pub counting : Counting
+unfolding run-ins act two-word two-flags exec-ins eval-ins
+counting = record {
+  popcnt64 = record {
+    is-read = λ dst src. read-so 0x19 (Popcnt64 dst src) dst src refl;
+    runs = λ env p dst src s. refl;
+    evaluates = λ load int fill dst src s. runs-on load int fill (Popcnt64 dst src) dst src _ _ _ s (clear-flags fill);
+    executes = λ fill dst src s. refl;
+  };
+  lzcnt64 = record {
+    is-read = λ dst src. read-so 0x1a (Lzcnt64 dst src) dst src refl;
+    runs = λ env p dst src s. refl;
+    evaluates = λ load int fill dst src s. runs-on load int fill (Lzcnt64 dst src) dst src _ _ _ s (put-flags fill _);
+    executes = λ fill dst src s. refl;
+  };
+  tzcnt64 = record {
+    is-read = λ dst src. read-so 0x1b (Tzcnt64 dst src) dst src refl;
+    runs = λ env p dst src s. refl;
+    evaluates = λ load int fill dst src s. runs-on load int fill (Tzcnt64 dst src) dst src _ _ _ s (put-flags fill _);
+    executes = λ fill dst src s. refl;
+  };
+  leading-of-zero = lzcnt-zero 64;
+  trailing-of-zero = tzcnt-zero 64;
+  popcnt-flags = cleared-is;
+  zeros-flags = carry-is;
+}
