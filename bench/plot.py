@@ -39,7 +39,8 @@ along a row, the ratios.
 KERNELS = """\
 `straight` has registers alone, `mixed` IfElse, memory, lanes and products, `deep` 13 IfElse in each other. `memory` has
 64-bit cells in a row; `scattered` has cells of every tag with gaps, and no 64-bit cell where it would be in a row. Both
-interpreters find a cell by bisection; the proved evaluator looks first where it would be in a row.
+interpreters find a cell by bisection; the proved evaluator looks first where it would be in a row. `counts` has
+registers, and a count in three of eight steps.
 """
 
 SIZE = """\

@@ -105,7 +105,7 @@ typedef struct pokchrei_build {
     uint16_t starts[32]; /* the place where it begins */
 } pokchrei_build;
 
-/* The kinds of records, in the source's names. */
+/* The kinds of records, in the names of the source and of document 02. */
 enum pokchrei_instruction {
     POKCHREI_MOV64 = 0x01,
     POKCHREI_ADD64 = 0x02,
@@ -130,7 +130,14 @@ enum pokchrei_instruction {
     POKCHREI_PEXTRQ = 0x15,
     POKCHREI_PINSRD = 0x16,
     POKCHREI_PINSRQ = 0x17,
-    POKCHREI_VPSLLDQ = 0x18
+    POKCHREI_VPSLLDQ = 0x18,
+    /*
+     * Counts of the source's 64 bits, written to the destination, which is not read. Flags become the fill word; POPCNT64
+     * clears carry and overflow in it, the other two set its carry where the source is 0 and clear it elsewhere.
+     */
+    POKCHREI_POPCNT64 = 0x19, /* its ones */
+    POKCHREI_LZCNT64 = 0x1a,  /* its zeros above the highest one; 64 for 0 */
+    POKCHREI_TZCNT64 = 0x1b   /* its zeros below the lowest one; 64 for 0 */
 };
 
 enum pokchrei_comparison {
@@ -278,7 +285,7 @@ static inline pokchrei_record pokchrei_one(enum pokchrei_instruction kind, pokch
     return record;
 }
 
-/* MOV64, ADD64, ADD_CARRY64 to SUB64, IMUL64 to SHL64: destination, then source or amount. */
+/* MOV64, ADD64, ADD_CARRY64 to SUB64, IMUL64 to SHL64, POPCNT64 to TZCNT64: destination, then source or amount. */
 static inline pokchrei_record pokchrei_two(enum pokchrei_instruction kind, pokchrei_operand a, pokchrei_operand b)
 {
     pokchrei_record record = pokchrei_one(kind, a);

@@ -34,6 +34,9 @@ enum Op {
     And64(Operand, Operand),
     Shr64(Operand, Operand),
     Shl64(Operand, Operand),
+    Popcnt64(Operand, Operand),
+    Lzcnt64(Operand, Operand),
+    Tzcnt64(Operand, Operand),
     AddLea64(Operand, Operand, Operand),
     Mul64(Operand),
     Mulx64(Operand, Operand, Operand),
@@ -99,7 +102,10 @@ fn two_words(code: &[u8], at: usize) -> (Op, usize) {
         0x0b => Op::Xor64(dst, src),
         0x0c => Op::And64(dst, src),
         0x0d => Op::Shr64(dst, src),
-        _ => Op::Shl64(dst, src),
+        0x0e => Op::Shl64(dst, src),
+        0x19 => Op::Popcnt64(dst, src),
+        0x1a => Op::Lzcnt64(dst, src),
+        _ => Op::Tzcnt64(dst, src),
     };
     (op, next)
 }
@@ -261,7 +267,7 @@ fn slot(machine: &Machine, operand: &Operand, regs: &[u64; 16]) -> Result<Slot, 
 #[inline(always)]
 fn two(machine: &mut Machine, kind: u8, dst: &Operand, src: &Operand) -> Result<(), u8> {
     let b = read(machine, src)?;
-    if kind >= 0x0d && b > 63 {
+    if matches!(kind, 0x0d | 0x0e) && b > 63 {
         return Err(33);
     }
     let slot = slot(machine, dst, &machine.regs)?;
@@ -310,6 +316,9 @@ fn step(machine: &mut Machine, op: &Op) -> Result<(), u8> {
         Op::And64(dst, src) => two(machine, 0x0c, dst, src),
         Op::Shr64(dst, src) => two(machine, 0x0d, dst, src),
         Op::Shl64(dst, src) => two(machine, 0x0e, dst, src),
+        Op::Popcnt64(dst, src) => two(machine, 0x19, dst, src),
+        Op::Lzcnt64(dst, src) => two(machine, 0x1a, dst, src),
+        Op::Tzcnt64(dst, src) => two(machine, 0x1b, dst, src),
         Op::AddLea64(dst, one, two) => add_lea(machine, dst, one, two),
         Op::Mul64(src) => read(machine, src).map(|b| machine.mul(b)),
         Op::Mulx64(hi, lo, src) => mulx(machine, hi, lo, src),

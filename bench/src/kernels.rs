@@ -78,6 +78,21 @@ pub fn straight(steps: u64) -> Kernel {
     kernel
 }
 
+/// Counts of a register's bits, and what changes it.
+pub fn counts(steps: u64) -> Kernel {
+    let body = vec![
+        two(ADD64, reg(RAX), reg(RBX)),
+        two(0x19, reg(8), reg(RAX)),
+        two(0x1a, reg(9), reg(RAX)),
+        two(0x0d, reg(RAX), reg(9)),
+        two(0x1b, reg(10), reg(RAX)),
+        two(ADD64, reg(RBX), reg(8)),
+    ];
+    let mut kernel = looped("counts", steps, 6, body);
+    set_regs(&mut kernel, &[(RBX, 0x0123_4567_89ab_cdef)]);
+    kernel
+}
+
 /// IfElse, memory, lanes and products.
 pub fn mixed(steps: u64) -> Kernel {
     let small = block(&[

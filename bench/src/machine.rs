@@ -2,7 +2,7 @@
 //! number alone here; its place is the interpreter's to add.
 
 use crate::encode::{RAX, RDX};
-use crate::plain::{sum, with_bit};
+use crate::plain::{counted, sum, with_bit};
 
 /// A start, which becomes the end, and the cells that were lent.
 pub struct Machine<'a> {
@@ -49,7 +49,8 @@ fn result(kind: u8, a: u64, b: u64, flags: u64, fill: u64) -> (u64, u64) {
         0x0b => (a ^ b, fill & !(1 | 1 << 11)),
         0x0c => (a & b, fill),
         0x0d => (a >> b, fill),
-        _ => (a << b, fill),
+        0x0e => (a << b, fill),
+        _ => counted(kind, b, fill),
     }
 }
 

@@ -54,7 +54,7 @@ fn line(group: &str, size: u64, kernel: &Kernel, times: u32) {
     println!("{group}\t{name}\t{size}\t{proved:.4}\t{plain:.4}\t{decoded:.4}");
 }
 
-fn timed(steps: u64) -> [Kernel; 6] {
+fn timed(steps: u64) -> [Kernel; 7] {
     [
         kernels::straight(steps),
         kernels::mixed(steps),
@@ -62,6 +62,7 @@ fn timed(steps: u64) -> [Kernel; 6] {
         kernels::memory(steps, 16),
         kernels::memory(steps, 1024),
         kernels::scattered(steps, 1024),
+        kernels::counts(steps),
     ]
 }
 

@@ -46,6 +46,16 @@ pub fn sum(a: u64, b: u64, carry: bool) -> (u64, bool) {
     (y, first | second)
 }
 
+/// The count of a word's bits that an instruction of this kind makes, and the flags of a fill word.
+pub fn counted(kind: u8, word: u64, fill: u64) -> (u64, u64) {
+    let zeros = with_bit(fill, 0, word == 0);
+    match kind {
+        0x19 => (word.count_ones().into(), fill & !(1 | 1 << 11)),
+        0x1a => (word.leading_zeros().into(), zeros),
+        _ => (word.trailing_zeros().into(), zeros),
+    }
+}
+
 impl Machine<'_> {
     fn u32_at(&self, at: usize) -> usize {
         u32::from_le_bytes(self.code[at..at + 4].try_into().unwrap()) as usize
@@ -137,7 +147,8 @@ impl Machine<'_> {
             0x0b => (a ^ b, self.fill & !(1 | 1 << 11)),
             0x0c => (a & b, self.fill),
             0x0d => (a >> b, self.fill),
-            _ => (a << b, self.fill),
+            0x0e => (a << b, self.fill),
+            _ => counted(kind, b, self.fill),
         }
     }
 
@@ -146,7 +157,7 @@ impl Machine<'_> {
         let (src, next) = self.operand(next);
         let b = self.read(src, at)?;
         let kind = self.code[at];
-        if kind >= 0x0d && b > 63 {
+        if matches!(kind, 0x0d | 0x0e) && b > 63 {
             return Err(Stop::Fault(33, at));
         }
         let slot = self.slot(dst, at)?;

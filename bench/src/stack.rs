@@ -46,7 +46,7 @@ fn destination() -> Code {
 
 /// Each instruction once.
 fn instructions() -> Vec<Code> {
-    const TWO: [u8; 11] = [1, 2, 4, 5, 6, 7, 10, 11, 12, 13, 14];
+    const TWO: [u8; 14] = [1, 2, 4, 5, 6, 7, 10, 11, 12, 13, 14, 0x19, 0x1a, 0x1b];
     let mut codes = TWO.map(|kind| two(kind, destination(), source())).to_vec();
     codes.push(record(0x03, &[], &[destination(), source(), source()]));
     codes.push(record(0x08, &[], &[source()]));

@@ -1,4 +1,4 @@
-//! Instructions, comparisons and operands, in document 01's names and with the source's order of fields.
+//! Instructions, comparisons and operands, in the names of documents 01 and 02 and with the source's order of fields.
 
 /// A register by its number in state order, which is not the processor's. A number above 15 is no register's; a
 /// build refuses it.
@@ -76,6 +76,15 @@ pub enum Instruction {
     Pinsrd(Xmm, Operand, u8),
     Pinsrq(Xmm, Operand, u8),
     VPSLLDQ(Xmm, Xmm, u8),
+    /// The ones of the source's 64 bits. The destination is not read, here and in the two below. Flags become the fill
+    /// word with carry and overflow cleared.
+    Popcnt64(Operand, Operand),
+    /// The zeros above the highest one of the source, 64 for 0. Flags become the fill word with carry set exactly for a
+    /// source of 0.
+    Lzcnt64(Operand, Operand),
+    /// The zeros below the lowest one of the source, 64 for 0. Flags become the fill word with carry set exactly for a
+    /// source of 0.
+    Tzcnt64(Operand, Operand),
 }
 
 /// A comparison of two operands, unsigned.

@@ -88,6 +88,9 @@ impl From<Instruction> for Record {
             Pinsrd(dst, src, index) => Record::new(0x16, &[dst.0, index], &[src]),
             Pinsrq(dst, src, index) => Record::new(0x17, &[dst.0, index], &[src]),
             VPSLLDQ(dst, src, count) => Record::new(0x18, &[dst.0, src.0, count], &[]),
+            Popcnt64(dst, src) => Record::new(0x19, &[], &[dst, src]),
+            Lzcnt64(dst, src) => Record::new(0x1a, &[], &[dst, src]),
+            Tzcnt64(dst, src) => Record::new(0x1b, &[], &[dst, src]),
         }
     }
 }

@@ -278,8 +278,8 @@ fn a_refusal_has_its_number() {
     assert_eq!(Misfit.to_string(), text);
 }
 
-/// The instructions in document 01's order, with the bytes of body and operands behind each kind.
-fn instructions() -> [(Instruction, &'static [u8]); 24] {
+/// The instructions in the order of their kinds, with the bytes of body and operands behind each kind.
+fn instructions() -> [(Instruction, &'static [u8]); 27] {
     let (x, y) = (Xmm(2), Xmm(3));
     let one = OReg(Reg::RBX);
     let two = OReg(Reg::RCX);
@@ -311,6 +311,9 @@ fn instructions() -> [(Instruction, &'static [u8]); 24] {
         (Pinsrd(x, one, 5), &[2, 5, 0x41, 1]),
         (Pinsrq(x, one, 5), &[2, 5, 0x41, 1]),
         (VPSLLDQ(x, y, 4), &[2, 3, 4]),
+        (Popcnt64(one, two), twos),
+        (Lzcnt64(one, two), twos),
+        (Tzcnt64(one, two), twos),
     ]
 }
 

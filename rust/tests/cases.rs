@@ -1,4 +1,4 @@
-//! Cases of document 01 through the wrapper.
+//! Cases of document 01 and of request 2026-02 through the wrapper.
 
 use pokchrei::{check_cells, check_code, job, run};
 use pokchrei::{Answer, Cells, Refusal, Setting, State, JOB_ROOM};
@@ -71,6 +71,35 @@ fn p12_rsp_takes_nothing() {
         place: 0,
     };
     assert_eq!((answer, state.regs[7], state.flags), (fault, 0, 5));
+}
+
+/// A source, and what Popcnt64, Lzcnt64 and Tzcnt64 make of it.
+const COUNTS: [(u64, [u64; 3]); 6] = [
+    (0, [0, 64, 64]),
+    (1, [1, 63, 0]),
+    (1 << 63, [1, 0, 63]),
+    (0x0ff0, [8, 52, 4]),
+    (0x5555_5555_5555_5555, [32, 1, 0]),
+    (u64::MAX, [64, 0, 0]),
+];
+
+#[test]
+fn counts_and_their_flags() {
+    const CARRY: u64 = 1;
+    const OVERFLOW: u64 = 1 << 11;
+    for fill in [0, CARRY, OVERFLOW, u64::MAX] {
+        for (source, expected) in COUNTS {
+            let ones = fill & !(CARRY | OVERFLOW);
+            let zeros = fill & !CARRY | u64::from(source == 0);
+            for (i, flags) in [ones, zeros, zeros].into_iter().enumerate() {
+                // Rax is destination and source.
+                let code = [0x19 + i as u8, 0x41, 0, 0x41, 0];
+                let (answer, state) = run_alone(&code, source, 9, Setting { fill, fuel: 0 });
+                let end = (answer, state.regs[0], state.flags);
+                assert_eq!(end, (Answer::Done, expected[i], flags), "{code:?}");
+            }
+        }
+    }
 }
 
 #[test]
