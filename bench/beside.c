@@ -9,7 +9,7 @@
 #include <string.h>
 #include <time.h>
 
-enum { TURNS = 3, ROOM = 65536, MOST = 1 << 17 };
+enum { TURNS = 7, ROOM = 65536, MOST = 1 << 17 };
 
 typedef size_t job_function(const uint8_t *input, size_t input_length, uint8_t out[ROOM]);
 job_function before_job, after_job;

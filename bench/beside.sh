@@ -3,7 +3,7 @@
 # more than what two versions differ by. A placement puts both at offsets of their own from a page, the one or the other
 # first. Prints the mean nanoseconds a step of both, and the mean of the ratios with its standard error.
 #
-#     bench/beside.sh FOLDER [PLACEMENTS]     FOLDER has the earlier libcapi.a; 32 placements, or 2 at least, take a minute
+#     bench/beside.sh FOLDER [PLACEMENTS]     FOLDER has the earlier libcapi.a; 32 placements, or 2 at least, take three minutes
 set -eu
 earlier=$(cd "$1" && pwd)
 placements=${2:-32}
