@@ -1,6 +1,6 @@
 //! A plain interpreter of the same bytes, decoding as it goes: what the proved evaluator is measured against.
 //! It takes accepted code and cells. It is a yardstick: made neither quicker nor slower, so that the ratios of one
-//! landing can be held beside those of another.
+//! landing can be held beside those of another. What a request adds gets a function of its own.
 
 const RSP: usize = 7;
 const RAX: usize = 0;
@@ -147,8 +147,7 @@ impl Machine<'_> {
             0x0b => (a ^ b, self.fill & !(1 | 1 << 11)),
             0x0c => (a & b, self.fill),
             0x0d => (a >> b, self.fill),
-            0x0e => (a << b, self.fill),
-            _ => counted(kind, b, self.fill),
+            _ => (a << b, self.fill),
         }
     }
 
@@ -157,11 +156,22 @@ impl Machine<'_> {
         let (src, next) = self.operand(next);
         let b = self.read(src, at)?;
         let kind = self.code[at];
-        if matches!(kind, 0x0d | 0x0e) && b > 63 {
+        if kind >= 0x0d && b > 63 {
             return Err(Stop::Fault(33, at));
         }
         let slot = self.slot(dst, at)?;
         let (v, flags) = self.result(kind, self.get(slot), b);
+        self.put(slot, v);
+        self.flags = flags;
+        Ok(next)
+    }
+
+    fn count(&mut self, at: usize) -> Result<usize, Stop> {
+        let (dst, next) = self.operand(at + 1);
+        let (src, next) = self.operand(next);
+        let word = self.read(src, at)?;
+        let slot = self.slot(dst, at)?;
+        let (v, flags) = counted(self.code[at], word, self.fill);
         self.put(slot, v);
         self.flags = flags;
         Ok(next)
@@ -323,6 +333,7 @@ impl Machine<'_> {
             0x13 | 0x18 => self.shuffle(at),
             0x15 => self.extract(at),
             0x16 | 0x17 => self.insert(at),
+            0x19..=0x1b => self.count(at),
             _ => self.two(at),
         }
     }
