@@ -85,18 +85,18 @@ signed-held n full twice (negsuc k) bs at h l =
     let y : 2 ^ (8 * n) - 1 - x ≡ k = omega arith in
     rw (e, le-ltb x (2 ^ (8 * n - 1)) m, y)
 
--- operands
-maddr-short : (m : Maddr) → length (bytes-of-maddr m) ≤ 13
+-- operands; a record has at most 13 bytes
+maddr-length-le : (m : Maddr) → length (bytes-of-maddr m) ≤ 13
 unfolding bytes-of-maddr
-maddr-short (MConst n) = omega (arith, length-bytes 8 n)
-maddr-short (MReg r offset) = omega (arith, length-signed 8 offset)
-maddr-short (MIndex base scale index offset) = simp length-append (omega (arith, length-signed 2 scale, length-signed 8 offset))
+maddr-length-le (MConst n) = omega (arith, length-bytes 8 n)
+maddr-length-le (MReg r offset) = omega (arith, length-signed 8 offset)
+maddr-length-le (MIndex base scale index offset) = simp length-append (omega (arith, length-signed 2 scale, length-signed 8 offset))
 
-pub operand-short : (o : Operand) → length (bytes-of-operand o) ≤ 13
+pub operand-length-le : (o : Operand) → length (bytes-of-operand o) ≤ 13
 unfolding bytes-of-operand
-operand-short (OConst n) = omega (arith, length-bytes 8 n)
-operand-short (OReg r) = omega arith
-operand-short (OMem m) = maddr-short m
+operand-length-le (OConst n) = omega (arith, length-bytes 8 n)
+operand-length-le (OReg r) = omega arith
+operand-length-le (OMem m) = maddr-length-le m
 
 pub record Held (bs : List ℕ) (at : ℕ) (o : Operand) : Type 0 where
   pub kind : is-operand (byte-at bs at) ≡ true

@@ -1,4 +1,5 @@
-// `ins` and `ocmp` as values: xmm numbers, shift amounts and imm8 are bytes. The last three are request 2026-02's.
+// `ins` and `ocmp` as values: xmm numbers, shift amounts and imm8 are bytes. The last three of `Instruction` are request
+// 2026-02's.
 use machine::Operand;
 
 pub enum Instruction {

@@ -1,5 +1,5 @@
-// Byte examples of checking code. Every number and place below was worked out by hand from document 01, and none was
-// taken from the checker: a group whose cases do not all agree prints FAILED.
+// Byte examples of checking code. Every number and place below was worked out by hand from document 01 and request 2026-02,
+// and none was taken from the checker: a group whose cases do not all agree prints FAILED.
 ghost use Prim.Native.Nat.{_*_, _≤_};
 use libc::STDOUT_FILENO;
 use machine::Checked;

@@ -1,4 +1,5 @@
--- Each text has the paragraph's clause: the run's and the byte machine's compute to it, and so does the source's where a check fails (`runs-on`).
+-- Each text has the paragraph's clause: the run's and the byte machine's compute to it, and the source's has it by `runs-on`, whether its checks pass
+-- or not.
 -- A record of one instruction is read back as what was written.
 use Prim.Native.Nat.{ℕ, _≤_}
 use mathlib.Core.Path.{_≡_, refl, _∙_, ap, subst, subst⁻¹}
@@ -9,7 +10,7 @@ use lib.Dec.{eqb}
 use lib.ListN.{length, length-append}
 use Rattle.words.specs.Flags.{overflow, update-of}
 use Rattle.words.proofs.FlagLaws.{cf-update-cf, update-cf-rest, overflow-update-cf, overflow-update-of, update-of-low, update-of-high}
-use Rattle.words.proofs.CountLaws.{lzcnt-zero, tzcnt-zero}
+use Rattle.words.proofs.CountLaws.{popcnt-zero, lzcnt-zero, tzcnt-zero, popcnt-lowest, lzcnt-highest, tzcnt-lowest}
 use Rattle.machine.specs.declared.Operand.{Operand}
 use Rattle.code.specs.declared.tree.Instruction.{Instruction}
 use Rattle.code.specs.declared.tree.Instruction.the-variants.{Popcnt64, Lzcnt64, Tzcnt64}
@@ -19,7 +20,7 @@ use Rattle.code.specs.Reader.{got, parse}
 use Rattle.code.specs.Spells.{Nests}
 use Rattle.code.specs.WellFormed.{WfOperand, WfLayout, WfIns, WfCode}
 use Rattle.code.specs.Writer.{bytes-of-operands, bytes-of-record, bytes-of-ins, bytes-of-code, PlacedAt}
-use Rattle.code.proofs.Held.{operand-short}
+use Rattle.code.proofs.Held.{operand-length-le}
 use Rattle.code.proofs.Reading.{writing}
 use Rattle.eval.specs.Instructions.{two-word, two-flags, act, run-ins}
 use Rattle.source.specs.Source.{eval-ins}
@@ -39,8 +40,8 @@ cleared-is fill b =
       above = omega (arith, update-of-high fill false);
     }
 
-carry-is : (fill b : ℕ) → IsFill fill (eqb b 0) (overflow fill) (carry-for-zero fill b)
-carry-is fill b =
+carry-for-zero-is : (fill b : ℕ) → IsFill fill (eqb b 0) (overflow fill) (carry-for-zero fill b)
+carry-for-zero-is fill b =
     let rest = update-cf-rest fill (eqb b 0) in
     record {
       carry-is = cf-update-cf fill (eqb b 0);
@@ -60,7 +61,7 @@ module _ (k : ℕ) (i : Instruction) (dst src : Operand) (laid-so : layout i ≡
 
   short : length bytes ≤ 16384
   unfolding bytes-of-operands
-  short = simp length-append (omega (arith, operand-short dst, operand-short src))
+  short = simp length-append (omega (arith, operand-length-le dst, operand-length-le src))
 
   read-so : WfOperand dst → WfOperand src → parse bytes ≡ got (Ins 0 i) (length bytes)
   unfolding WfCode WfIns PlacedAt Nests
@@ -90,8 +91,12 @@ counting = record {
     evaluates = λ load int fill dst src s. runs-on load int fill (Tzcnt64 dst src) dst src _ _ _ s (put-flags fill _);
     executes = λ fill dst src s. refl;
   };
+  ones-of-zero = popcnt-zero 64;
   leading-of-zero = lzcnt-zero 64;
   trailing-of-zero = tzcnt-zero 64;
+  ones = popcnt-lowest 64;
+  leading = lzcnt-highest 64;
+  trailing = tzcnt-lowest 64;
   popcnt-flags = cleared-is;
-  zeros-flags = carry-is;
+  zeros-flags = carry-for-zero-is;
 }

@@ -1,6 +1,6 @@
 -- The claims of request 2026-02, in one record: `Counting`. That the three demands cover these instructions needs no claim of its own: they are of
--- every code.
-use Prim.Native.Nat.{ℕ, _/_, _%_, _^_}
+-- every code. The counts are defined in crates/words/specs/Counts.antt.
+use Prim.Native.Nat.{ℕ, suc, _+_, _-_, _*_, _/_, _%_, _^_, _≤_, _<_}
 use mathlib.Core.Path.{_≡_}
 use mathlib.Core.Bool.{Bool, false, _&&_}
 use mathlib.Core.List.{[], _∷_}
@@ -40,7 +40,7 @@ pub record Counts (kind : ℕ) (ins : Operand → Operand → Instruction) (coun
       run-ins env p (ins dst src) s
       ≡ check (valid-operand env src s) 31 p s
       (check (valid-dst-operand env dst s) 32 p s (ends done (with-flags (flags (env .fill) b) (update-operand env dst (count b) s))))
-  -- the source: where one of the two checks fails, ok is clear and it runs on
+  -- the source: it runs on where one of the two checks fails, with ok clear
   pub evaluates : (load-mem64 : ℤ → Memory → ℕ) (int-to-nat64 : ℤ → ℕ) (fill : ℕ) (dst src : Operand) (s : Source.State)
       → let b = Source.eval-operand load-mem64 int-to-nat64 fill src s in
       let t = Source.with-flags (flags fill b) (Source.update-operand-preserve-flags′ dst (count b) s) in
@@ -51,7 +51,7 @@ pub record Counts (kind : ℕ) (ins : Operand → Operand → Instruction) (coun
       → let b = Machine.read src s in
       Machine.exec-ins fill (ins dst src) s ≡ Machine.with-flags (flags fill b) (Machine.write dst (count b) s)
 
--- carry and overflow cleared
+-- carry and overflow cleared, whatever the source
 abbrev pub cleared : (fill b : ℕ) → ℕ
 cleared fill b = update-cf (update-of fill false) false
 
@@ -65,9 +65,15 @@ pub record Counting : Type 0 where
   pub popcnt64 : Counts 0x19 Popcnt64 (popcnt 64) cleared
   pub lzcnt64 : Counts 0x1a Lzcnt64 (lzcnt 64) carry-for-zero
   pub tzcnt64 : Counts 0x1b Tzcnt64 (tzcnt 64) carry-for-zero
-  -- the last two give 64 for 0
+  -- of 0; the last two give 64
+  pub ones-of-zero : popcnt 64 0 ≡ 0
   pub leading-of-zero : lzcnt 64 0 ≡ 64
   pub trailing-of-zero : tzcnt 64 0 ≡ 64
-  -- their flags are the fill word but for what is named
+  -- of any other word: without its lowest one it has one fewer; its highest one stands just below the leading zeros, its lowest just above the
+  -- trailing zeros
+  pub ones : (b : ℕ) → 0 < b → b < 2 ^ 64 → popcnt 64 b ≡ suc (popcnt 64 (b - 2 ^ tzcnt 64 b))
+  pub leading : (b : ℕ) → 0 < b → b < 2 ^ 64 → (2 ^ (63 - lzcnt 64 b) ≤ b) × (b < 2 ^ (64 - lzcnt 64 b))
+  pub trailing : (b : ℕ) → 0 < b → b < 2 ^ 64 → (k : ℕ) × (b ≡ (2 * k + 1) * 2 ^ tzcnt 64 b)
+  -- the flags of each are the fill word but for what is named
   pub popcnt-flags : (fill b : ℕ) → IsFill fill false false (cleared fill b)
   pub zeros-flags : (fill b : ℕ) → IsFill fill (eqb b 0) (overflow fill) (carry-for-zero fill b)

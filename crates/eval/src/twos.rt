@@ -1,4 +1,4 @@
-// Instructions that write one destination of one or two sources: moves, additions, logic and shifts.
+// Instructions that write one destination of one or two sources: moves, additions, logic, shifts and counts.
 ghost use mathlib.Core.Path.{_≡_};
 ghost use mathlib.Core.Bool.{true, _&&_};
 ghost use mathlib.Core.List.{List};

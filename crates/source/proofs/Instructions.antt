@@ -225,19 +225,30 @@ module _ (env : Env) where
           says-then p s _ _ s (with-flags (env .fill) t) _ 32 _ (update-gate dst i v w s h same)
           (λ e. says-end m (with-flags (env .fill) t) (with-flags flags t) (update-held env dst w s h) (sets e t))
 
-      -- f of a destination that is read and a source, and flags by g
-      says-sum : (dst src : Operand) → WfTwo dst src → (i : Instruction) (f g : ℕ → ℕ → ℕ)
+      -- f of a destination and a source, and flags by g
+      says-two : (dst src : Operand) → WfTwo dst src → (i : Instruction) (f g : ℕ → ℕ → ℕ)
           → Says p s (do
             check 31 (Source.valid-operand src)
             update-operand load-mem64 int-to-nat64 (env .fill) dst i (f (read dst s) (read src s))
             quiet (Source.update-flags (g (read dst s) (read src s)))) s
           (read-check env p src s (write env p dst (f (value dst s) (value src s)) (g (value dst s) (value src s)) s))
       unfolding Source.update-flags Source._>>=_
-      says-sum dst src fits i f g =
+      says-two dst src fits i f g =
           says-source src _ _
           (λ e. says-flags dst i _ _ _ _
           (λ d. two-are f dst src fits d e)
           (λ d t. ap (λ x. state-of env (with-flags x t)) (two-are g dst src fits d e)))
+
+      -- the same, with flags the fill word without carry and overflow
+      says-cleared : (dst src : Operand) → WfTwo dst src → (i : Instruction) (f : ℕ → ℕ → ℕ)
+          → Says p s (do
+            check 31 (Source.valid-operand src)
+            update-operand load-mem64 int-to-nat64 (env .fill) dst i (f (read dst s) (read src s))
+            quiet (Source.update-cf-of false false)) s
+          (read-check env p src s (write env p dst (f (value dst s) (value src s)) (update-cf (update-of (env .fill) false) false) s))
+      unfolding Source.update-cf-of Source._>>=_
+      says-cleared dst src fits i f =
+          says-source src _ _ (λ e. says-flags dst i _ _ _ _ (λ d. two-are f dst src fits d e) (λ d t. refl))
 
       -- the same, with flags the fill word
       says-binary : (dst src : Operand) → WfTwo dst src → (i : Instruction) (f : ℕ → ℕ → ℕ)
@@ -341,24 +352,22 @@ module _ (env : Env) where
           sum-mod sum-carry mul-mod add-lanes equal-lanes shl-lanes shr-lanes shuffle-lanes shift-quad
       says-ins (Mov64 dst src) fits = says-get _ _ (says-source src _ _ (λ e. says-keep dst _ _ (λ _. is src (fits .1) e)))
       says-ins (Add64 dst src) fits =
-          says-get _ _ (says-sum dst src fits (Add64 dst src) (λ a b. (a + b) % 2 ^ 64) (λ a b. add-flags (env .fill) (s .flags) a b 0))
+          says-get _ _ (says-two dst src fits (Add64 dst src) (λ a b. (a + b) % 2 ^ 64) (λ a b. add-flags (env .fill) (s .flags) a b 0))
       says-ins (AddLea64 dst src1 src2) fits =
           says-get _ _ (says-source src1 _ _ (λ e. says-source src2 _ _ (λ g.
           says-keep dst _ _ (λ _. ap₂ (λ a b. (a + b) % 2 ^ 64) (is src1 (fits .1 .0) e) (is src2 (fits .1 .1) g)))))
       says-ins (AddCarry64 dst src) fits = says-carry dst src fits
       says-ins (Adcx64 dst src) fits =
           let c = bit (cf (s .flags)) in
-          says-get _ _ (says-sum dst src fits (Adcx64 dst src) (λ a b. (a + b + c) % 2 ^ 64) (λ a b. update-cf (s .flags) (leb (2 ^ 64) (a + b + c))))
+          says-get _ _ (says-two dst src fits (Adcx64 dst src) (λ a b. (a + b + c) % 2 ^ 64) (λ a b. update-cf (s .flags) (leb (2 ^ 64) (a + b + c))))
       says-ins (Adox64 dst src) fits =
           let c = bit (overflow (s .flags)) in
-          says-get _ _ (says-sum dst src fits (Adox64 dst src) (λ a b. (a + b + c) % 2 ^ 64) (λ a b. update-of (s .flags) (leb (2 ^ 64) (a + b + c))))
+          says-get _ _ (says-two dst src fits (Adox64 dst src) (λ a b. (a + b + c) % 2 ^ 64) (λ a b. update-of (s .flags) (leb (2 ^ 64) (a + b + c))))
       says-ins (Sub64 dst src) fits = says-get _ _ (says-binary dst src fits (Sub64 dst src) (sub-mod 64))
       says-ins (Mul64 src) fits = says-mul src fits
       says-ins (Mulx64 dst-hi dst-lo src) fits = says-mulx dst-hi dst-lo src (fits .1 .1)
       says-ins (IMul64 dst src) fits = says-get _ _ (says-binary dst src fits (IMul64 dst src) (λ a b. (a * b) % 2 ^ 64))
-      says-ins (Xor64 dst src) fits =
-          says-get _ _ (says-source src _ _ (λ e. says-flags dst (Xor64 dst src) _ _ (Source.update-cf-of false false) _
-          (λ d. two-are (ixor 64) dst src fits d e) (λ d t. refl)))
+      says-ins (Xor64 dst src) fits = says-get _ _ (says-cleared dst src fits (Xor64 dst src) (ixor 64))
       says-ins (And64 dst src) fits = says-get _ _ (says-binary dst src fits (And64 dst src) (iand 64))
       says-ins (Shr64 dst amt) fits = says-get _ _ (says-shift dst amt fits (Shr64 dst amt) ishr)
       says-ins (Shl64 dst amt) fits = says-get _ _ (says-shift dst amt fits (Shl64 dst amt) (ishl 64))
@@ -373,13 +382,11 @@ module _ (env : Env) where
       says-ins (Pinsrq dst src index) fits = says-get _ _ (says-insert dst src (fits .1 .1) (λ a. insert-nat64 (xmm-at (s .xmms) dst) a (index % 2)))
       says-ins (VPSLLDQ dst src count) fits =
           says-get _ _ (says-then p s _ _ s s _ 35 _ (check-gate 35 (λ _. eqb count 4) s _ h refl) (λ _. says-xmm dst _ _ refl))
-      says-ins (Popcnt64 dst src) fits =
-          says-get _ _ (says-source src _ _ (λ e. says-flags dst (Popcnt64 dst src) _ _ (Source.update-cf-of false false) _
-          (λ d. ap (popcnt 64) (is src (fits .1) e)) (λ d t. refl)))
+      says-ins (Popcnt64 dst src) fits = says-get _ _ (says-cleared dst src fits (Popcnt64 dst src) (λ a b. popcnt 64 b))
       says-ins (Lzcnt64 dst src) fits =
-          says-get _ _ (says-sum dst src fits (Lzcnt64 dst src) (λ a b. lzcnt 64 b) (λ a b. update-cf (env .fill) (eqb b 0)))
+          says-get _ _ (says-two dst src fits (Lzcnt64 dst src) (λ a b. lzcnt 64 b) (λ a b. update-cf (env .fill) (eqb b 0)))
       says-ins (Tzcnt64 dst src) fits =
-          says-get _ _ (says-sum dst src fits (Tzcnt64 dst src) (λ a b. tzcnt 64 b) (λ a b. update-cf (env .fill) (eqb b 0)))
+          says-get _ _ (says-two dst src fits (Tzcnt64 dst src) (λ a b. tzcnt 64 b) (λ a b. update-cf (env .fill) (eqb b 0)))
 
 -- without its notes an instruction is the source's
 module _ (load-mem64 : ℤ → Memory → ℕ) (int-to-nat64 : ℤ → ℕ) (fill : ℕ) where

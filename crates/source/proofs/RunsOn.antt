@@ -1,7 +1,7 @@
 -- What the source leaves where a check may fail: it clears ok and runs on, and no check and no write looks at ok.
 use Prim.Native.Nat.{ℕ}
 use mathlib.Core.Path.{_≡_, refl, ap}
-use mathlib.Core.Bool.{Bool, true, false, _&&_, cond}
+use mathlib.Core.Bool.{Bool, true, false, _&&_, cond, and-self}
 use lib.IntN.{ℤ}
 use Rattle.words.specs.Flags.{update-cf, update-of}
 use Rattle.machine.specs.Operands.{valid-dst}
@@ -11,29 +11,26 @@ use Rattle.machine.specs.declared.Operand.the-variants.{OConst, OReg, OMem}
 use Rattle.code.specs.declared.tree.Instruction.{Instruction}
 use Rattle.source.specs.Source.{State, with-ok, with-flags, St, return, _>>=_, _>>_, get, fail, check, eval-maddr, update-reg′, update-mem, valid-operand, valid-dst-operand, update-operand-preserve-flags′, update-flags, update-cf-of, update-operand′, update-operand}
 
--- ---- `let?` ands ok of three states, each as clear as the one before
-and-dst : (a b : Bool) → (a && (a && b) && (a && b && (a && b) && (a && b))) ≡ (a && b)
-and-dst true true = refl
-and-dst true false = refl
-and-dst false b = refl
+-- ---- `let?` ands ok of three states, each as clear as the one before: what is left behind a checked write, one to a constant, a check and a
+-- checked write, and `get`
+ok-written : (a b : Bool) → (a && (a && b) && (a && b && (a && b) && (a && b))) ≡ (a && b)
+ok-written true true = refl
+ok-written true false = refl
+ok-written false b = refl
 
-and-const : (a b : Bool) → (a && (a && false) && b) ≡ (a && false)
-and-const true b = refl
-and-const false b = refl
+ok-constant : (a b : Bool) → (a && (a && false) && b) ≡ (a && false)
+ok-constant true b = refl
+ok-constant false b = refl
 
-and-both : (a b c : Bool) → (a && (a && b) && (a && b && (a && b && c) && (a && b && c))) ≡ (a && b && c)
-and-both true true true = refl
-and-both true true false = refl
-and-both true false c = refl
-and-both false b c = refl
+ok-checked-twice : (a b c : Bool) → (a && (a && b) && (a && b && (a && b && c) && (a && b && c))) ≡ (a && b && c)
+ok-checked-twice true true true = refl
+ok-checked-twice true true false = refl
+ok-checked-twice true false c = refl
+ok-checked-twice false b c = refl
 
-and-get : (a b c : Bool) → (a && a && (a && b && c)) ≡ (a && b && c)
-and-get true b c = refl
-and-get false b c = refl
-
-and-same : (a : Bool) → (a && a && a) ≡ a
-and-same true = refl
-and-same false = refl
+ok-got : (a b c : Bool) → (a && a && (a && b && c)) ≡ (a && b && c)
+ok-got true b c = refl
+ok-got false b c = refl
 
 -- ---- checks and writes
 check-leaves : (valid : State → Bool) (s : State) → check valid s ≡ (tt, with-ok (s .ok && valid s) s)
@@ -62,28 +59,27 @@ write-ok (OMem m) v ok ok′ s = refl
 -- flags that are put, whatever they were
 pub put-flags : (fill flags : ℕ) (t : State) → update-flags flags (with-flags fill t) ≡ (tt, with-flags flags t)
 unfolding update-flags _>>=_
-put-flags fill flags t = rw and-same
+put-flags fill flags t = simp and-self
 
 pub clear-flags : (fill : ℕ) (t : State) → update-cf-of false false (with-flags fill t) ≡ (tt, with-flags (update-cf (update-of fill false) false) t)
 unfolding update-cf-of _>>=_
-clear-flags fill t = rw and-same
+clear-flags fill t = simp and-self
 
--- what follows `get`
-got : (f : State → St (Unit {0})) (s : State) (b c : Bool) (u : State)
+behind-get : (f : State → St (Unit {0})) (s : State) (b c : Bool) (u : State)
     → f s s .1 ≡ with-ok (s .ok && b && c) u → (get >>= f) s .1 ≡ with-ok (s .ok && b && c) u
 unfolding _>>=_
-got f s b c u e = rw (e, and-get)
+behind-get f s b c u e = rw (e, ok-got)
 
 module _ (load-mem64 : ℤ → Memory → ℕ) (int-to-nat64 : ℤ → ℕ) (fill : ℕ) where
   update-leaves : (dst : Operand) (i : Instruction) (v : ℕ) (s : State)
       → update-operand load-mem64 int-to-nat64 fill dst i v s
       ≡ (tt, with-flags fill (with-ok (s .ok && valid-dst-operand dst s) (update-operand-preserve-flags′ dst v s)))
   unfolding update-operand update-operand′ update-operand-preserve-flags′ valid-dst-operand valid-operand valid-dst _>>=_
-  update-leaves (OConst n) i v s = rw check-leaves (ap (λ ok. (tt, with-ok ok (with-flags fill s))) (and-const (s .ok) _))
+  update-leaves (OConst n) i v s = rw check-leaves (ap (λ ok. (tt, with-ok ok (with-flags fill s))) (ok-constant (s .ok) _))
   update-leaves (OReg r) i v s =
-      rw check-leaves (ap (λ ok. (tt, with-ok ok (with-flags fill (update-reg′ r v s)))) (and-dst (s .ok) _))
+      rw check-leaves (ap (λ ok. (tt, with-ok ok (with-flags fill (update-reg′ r v s)))) (ok-written (s .ok) _))
   update-leaves (OMem m) i v s =
-      rw check-leaves (ap (λ ok. (tt, with-ok ok (with-flags fill (update-mem (eval-maddr m s) v s)))) (and-dst (s .ok) _))
+      rw check-leaves (ap (λ ok. (tt, with-ok ok (with-flags fill (update-mem (eval-maddr m s) v s)))) (ok-written (s .ok) _))
 
   -- a source is checked, a destination checked and written, and then flags are set by m
   one-write : (i : Instruction) (dst src : Operand) (v flags : ℕ) (m : St (Unit {0})) (s : State)
@@ -92,7 +88,7 @@ module _ (load-mem64 : ℤ → Memory → ℕ) (int-to-nat64 : ℤ → ℕ) (fil
       ≡ with-ok (s .ok && valid-operand src s && valid-dst-operand dst s) (with-flags flags (update-operand-preserve-flags′ dst v s))
   unfolding _>>=_
   one-write i dst src v flags m s sets =
-      rw (check-leaves, update-leaves, sets, valid-dst-ok, and-both) (ap (with-flags flags) (write-ok dst v _ _ s))
+      rw (check-leaves, update-leaves, sets, valid-dst-ok, ok-checked-twice) (ap (with-flags flags) (write-ok dst v _ _ s))
 
   -- the same behind `get`, of the state that it got
   pub runs-on : (i : Instruction) (dst src : Operand) (v : State → ℕ) (flags : ℕ) (m : State → St (Unit {0})) (s : State)
@@ -100,5 +96,5 @@ module _ (load-mem64 : ℤ → Memory → ℕ) (int-to-nat64 : ℤ → ℕ) (fil
       → (get >>= (λ s. check (valid-operand src) >> (update-operand load-mem64 int-to-nat64 fill dst i (v s) >> m s))) s .1
       ≡ with-ok (s .ok && valid-operand src s && valid-dst-operand dst s) (with-flags flags (update-operand-preserve-flags′ dst (v s) s))
   runs-on i dst src v flags m s sets =
-      got _ s (valid-operand src s) (valid-dst-operand dst s) (with-flags flags (update-operand-preserve-flags′ dst (v s) s))
+      behind-get _ s (valid-operand src s) (valid-dst-operand dst s) (with-flags flags (update-operand-preserve-flags′ dst (v s) s))
       (one-write i dst src (v s) flags (m s) s sets)

@@ -1,5 +1,6 @@
 -- X64.Semantics_s, transliterated, in its names; what needs no open place stands first. It runs on after a failed check.
 -- Where it is written another way than the text (Upstream names the places), Upstream says that the two are the same.
+-- F* has no Popcnt64, Lzcnt64 and Tzcnt64: their clauses of `eval-ins`, the last three, are request 2026-02's.
 -- Open places: every `load_mem64` and `int_to_nat64` that meets its clause is a parameter; `havoc` is the fill word.
 use Prim.Native.Nat.{ℕ, zero, suc, _+_, _*_, _%_, _^_}
 use mathlib.Core.Bool.{Bool, true, false, not, _&&_, cond}
@@ -392,7 +393,7 @@ module _ (load-mem64 : ℤ → Memory → ℕ) (int-to-nat64 : ℤ → ℕ) (fil
     let src-q = eval-xmm src s
     let shifted-xmm = mkfour 0 (src-q .lo0) (src-q .lo1) (src-q .hi2)
     update-xmm-preserve-flags dst shifted-xmm
-  -- F* has none of the last three: they go by request 2026-02
+  -- by request 2026-02
   eval-ins (Popcnt64 dst src) = do
     s ← get
     check (valid-operand src)
