@@ -27,7 +27,8 @@ stored job that is not refused:
 
 - proved: the static library. It checks code and cells, and then runs from the bytes.
 - plain (`bench/src/plain.rs`): safe Rust that reads the bytes as it goes and checks nothing beforehand. It is the
-  yardstick: it stays as it is, so that the ratios of two landings can be held side by side.
+  yardstick: but for a function of its own for what a request adds it stays as it is, so that the ratios of two
+  landings can be held side by side.
 - decoded (`bench/src/decoded.rs`): safe Rust that first decodes the code into an array, with operands as values and
   structures as indexes, and runs from that. It checks nothing beforehand either.
 

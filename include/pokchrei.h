@@ -105,7 +105,7 @@ typedef struct pokchrei_build {
     uint16_t starts[32]; /* the place where it begins */
 } pokchrei_build;
 
-/* The kinds of records, in the names of the source and of document 02. */
+/* The kinds of records, in F*'s names; the last three, which F* has not, are request 2026-02's. */
 enum pokchrei_instruction {
     POKCHREI_MOV64 = 0x01,
     POKCHREI_ADD64 = 0x02,
@@ -132,8 +132,8 @@ enum pokchrei_instruction {
     POKCHREI_PINSRQ = 0x17,
     POKCHREI_VPSLLDQ = 0x18,
     /*
-     * Counts of the source's 64 bits, written to the destination, which is not read. Flags become the fill word; POPCNT64
-     * clears carry and overflow in it, the other two set its carry where the source is 0 and clear it elsewhere.
+     * Counts of the source's 64 bits, written to the destination, which is not read. The fill word is left in the flags:
+     * by POPCNT64 without carry and overflow, by the other two with carry where the source is 0 and without elsewhere.
      */
     POKCHREI_POPCNT64 = 0x19, /* its ones */
     POKCHREI_LZCNT64 = 0x1a,  /* its zeros above the highest one; 64 for 0 */

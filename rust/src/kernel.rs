@@ -76,14 +76,14 @@ pub enum Instruction {
     Pinsrd(Xmm, Operand, u8),
     Pinsrq(Xmm, Operand, u8),
     VPSLLDQ(Xmm, Xmm, u8),
-    /// The ones of the source's 64 bits. The destination is not read, here and in the two below. Flags become the fill
-    /// word with carry and overflow cleared.
+    /// The ones of the source's 64 bits. The destination is not read, here and in the two below. Leaves the fill word in
+    /// the flags, without carry and overflow.
     Popcnt64(Operand, Operand),
-    /// The zeros above the highest one of the source, 64 for 0. Flags become the fill word with carry set exactly for a
-    /// source of 0.
+    /// The zeros above the highest one of the source, 64 for 0. Leaves the fill word in the flags, with carry where the
+    /// source is 0 and without elsewhere.
     Lzcnt64(Operand, Operand),
-    /// The zeros below the lowest one of the source, 64 for 0. Flags become the fill word with carry set exactly for a
-    /// source of 0.
+    /// The zeros below the lowest one of the source, 64 for 0. Leaves the fill word in the flags, with carry where the
+    /// source is 0 and without elsewhere.
     Tzcnt64(Operand, Operand),
 }
 

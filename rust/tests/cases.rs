@@ -96,7 +96,8 @@ fn counts_and_their_flags() {
                 let code = [0x19 + i as u8, 0x41, 0, 0x41, 0];
                 let (answer, state) = run_alone(&code, source, 9, Setting { fill, fuel: 0 });
                 let end = (answer, state.regs[0], state.flags);
-                assert_eq!(end, (Answer::Done, expected[i], flags), "{code:?}");
+                let expected = (Answer::Done, expected[i], flags);
+                assert_eq!(end, expected, "{code:?}, source {source}, fill {fill}");
             }
         }
     }

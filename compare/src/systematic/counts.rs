@@ -54,7 +54,7 @@ fn flags(count: OfTwo) -> Vec<Job> {
     let mut jobs = Vec::new();
     for fill in [0, 1, 2048, 2049, TOP] {
         for old in [0, 1, 2048, 2049] {
-            for word in [0, 6] {
+            for word in [0, 6, TOP] {
                 let job = bare(ins(count(reg(TARGET), number(word))));
                 jobs.push(job.fill(fill).flags(old));
             }
