@@ -1,6 +1,5 @@
--- Each text has the paragraph's clause: the run's and the byte machine's compute to it, and the source's has it by `runs-on`, whether its checks pass
--- or not.
--- A record of one instruction is read back as what was written.
+-- Each text has the paragraph's clause: the run's and the byte machine's compute to it, and the source's has it by `runs-on`, whether its checks
+-- pass or not. A record of one instruction is read back as what was written.
 use Prim.Native.Nat.{ℕ, _≤_}
 use mathlib.Core.Path.{_≡_, refl, _∙_, ap, subst, subst⁻¹}
 use mathlib.Core.Bool.{false}
