@@ -62,7 +62,7 @@ module _ (env : Env) (memory : ByteMemory) where
     -- ---- the shapes of an instruction
     wrote : (p : ℕ) (dst : Operand) (v flags : ℕ) → v < 2 ^ 64 → write env p dst v flags s ≡ ends done t → Goes (flagged flags (put-to dst v (at s))) s t
     wrote p dst v flags h e =
-        let c = passed _ 32 p s _ t e in
+        let c = passed _ _ p s _ t e in
         subst (λ x. Goes (flagged flags (put-to dst v (at s))) s x) (is-done (c .1)) (follows-flags env memory flags (puts env memory dst v s (c .0) h kept))
 
     -- a destination is read and written with a source, and the flags are made of the two words
@@ -70,8 +70,8 @@ module _ (env : Env) (memory : ByteMemory) where
         → (let a = eval-operand env dst s in let b = eval-operand env src s in read-check env p src s (write env p dst (f a b) (g a b) s)) ≡ ends done t
         → Goes (flagged (g (read dst (at s)) (read src (at s))) (put-to dst (f (read dst (at s)) (read src (at s))) (at s))) s t
     combined p dst src f g fits h e =
-        let c = passed _ 31 p s _ t e in
-        let d = passed _ 32 p s _ t (c .1) in
+        let c = passed _ _ p s _ t e in
+        let d = passed _ _ p s _ t (c .1) in
         rw (reads env memory dst s (dst-valid env dst s (d .0)) kept, reads env memory src s (c .0) kept)
         (wrote p dst _ _ (h _ _ (operand-small env dst s (fits .0) kept) (operand-small env src s (fits .1) kept)) (c .1))
 
@@ -89,8 +89,8 @@ module _ (env : Env) (memory : ByteMemory) where
         → read-check env p a s (read-check env p b s (write env p dst (sum-mod 64 (eval-operand env a s + eval-operand env b s)) (s .flags) s)) ≡ ends done t
         → Goes (put-to dst (sum-mod 64 (read a (at s) + read b (at s))) (at s)) s t
     summed p dst a b e =
-        let c = passed _ 31 p s _ t e in
-        let d = passed _ 31 p s _ t (c .1) in
+        let c = passed _ _ p s _ t e in
+        let d = passed _ _ p s _ t (c .1) in
         rw (reads env memory a s (c .0) kept, reads env memory b s (d .0) kept)
         (unflagged dst _ (wrote p dst _ (s .flags) (sum-mod-lt 64 _) (d .1)))
 
@@ -99,9 +99,9 @@ module _ (env : Env) (memory : ByteMemory) where
         → amount-check env p amt s (write env p dst (f (eval-operand env dst s) (eval-operand env amt s)) (env .fill) s) ≡ ends done t
         → Goes (flagged (env .fill) (put-to dst (f (read dst (at s)) (read amt (at s))) (at s))) s t
     shifted p dst amt f fits h e =
-        let c = passed _ 31 p s _ t e in
+        let c = passed _ _ p s _ t e in
         let d = passed _ 33 p s _ t (c .1) in
-        let w = passed _ 32 p s _ t (d .1) in
+        let w = passed _ _ p s _ t (d .1) in
         rw (reads env memory dst s (dst-valid env dst s (w .0)) kept, reads env memory amt s (c .0) kept)
         (wrote p dst _ (env .fill) (h _ _ (operand-small env dst s (fits .0) kept) (operand-small env amt s (fits .1) kept)) (d .1))
 
@@ -126,8 +126,8 @@ module _ (env : Env) (memory : ByteMemory) where
         → Goes (put-to dst-hi hi (put-to dst-lo lo (at s))) s t
     halves p dst-hi dst-lo hi lo h l e =
         let u = update-operand env dst-lo lo s in
-        let c = passed _ 32 p s _ t e in
-        let d = passed _ 32 p s _ t (c .1) in
+        let c = passed _ _ p s _ t e in
+        let d = passed _ _ p s _ t (c .1) in
         let low = puts env memory dst-lo lo s (c .0) l kept in
         let high = puts env memory dst-hi hi u (d .0) h (low .kept) in
         subst (λ x. Goes (put-to dst-hi hi (put-to dst-lo lo (at s))) s x) (halves-kept env dst-lo dst-hi lo hi s ∙ is-done (d .1))
@@ -151,12 +151,12 @@ module _ (env : Env) (memory : ByteMemory) where
         combined p dst src (λ a b. sum-mod 64 (a + b + c)) (λ a b. update-of (s .flags) (sum-carry 64 (a + b + c))) fits (λ a b h k. sum-mod-lt 64 _) e
     follows-ins p (Sub64 dst src) fits e = combined p dst src (sub-mod 64) (λ a b. env .fill) fits (λ a b h k. sub-mod-lt 64 a b) e
     follows-ins p (Mul64 src) fits e =
-        let c = passed _ 31 p s _ t e in
+        let c = passed _ _ p s _ t e in
         let a = reg-at (s .regs) Rax in
         rw (reads env memory src s (c .0) kept)
         (multiplied _ _ (mul-div-lt 64 (kept .regs-words .small 0) (operand-small env src s fits kept)) (mul-mod-lt 64 a _) (c .1))
     follows-ins p (Mulx64 dst-hi dst-lo src) fits e =
-        let c = passed _ 31 p s _ t e in
+        let c = passed _ _ p s _ t e in
         let a = reg-at (s .regs) Rdx in
         rw (reads env memory src s (c .0) kept)
         (halves p dst-hi dst-lo _ _ (mul-div-lt 64 (kept .regs-words .small 3) (operand-small env src s (fits .1 .1) kept)) (mul-mod-lt 64 a _) (c .1))
@@ -175,11 +175,11 @@ module _ (env : Env) (memory : ByteMemory) where
     follows-ins p (Pextrq dst src index) fits e =
         unflagged dst _ (wrote p dst _ (s .flags) (extracted-lt (xmm-at (s .xmms) src) (index % 2) (xmm-quad src kept)) e)
     follows-ins p (Pinsrd dst src index) fits e =
-        let c = passed _ 31 p s _ t e in
+        let c = passed _ _ p s _ t e in
         rw (reads env memory src s (c .0) kept)
         (wrote-xmm p dst _ (s .flags) (insert-nat32-quad _ _ (index % 4) (xmm-quad dst kept) (omega arith)) (c .1))
     follows-ins p (Pinsrq dst src index) fits e =
-        let c = passed _ 31 p s _ t e in
+        let c = passed _ _ p s _ t e in
         rw (reads env memory src s (c .0) kept)
         (wrote-xmm p dst _ (s .flags) (insert-nat64-quad _ _ (index % 2) (xmm-quad dst kept)) (c .1))
     follows-ins p (VPSLLDQ dst src count) fits e =

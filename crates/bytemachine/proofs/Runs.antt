@@ -75,7 +75,7 @@ module _ (env : Env) (memory : ByteMemory) where
       → Both (run-ocmp env q c f g) (λ b. branch (env .fill) (test (env .fill) c b) l m b)
   unfolding run-ocmp branch choose
   both-ocmp q c f g l m F G s t k e =
-      let p = passed _ 31 q s _ t e in
+      let p = passed _ _ q s _ t e in
       rw (tests c s (p .0) k) (go (eval-ocmp env c s) (p .1))
     where
       go : (b : Bool) → choose b f g (with-flags (env .fill) s) ≡ ends done t → Reaches (branch (env .fill) b l m (at s)) s t

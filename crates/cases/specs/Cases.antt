@@ -12,7 +12,7 @@ use Rattle.words.specs.Sums.{sum-mod, sum-carry, sub-mod, mul-div, mul-mod}
 use Rattle.words.specs.Flags.{cf, overflow, update-cf, update-of}
 use Rattle.machine.specs.Bytes.{spelled}
 use Rattle.machine.specs.Registers.{Rax, xmm-at, set-xmm}
-use Rattle.machine.specs.Operands.{eval-maddr, valid-dst}
+use Rattle.machine.specs.Operands.{eval-maddr, wild, wild-operand, valid-dst}
 use Rattle.machine.specs.Cells.{Verdict, accepted, refused, is-tag, cell-rule, check-from, check-cells, find-cell, eqℤ}
 use Rattle.machine.specs.declared.Operand.the-variants.{OConst, OReg}
 use Rattle.code.specs.declared.tree.Instruction.the-variants.{Add64}
@@ -110,7 +110,7 @@ kernels =
     ∷ row never (no-cells 0) 1 zeros done zeros
     -- P11: reading MReg Rax, offset 1, into Rbx, Rax 2^64-1, a 64-bit cell at 0
     ∷ row (0x01 ∷ 0x41 ∷ 0x01 ∷ 0x43 ∷ 0x00 ∷ 0x01 ∷ 0x00 ∷ 0x00 ∷ 0x00 ∷ 0x00 ∷ 0x00 ∷ 0x00 ∷ 0x00 ∷ [])
-    (one-cell 0) 0 (with-values (6 ∷ []) (rax 18446744073709551615)) (fault 31 0) (with-values (6 ∷ []) (rax 18446744073709551615))
+    (one-cell 0) 0 (with-values (6 ∷ []) (rax 18446744073709551615)) (fault 36 0) (with-values (6 ∷ []) (rax 18446744073709551615))
     -- P12: Mov64 of 1 to Rsp
     ∷ row (0x01 ∷ 0x41 ∷ 0x07 ∷ 0x40 ∷ 0x01 ∷ 0x00 ∷ 0x00 ∷ 0x00 ∷ 0x00 ∷ 0x00 ∷ 0x00 ∷ 0x00 ∷ []) (no-cells 0) 0 zeros (fault 32 0) zeros
     -- P13: Pextrq (1,2,3,4) index 1 into Rax
@@ -128,7 +128,7 @@ unfoldable pub ran : Kernel → End
 unfolding run-of run-read run-checked run-code rounds run-ocmp continue check choose
     cell-of valid-operand eval-operand valid-dst-operand update-operand act run-ins valid-ocmp eval-ocmp add-flags two-word two-flags
     quads-word quads-flags shifts-word inserts-word
-    find-cell eqℤ eval-maddr valid-dst xmm-at set-xmm
+    find-cell eqℤ eval-maddr wild wild-operand valid-dst xmm-at set-xmm
     cf overflow update-cf update-of
     sum-mod sum-carry sub-mod mul-div mul-mod shl-lanes shuffle-lanes shift-quad
     to-vec from-vec map2 xor ixor ishl nat-to-four two-select two-to-nat four-select four-insert
@@ -143,7 +143,7 @@ unfoldable pub ends-of : List Kernel → List End
 ends-of [] = []
 ends-of (k ∷ ks) = ran k ∷ ends-of ks
 
--- what document 01 names for each row
+-- what document 01 names for each row, and for P11 request 2026-03
 unfoldable pub named : List Kernel → List End
 named [] = []
 named (k ∷ ks) = k .end ∷ named ks

@@ -9,6 +9,7 @@ use lib.IntN.{ℤ}
 use lib.ListN.{length}
 use Rattle.words.specs.Counts.{popcnt, lzcnt, tzcnt}
 use Rattle.words.specs.Flags.{cf, overflow, update-cf, update-of}
+use Rattle.machine.specs.Operands.{wild-or}
 use Rattle.machine.specs.Memory.{Memory}
 use Rattle.machine.specs.declared.Operand.{Operand}
 use Rattle.code.specs.declared.tree.Instruction.{Instruction}
@@ -34,12 +35,13 @@ pub record Counts (kind : ℕ) (ins : Operand → Operand → Instruction) (coun
   -- a record of this kind has a destination and a source
   pub is-read : (dst src : Operand) → WfOperand dst → WfOperand src
       → let bytes = kind ∷ bytes-of-operands (dst ∷ src ∷ []) in parse bytes ≡ got (Ins 0 (ins dst src)) (length bytes)
-  -- the run: 31 of the source, then 32 of the destination, which is written and not read
+  -- the run: 31 or 36 of the source, then 32 or 36 of the destination, which is written and not read
   pub runs : (env : Env) (p : ℕ) (dst src : Operand) (s : Config)
       → let b = eval-operand env src s in
       run-ins env p (ins dst src) s
-      ≡ check (valid-operand env src s) 31 p s
-      (check (valid-dst-operand env dst s) 32 p s (ends done (with-flags (flags (env .fill) b) (update-operand env dst (count b) s))))
+      ≡ check (valid-operand env src s) (wild-or 31 src (s .regs)) p s
+      (check (valid-dst-operand env dst s) (wild-or 32 dst (s .regs)) p s
+      (ends done (with-flags (flags (env .fill) b) (update-operand env dst (count b) s))))
   -- the source: it runs on where one of the two checks fails, with ok clear
   pub evaluates : (load-mem64 : ℤ → Memory → ℕ) (int-to-nat64 : ℤ → ℕ) (fill : ℕ) (dst src : Operand) (s : Source.State)
       → let b = Source.eval-operand load-mem64 int-to-nat64 fill src s in

@@ -13,13 +13,13 @@ use Rattle.words.specs.Sums.{sum-mod, mul-div, mul-mod}
 use Rattle.words.specs.Types.{quad32, extract-nat64}
 use Rattle.words.specs.declared.Quad32.{Quad32}
 use Rattle.machine.specs.Registers.{reg-at, Rsp, xmm-at, set-xmm}
-use Rattle.machine.specs.Operands.{eval-maddr}
-use Rattle.machine.specs.Cells.{Verdict, accepted, verdict, check-cells, find-cell, index-of}
+use Rattle.machine.specs.Operands.{eval-maddr, wild}
+use Rattle.machine.specs.Cells.{Verdict, accepted, verdict, check-cells, find-cell, cell-in, is-wild}
 use Rattle.machine.specs.declared.Checked.{Checked}
 use Rattle.machine.specs.declared.Checked.the-variants.{Accepted, Refused}
 use Rattle.machine.specs.declared.reg.Reg.{Reg}
-use Rattle.machine.specs.declared.Found.{Found}
-use Rattle.machine.specs.declared.Found.the-variants.{At, Nothing}
+use Rattle.machine.specs.declared.Target.{Target}
+use Rattle.machine.specs.declared.Target.the-variants.{Cell, Absent, Wild}
 use Rattle.machine.specs.declared.Maddr.{Maddr}
 use Rattle.machine.specs.declared.Operand.{Operand}
 use Rattle.machine.specs.declared.Operand.the-variants.{OMem}
@@ -40,12 +40,12 @@ use Rattle.eval.specs.Config.{Env, Config, with-flags, ends}
 use Rattle.eval.specs.Config as Config
 use Rattle.eval.specs.Running.{run-of}
 use Rattle.eval.specs.Instructions.{checks-amount, two-word, two-flags, inserts-word, run-ins}
-use Rattle.eval.specs.Promises.{environment, held, Cells, CodeAt, CodesAt, InsAt, OcmpAt, codes-from, Loads, Resolves, no-slot, put-regs, put-values, comparison, Compares, ComparesAt, Ran, Runs, RunsIns, RunsAll}
+use Rattle.eval.specs.Promises.{environment, held, Cells, CodeAt, CodesAt, InsAt, OcmpAt, codes-from, Loads, Resolves, no-word, no-slot, put-regs, put-values, comparison, Compares, ComparesAt, Ran, Runs, RunsIns, RunsAll}
 use Rattle.eval.specs.declared.exit.Exit.{Exit}
 use Rattle.eval.specs.declared.operand.Loaded.{Loaded}
 use Rattle.eval.specs.declared.operand.Slot.{Slot}
 use Rattle.eval.specs.declared.comparison.Compared.{Compared}
-use Rattle.eval.proofs.OperandLaws.{load-constant, load-register, load-cell, load-none, resolve-constant, resolve-rsp, resolve-register, resolve-cell, resolve-none, cell-inside}
+use Rattle.eval.proofs.OperandLaws.{load-constant, load-register, load-cell, load-absent, load-wild, resolve-constant, resolve-rsp, resolve-register, resolve-cell, resolve-absent, resolve-wild, cell-inside}
 use Rattle.eval.proofs.InstructionLaws.{exit, ran-stood, load-at, slot-at, plus-none, two-unread, two-amount, two-unwritten, two-done, lea-unread, lea-unread-second, lea-unwritten, lea-done, mul-unread, mul-done, mulx-unread, mulx-unwritten, mulx-unresolved, mulx-done}
 use Rattle.eval.proofs.LaneLaws.{extract-unwritten, extract-done, inserts-unread, inserts-done}
 use Rattle.eval.proofs.ComparisonLaws.{stands-inside, first-unread, second-unread, compared}
@@ -53,9 +53,10 @@ use Rattle.eval.proofs.RunLaws.{code-refused, cells-refused}
 use Rattle.eval.proofs.CycleLaws.{code-frame, starts, has-length, block-inside, choice-inside, loop-inside, how-done, ins-ran, codes-past, Going, next-there, next-past, block-codes, block-ran, if-unread, Chosen, chosen-there, chosen-ran, Looping, loop-ran, loop-spent, loop-unread, loop-done, Round, round-ends, round-there, round-goes, round-stops}
 
 -- ---- an operand, of which a form was decoded, and the place next behind it
-abbrev Finds : List ℕ → List ℕ → List ℕ → List ℕ → ℕ → Found → Type 0
+abbrev Finds : List ℕ → List ℕ → List ℕ → List ℕ → ℕ → Target → Type 0
 Finds addresses tags regs bs at f =
-    (m : Maddr) → operand-at bs at ≡ OMem m → index-of f ≡ find-cell addresses tags (eval-maddr m regs)
+    (m : Maddr) → operand-at bs at ≡ OMem m →
+    (cell-in f ≡ find-cell addresses tags (eval-maddr m regs)) × (is-wild f ≡ wild (eval-maddr m regs))
 
 module _ (addresses tags regs values bs : List ℕ) (at next : ℕ) (is-next : next ≡ behind bs at) (form : Form)
     (is : form ≡ form-of (operand-at bs at)) where
@@ -70,17 +71,17 @@ module _ (addresses tags regs values bs : List ℕ) (at next : ℕ) (is-next : n
       pub loads-constant : Load (record { number = 0; word = n; next = next })
       loads-constant = rw is-next (load-constant _ _ _ _ _ _ fill flags xmms n (constant-is _ n (sym is ∙ constant)))
 
-      pub no-constant : (t : Slot) → t ≡ no-slot next → Resolve t
-      no-constant t e = resolve-constant _ _ _ _ _ _ fill flags xmms n (constant-is _ n (sym is ∙ constant)) t (e ∙ ap no-slot is-next)
+      pub no-constant : (t : Slot) → t ≡ no-slot 32 next → Resolve t
+      no-constant t e = resolve-constant _ _ _ _ _ _ fill flags xmms n (constant-is _ n (sym is ∙ constant)) t (e ∙ ap (no-slot 32) is-next)
 
     module _ (r : Reg) (register : form ≡ Register r) where
       pub loads-register : Load (record { number = 0; word = reg-at regs r; next = next })
       loads-register = rw is-next (load-register _ _ _ _ _ _ fill flags xmms r (register-is _ r (sym is ∙ register)))
 
       module _ (b : Bool) (rsp : b ≡ eqb (r .number) (Rsp .number)) where
-        pub no-rsp : b ≡ true → (t : Slot) → t ≡ no-slot next → Resolve t
+        pub no-rsp : b ≡ true → (t : Slot) → t ≡ no-slot 32 next → Resolve t
         no-rsp h t e =
-            resolve-rsp _ _ _ _ _ _ fill flags xmms r (register-is _ r (sym is ∙ register)) b rsp h t (e ∙ ap no-slot is-next)
+            resolve-rsp _ _ _ _ _ _ fill flags xmms r (register-is _ r (sym is ∙ register)) b rsp h t (e ∙ ap (no-slot 32) is-next)
 
         pub resolves-register :
             b ≡ false → OperandBytes bs at →
@@ -89,27 +90,33 @@ module _ (addresses tags regs values bs : List ℕ) (at next : ℕ) (is-next : n
             let q = register-is _ r (sym is ∙ register) in
             rw is-next (resolve-register _ _ _ _ _ _ fill flags xmms r q b rsp h (register-below bs at stands r q))
 
-    module _ (memory : form ≡ Memory) (f : Found) (found : Finds addresses tags regs bs at f) where
-      pub loads-cell : (i : ℕ) → f ≡ At i → Load (record { number = 0; word = getD values i 0; next = next })
+    module _ (memory : form ≡ Memory) (f : Target) (found : Finds addresses tags regs bs at f) where
+      pub loads-cell : (i : ℕ) → f ≡ Cell i → Load (record { number = 0; word = getD values i 0; next = next })
       loads-cell i e = rw is-next (load-cell _ _ _ _ _ _ fill flags xmms form is memory f found i e)
 
-      pub loads-none : f ≡ Nothing → Load (record { number = 31; word = 0; next = next })
-      loads-none e = rw is-next (load-none _ _ _ _ _ _ fill flags xmms form is memory f found e)
+      pub loads-absent : f ≡ Absent → (r : Loaded) → r ≡ no-word 31 next → Load r
+      loads-absent e r g = load-absent _ _ _ _ _ _ fill flags xmms form is memory f found e r (g ∙ ap (no-word 31) is-next)
+
+      pub loads-wild : f ≡ Wild → (r : Loaded) → r ≡ no-word 36 next → Load r
+      loads-wild e r g = load-wild _ _ _ _ _ _ fill flags xmms form is memory f found e r (g ∙ ap (no-word 36) is-next)
 
       pub resolves-cell :
-          (i : ℕ) → f ≡ At i → Cells addresses tags values →
+          (i : ℕ) → f ≡ Cell i → Cells addresses tags values →
           Resolve (record { how = 1; index = i; word = getD values i 0; next = next })
       resolves-cell i e cells = rw is-next (resolve-cell _ _ _ _ _ _ fill flags xmms form is memory f found i e cells)
 
-      pub no-cell : f ≡ Nothing → (t : Slot) → t ≡ no-slot next → Resolve t
-      no-cell e t g = resolve-none _ _ _ _ _ _ fill flags xmms form is memory f found e t (g ∙ ap no-slot is-next)
+      pub no-cell : f ≡ Absent → (t : Slot) → t ≡ no-slot 32 next → Resolve t
+      no-cell e t g = resolve-absent _ _ _ _ _ _ fill flags xmms form is memory f found e t (g ∙ ap (no-slot 32) is-next)
+
+      pub no-address : f ≡ Wild → (t : Slot) → t ≡ no-slot 36 next → Resolve t
+      no-address e t g = resolve-wild _ _ _ _ _ _ fill flags xmms form is memory f found e t (g ∙ ap (no-slot 36) is-next)
 
 -- f is what was found for a memory operand, in some registers
-pub record IsFound (addresses tags bs : List ℕ) (at : ℕ) (f : Found) : Type 0 where
+pub record IsFound (addresses tags bs : List ℕ) (at : ℕ) (f : Target) : Type 0 where
   pub regs : List ℕ
   pub found : Finds addresses tags regs bs at f
 
-pub is-found : (addresses tags regs bs : List ℕ) (at : ℕ) (f : Found) → Finds addresses tags regs bs at f → IsFound addresses tags bs at f
+pub is-found : (addresses tags regs bs : List ℕ) (at : ℕ) (f : Target) → Finds addresses tags regs bs at f → IsFound addresses tags bs at f
 is-found addresses tags regs bs at f h = record { regs = regs; found = h }
 
 module _ (bs : List ℕ) (at : ℕ) (form : Form) (is : form ≡ form-of (operand-at bs at)) where
@@ -119,8 +126,8 @@ module _ (bs : List ℕ) (at : ℕ) (form : Form) (is : form ≡ form-of (operan
   pub is-memory : form ≡ Memory → form-of (operand-at bs at) ≡ Memory
   is-memory memory = sym is ∙ memory
 
-  module _ (addresses tags values : List ℕ) (cells : Cells addresses tags values) (memory : form ≡ Memory) (f : Found)
-      (w : IsFound addresses tags bs at f) (i : ℕ) (e : f ≡ At i) where
+  module _ (addresses tags values : List ℕ) (cells : Cells addresses tags values) (memory : form ≡ Memory) (f : Target)
+      (w : IsFound addresses tags bs at f) (i : ℕ) (e : f ≡ Cell i) where
     pub found-inside : i < length values
     found-inside = cell-inside addresses tags (w .regs) values _ 0 0 0 [] form is memory f (w .found) i e cells
 

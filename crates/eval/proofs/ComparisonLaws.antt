@@ -2,19 +2,20 @@
 use Prim.Native.Nat.{ℕ, _+_, _≤_}
 use mathlib.Core.Path.{_≡_, refl, subst, _∙_}
 use mathlib.Core.Bool.{Bool, true, _&&_, cond}
-use mathlib.Core.List.{List}
+use mathlib.Core.List.{List, [], _∷_}
 use native.Mathlib.Omega.{arith}
 use lib.ListN.{length}
+use Rattle.machine.specs.Operands.{wild-or, unread-number}
 use Rattle.machine.specs.declared.Operand.{Operand}
 use Rattle.code.specs.Records.{is-ocmp, byte-at, behind, operand-at, ocmp-at}
 use Rattle.code.specs.Spells.{Stands}
 use Rattle.code.proofs.KindLaws.{each, _▹_}
 use Rattle.code.proofs.CodeFrames.{ocmp-operands, ocmp-frame}
 use Rattle.eval.specs.Config.{Env, Config}
-use Rattle.eval.specs.Instructions.{valid-operand, eval-operand, valid-ocmp, eval-ocmp}
+use Rattle.eval.specs.Instructions.{valid-operand, eval-operand, valid-ocmp, ocmp-number, eval-ocmp}
 use Rattle.eval.specs.Promises.{Loads, comparison, Compares}
 use Rattle.eval.specs.declared.operand.Loaded.{Loaded}
-use Rattle.eval.proofs.InstructionLaws.{passes, fails}
+use Rattle.eval.proofs.InstructionLaws.{passes, fails, above-one, wild-or-above}
 
 -- one record stands at a place, so that it lies inside the bytes wherever it is said to end
 pub stands-inside :
@@ -34,19 +35,20 @@ module _ (env : Env) (s : Config) (bs : List ℕ) (at e : ℕ) (stands : Stands 
   Said k =
       byte-at bs at ≡ k →
       (valid-ocmp env (ocmp-at bs at) s ≡ valid-operand env one s && valid-operand env other s)
+      × (ocmp-number env (ocmp-at bs at) s ≡ unread-number (λ o. valid-operand env o s) (s .regs) (one ∷ other ∷ []))
       × (eval-ocmp env (ocmp-at bs at) s ≡ comparison k (eval-operand env one s) (eval-operand env other s))
 
   said : Said (byte-at bs at)
-  unfolding valid-ocmp eval-ocmp comparison
+  unfolding valid-ocmp ocmp-number eval-ocmp comparison
   said =
       let w = ocmp-frame bs at e stands inside in
       each Said 6 0x30
-      ((λ h. (rw (w .eq h), rw (w .eq h)))
-      ▹ (λ h. (rw (w .ne h), rw (w .ne h)))
-      ▹ (λ h. (rw (w .le h), rw (w .le h)))
-      ▹ (λ h. (rw (w .ge h), rw (w .ge h)))
-      ▹ (λ h. (rw (w .lt h), rw (w .lt h)))
-      ▹ (λ h. (rw (w .gt h), rw (w .gt h)))
+      ((λ h. (rw (w .eq h), rw (w .eq h), rw (w .eq h)))
+      ▹ (λ h. (rw (w .ne h), rw (w .ne h), rw (w .ne h)))
+      ▹ (λ h. (rw (w .le h), rw (w .le h), rw (w .le h)))
+      ▹ (λ h. (rw (w .ge h), rw (w .ge h), rw (w .ge h)))
+      ▹ (λ h. (rw (w .lt h), rw (w .lt h), rw (w .lt h)))
+      ▹ (λ h. (rw (w .gt h), rw (w .gt h), rw (w .gt h)))
       ▹ tt)
       (byte-at bs at) (w .low) (omega (arith, w .high))
 
@@ -54,9 +56,13 @@ module _ (env : Env) (s : Config) (bs : List ℕ) (at e : ℕ) (stands : Stands 
   pub first-unread :
       (a : Loaded) → Loads env s one (behind bs (at + 1)) a → (a .number ≡ 0 → ⊥) →
       Compares env s (ocmp-at bs at) e (record { how = a .number; next = a .next })
+  unfolding unread-number
   first-unread a la h =
-      let w = fails (valid-operand env one s) (a .number) 31 (la .number) h in
-      record { how = rw (said refl .0, w .0) (w .1); next = λ l. absurd (omega (arith, w .1)) }
+      let w = fails (valid-operand env one s) (a .number) _ (la .number) h in
+      record {
+        how = rw (said refl .0, said refl .1, w .0) (w .1);
+        next = λ l. absurd (omega (arith, l, w .1, wild-or-above 31 one (s .regs) (omega arith)));
+      }
 
   module _ (a b : Loaded) (la : Loads env s one (behind bs (at + 1)) a)
       (lb : Loads env s (operand-at bs (a .next)) (behind bs (a .next)) b) (x : a .number ≡ 0) where
@@ -67,13 +73,14 @@ module _ (env : Env) (s : Config) (bs : List ℕ) (at e : ℕ) (stands : Stands 
     ends-there = second .next ∙ ocmp-frame bs at e stands inside .operands .ends
 
     one-read : valid-operand env one s ≡ true
-    one-read = passes (valid-operand env one s) (a .number) 31 (la .number) (λ e. omega arith) x
+    one-read = passes (valid-operand env one s) (a .number) _ (la .number) (above-one (wild-or-above 31 one (s .regs) (omega arith))) x
 
     pub second-unread : (b .number ≡ 0 → ⊥) → Compares env s (ocmp-at bs at) e (record { how = b .number; next = b .next })
+    unfolding unread-number
     second-unread h =
-        let w = fails (valid-operand env other s) (b .number) 31 (second .number) h in
+        let w = fails (valid-operand env other s) (b .number) _ (second .number) h in
         record {
-          how = rw (said refl .0, one-read, w .0) (w .1);
+          how = rw (said refl .0, said refl .1, one-read, w .0) (w .1);
           next = λ _. ends-there;
         }
 
@@ -82,8 +89,8 @@ module _ (env : Env) (s : Config) (bs : List ℕ) (at e : ℕ) (stands : Stands 
         (h : Bool) → comparison (byte-at bs at) (a .word) (b .word) ≡ h →
         Compares env s (ocmp-at bs at) e (record { how = cond h 1 0; next = b .next })
     compared y h k =
-        let other-read = passes (valid-operand env other s) (b .number) 31 (second .number) (λ e. omega arith) y in
+        let other-read = passes (valid-operand env other s) (b .number) _ (second .number) (above-one (wild-or-above 31 other (s .regs) (omega arith))) y in
         record {
-          how = rw (said refl .0, one-read, other-read, said refl .1, ← (la .word x), ← (second .word y), k);
+          how = rw (said refl .0, one-read, other-read, said refl .2, ← (la .word x), ← (second .word y), k);
           next = λ _. ends-there;
         }

@@ -10,18 +10,19 @@ use borrow.Author.Tests.{eq-eqb, ne-eqb, eqb-true}
 use lib.Dec.{eqb}
 use lib.ListN.{length}
 use Rattle.code.specs.declared.tree.Ocmp.{Ocmp}
+use Rattle.code.specs.Layout.{ocmp-layout}
 use Rattle.code.specs.Tree.{Code, Codes, ⟨⟩, _∷ᶜ_}
 use Rattle.code.specs.Records.{is-ocmp, byte-at, number-at, ocmp-at}
 use Rattle.code.specs.Spells.{Stands, Spells, SpellsAll}
 use Rattle.code.proofs.Sound.{stands-past}
 use Rattle.code.proofs.CodeFrames.{Frame, frame, ins-there, block-there, if-there, while-there, first-there, none-there, list-of-one, structure-long}
 use Rattle.eval.specs.Config.{Env, Config, with-flags, Outcome, done, fault, spent, refused, End, ends, continue, and-then, check, choose}
-use Rattle.eval.specs.Instructions.{valid-ocmp, eval-ocmp}
+use Rattle.eval.specs.Instructions.{valid-operand, valid-ocmp, ocmp-number, eval-ocmp}
 use Rattle.eval.specs.Running.{run-ocmp, rounds, run-code, run-codes}
 use Rattle.eval.specs.Promises.{how, Ran, RunsIns, Compares, ComparesAt, CodeAt, CodesAt, codes-from, Runs, RunsAll}
 use Rattle.eval.specs.declared.exit.Exit.{Exit}
 use Rattle.eval.specs.declared.comparison.Compared.{Compared}
-use Rattle.eval.proofs.InstructionLaws.{exit}
+use Rattle.eval.proofs.InstructionLaws.{exit, check-fails, unread-above}
 
 pub code-frame : (bs : List ℕ) (at : ℕ) (c : CodeAt bs at) → Frame bs at (c .end)
 code-frame bs at c = frame (c .code) bs at (c .end) (c .spelled)
@@ -234,39 +235,53 @@ module _ (env : Env) (bs : List ℕ) (at e fuel : ℕ) (s : Config) (k : byte-at
         next = λ z. f .next z ∙ sym y;
       }
 
--- ---- what the number of a comparison says: v is whether it passes its check, and h whether it holds
-unread-of : (v h : Bool) (n : ℕ) → n ≡ cond v (cond h 1 0) 31 → 1 < n → (v ≡ false) × (n ≡ 31)
-unread-of true true n e k = absurd (omega arith)
-unread-of true false n e k = absurd (omega arith)
-unread-of false h n e k = (refl, e)
+-- ---- what the number of a comparison says: v is whether it passes its check, whose number is m, and h whether it holds
+module _ (v h : Bool) (m n : ℕ) (above : 1 < m) (e : n ≡ cond v (cond h 1 0) m) where
+  unread-of : 1 < n → (v ≡ false) × (n ≡ m)
+  unread-of k = go v h e
+    where
+      go : (v h : Bool) → n ≡ cond v (cond h 1 0) m → (v ≡ false) × (n ≡ m)
+      go true true e = absurd (omega (arith, e, k))
+      go true false e = absurd (omega (arith, e, k))
+      go false h e = (refl, e)
 
-holds-of : (v h : Bool) (n : ℕ) → n ≡ cond v (cond h 1 0) 31 → n ≤ 1 → (n ≡ 0 → ⊥) → (v ≡ true) × (h ≡ true)
-holds-of true true n e k l = (refl, refl)
-holds-of true false n e k l = absurd (l e)
-holds-of false h n e k l = absurd (omega arith)
+  holds-of : n ≤ 1 → (n ≡ 0 → ⊥) → (v ≡ true) × (h ≡ true)
+  holds-of k l = go v h e
+    where
+      go : (v h : Bool) → n ≡ cond v (cond h 1 0) m → (v ≡ true) × (h ≡ true)
+      go true true e = (refl, refl)
+      go true false e = absurd (l e)
+      go false h e = absurd (omega (arith, e, k, above))
 
-fails-of : (v h : Bool) (n : ℕ) → n ≡ cond v (cond h 1 0) 31 → n ≤ 1 → (n ≡ 1 → ⊥) → (v ≡ true) × (h ≡ false)
-fails-of true true n e k l = absurd (l e)
-fails-of true false n e k l = (refl, refl)
-fails-of false h n e k l = absurd (omega arith)
+  fails-of : n ≤ 1 → (n ≡ 1 → ⊥) → (v ≡ true) × (h ≡ false)
+  fails-of k l = go v h e
+    where
+      go : (v h : Bool) → n ≡ cond v (cond h 1 0) m → (v ≡ true) × (h ≡ false)
+      go true true e = absurd (l e)
+      go true false e = (refl, refl)
+      go false h e = absurd (omega (arith, e, k, above))
 
 module _ (env : Env) (q : ℕ) (c : Ocmp) (s : Config) (m : ℕ) (x : Compared) (w : Compares env s c m x) (f g : Config → End) where
+  above : 1 < ocmp-number env c s
+  unfolding ocmp-number
+  above = unread-above (λ o. valid-operand env o s) (s .regs) (ocmp-layout c .operands)
+
   ocmp-unread : 1 < x .how → run-ocmp env q c f g s ≡ ends (how (exit (x .how) q)) s
-  unfolding run-ocmp check
+  unfolding run-ocmp
   ocmp-unread h =
-      let z = unread-of (valid-ocmp env c s) (eval-ocmp env c s) (x .how) (w .how) h in
-      rw (z .1, z .0)
+      let z = unread-of (valid-ocmp env c s) (eval-ocmp env c s) (ocmp-number env c s) (x .how) above (w .how) h in
+      check-fails _ _ (x .how) q s _ (z .0) (z .1) h
 
   ocmp-holds : x .how ≤ 1 → (x .how ≡ 0 → ⊥) → run-ocmp env q c f g s ≡ f (with-flags (env .fill) s)
   unfolding run-ocmp check choose
   ocmp-holds h k =
-      let z = holds-of (valid-ocmp env c s) (eval-ocmp env c s) (x .how) (w .how) h k in
+      let z = holds-of (valid-ocmp env c s) (eval-ocmp env c s) (ocmp-number env c s) (x .how) above (w .how) h k in
       rw (z .0, z .1)
 
   ocmp-fails : x .how ≤ 1 → (x .how ≡ 1 → ⊥) → run-ocmp env q c f g s ≡ g (with-flags (env .fill) s)
   unfolding run-ocmp check choose
   ocmp-fails h k =
-      let z = fails-of (valid-ocmp env c s) (eval-ocmp env c s) (x .how) (w .how) h k in
+      let z = fails-of (valid-ocmp env c s) (eval-ocmp env c s) (ocmp-number env c s) (x .how) above (w .how) h k in
       rw (z .0, z .1)
 
 -- two choices by one test

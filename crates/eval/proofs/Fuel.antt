@@ -7,7 +7,7 @@ use native.Mathlib.Nat.{le-of-suc-le-suc, not-suc-le-zero}
 use Rattle.code.specs.declared.tree.Ocmp.{Ocmp}
 use Rattle.code.specs.Tree.{Code, Ins, Block, IfElse, While, Codes, ⟨⟩, _∷ᶜ_}
 use Rattle.eval.specs.Config.{Env, Config, with-flags, Outcome, done, fault, spent, refused, End, ends, continue, and-then, check, choose}
-use Rattle.eval.specs.Instructions.{valid-ocmp, eval-ocmp}
+use Rattle.eval.specs.Instructions.{valid-ocmp, ocmp-number, eval-ocmp}
 use Rattle.eval.specs.Running.{run-ocmp, rounds, run-code, run-codes}
 
 -- the end e, unless it is spent, is the end r too
@@ -61,7 +61,7 @@ module _ (env : Env) where
       EachKeeps f f′ → EachKeeps g g′ → EachKeeps (run-ocmp env q c f g) (run-ocmp env q c f′ g′)
   unfolding run-ocmp
   keeps-ocmp q c f g f′ g′ F G s =
-      keeps-check (valid-ocmp env c s) 31 q s _ _ (keeps-choose (eval-ocmp env c s) f g f′ g′ F G (with-flags (env .fill) s))
+      keeps-check (valid-ocmp env c s) (ocmp-number env c s) q s _ _ (keeps-choose (eval-ocmp env c s) f g f′ g′ F G (with-flags (env .fill) s))
 
   keeps-rounds :
       (body : ℕ → Config → End) → ((f g : ℕ) → f ≤ g → EachKeeps (body f) (body g)) →

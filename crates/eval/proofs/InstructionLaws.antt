@@ -3,13 +3,14 @@
 use Prim.Native.Nat.{ℕ, _+_, _≤_, _<_}
 use mathlib.Core.Path.{_≡_, refl, sym, ap, _∙_}
 use mathlib.Core.Bool.{Bool, true, false, _&&_, cond}
-use mathlib.Core.List.{List}
+use mathlib.Core.List.{List, [], _∷_}
 use native.Mathlib.Nat.{add-zero}
 use native.Mathlib.Omega.{arith}
-use borrow.Author.Tests.{lt-ltb, le-ltb, leb-true, leb-false}
+use borrow.Author.Tests.{lt-ltb, le-ltb, leb-true, leb-false, ne-eqb}
 use lib.Dec.{ltb, leb}
 use lib.ListN.{getD, set}
 use Rattle.words.specs.Sums.{sum-mod, mul-div, mul-mod}
+use Rattle.machine.specs.Operands.{wild-operand, wild-or, unread-number}
 use Rattle.machine.specs.declared.Operand.{Operand}
 use Rattle.code.specs.declared.tree.Instruction.{Instruction}
 use Rattle.code.specs.declared.tree.Instruction.the-variants.{AddLea64, Mul64, Mulx64}
@@ -39,9 +40,33 @@ fails false n m e h = (refl, e)
 pub above-one : {n : ℕ} → 1 < n → n ≡ 0 → ⊥
 above-one h e = omega (arith, h, e)
 
+-- the number of an operand's check is above 1
+pub wild-or-above : (n : ℕ) (o : Operand) (regs : List ℕ) → 1 < n → 1 < wild-or n o regs
+wild-or-above n o regs l = go (wild-operand o regs)
+  where
+    go : (b : Bool) → 1 < cond b 36 n
+    go true = omega arith
+    go false = l
+
+pub unread-above : (valid : Operand → Bool) (regs : List ℕ) (os : List Operand) → 1 < unread-number valid regs os
+unfolding unread-number
+unread-above valid regs [] = omega arith
+unread-above valid regs (o ∷ os) = go (valid o) (unread-above valid regs os)
+  where
+    go : (b : Bool) → 1 < unread-number valid regs os → 1 < cond b (unread-number valid regs os) (wild-or 31 o regs)
+    go true h = h
+    go false h = wild-or-above 31 o regs (omega arith)
+
 -- an exit with a number and a place
 abbrev pub exit : ℕ → ℕ → Exit
 exit n p = record { number = n; place = p }
+
+-- a check that fails with a number above 1 ends the run with it
+pub check-fails :
+    (b : Bool) (m n p : ℕ) (s : Config) (k : End) → b ≡ false → n ≡ m → 1 < n → check b m p s k ≡ ends (how (exit n p)) s
+unfolding check
+check-fails b m n p s k e is l =
+    rw (e, ← is, ne-eqb n 0 (λ z. omega (arith, z, l)), ne-eqb n 1 (λ z. omega (arith, z, l)))
 
 -- the exit of a check that failed
 pub failed : (e : End) (b n p : ℕ) (s : Config) → e ≡ ends (how (exit n p)) s → (n ≡ 0 → ⊥) → Ran e b (exit n p) s
@@ -55,11 +80,12 @@ finished e b q p t h z = record { ends = sym h; next = λ _. z }
 module _ (env : Env) (s : Config) (p : ℕ) (o : Operand) (n : ℕ) (r : Loaded) (loads : Loads env s o n r) (k : End) where
   pub readable : r .number ≡ 0 → read-check env p o s k ≡ k
   unfolding check
-  readable h = rw (passes (valid-operand env o s) (r .number) 31 (loads .number) (λ e. omega arith) h)
+  readable h = rw (passes (valid-operand env o s) (r .number) _ (loads .number) (above-one (wild-or-above 31 o (s .regs) (omega arith))) h)
 
   pub unreadable : (r .number ≡ 0 → ⊥) → read-check env p o s k ≡ ends (how (exit (r .number) p)) s
-  unfolding check
-  unreadable h = let w = fails (valid-operand env o s) (r .number) 31 (loads .number) h in rw (w .0, w .1)
+  unreadable h =
+      let w = fails (valid-operand env o s) (r .number) _ (loads .number) h in
+      check-fails _ _ (r .number) p s k (w .0) (w .1) (rw (w .1) (wild-or-above 31 o (s .regs) (omega arith)))
 
 module _ (env : Env) (s : Config) (p : ℕ) (o : Operand) (n : ℕ) (t : Slot) (resolves : Resolves env s o n t) where
   -- the configuration with a word in the slot
@@ -71,8 +97,7 @@ module _ (env : Env) (s : Config) (p : ℕ) (o : Operand) (n : ℕ) (t : Slot) (
   writable h k = rw (resolves .valid h)
 
   pub unwritable : 1 < t .how → (k : End) → write-check env p o s k ≡ ends (how (exit (t .how) p)) s
-  unfolding check
-  unwritable h k = let w = resolves .fails h in rw (w .0, w .1)
+  unwritable h k = let w = resolves .fails h in check-fails _ _ (t .how) p s k (w .0) (w .1) h
 
   pub wrote : t .how ≤ 1 → (v flags : ℕ) → write env p o v flags s ≡ ends done (with-flags flags (put-in v))
   wrote h v flags =
@@ -240,7 +265,7 @@ module _ (addresses tags regs xmms values : List ℕ) (fill flags p : ℕ) where
         run-ins env p (Mulx64 dst-hi dst-lo src) s
         ≡ read-check env p src s
         (write-check env p dst-lo s
-        (check (valid-dst-operand env dst-hi low) 32 p s
+        (check (valid-dst-operand env dst-hi low) (wild-or 32 dst-hi (low .regs)) p s
         (ends done (with-flags flags (update-operand env dst-hi (mul-div 64 (getD regs 3 0) (eval-operand env src s)) low)))))
     unfolding run-ins act low
     mulx-shape = refl
@@ -265,7 +290,7 @@ module _ (addresses tags regs xmms values : List ℕ) (fill flags p : ℕ) where
         module _ (l : ℕ) (u : Slot) (above : Resolves env (held regs′ xmms flags values) dst-hi l u) where
           mulx-passes :
               run-ins env p (Mulx64 dst-hi dst-lo src) s
-              ≡ check (valid-dst-operand env dst-hi (held regs′ xmms flags values)) 32 p s
+              ≡ check (valid-dst-operand env dst-hi (held regs′ xmms flags values)) (wild-or 32 dst-hi regs′) p s
               (ends done (with-flags flags (update-operand env dst-hi hi (held regs′ xmms flags values′))))
           mulx-passes =
               mulx-shape
@@ -274,10 +299,9 @@ module _ (addresses tags regs xmms values : List ℕ) (fill flags p : ℕ) where
               ∙ rw (after-low, valid-whatever env dst-hi (held regs′ xmms flags values) values′, is-hi, loads .word found)
 
           pub mulx-unresolved : 1 < u .how → Mulx (exit (u .how) p) s
-          unfolding check
           mulx-unresolved h =
               let w = above .fails h in
-              failed _ n (u .how) p s (mulx-passes ∙ rw (w .0, w .1)) (above-one h)
+              failed _ n (u .how) p s (mulx-passes ∙ check-fails _ _ (u .how) p s _ (w .0) (w .1) h) (above-one h)
 
           pub mulx-done :
               u .how ≤ 1 →

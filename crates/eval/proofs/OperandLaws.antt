@@ -2,18 +2,18 @@
 -- of the cells. Assumes nothing.
 use Prim.Native.Nat.{ℕ, _<_}
 use mathlib.Core.Path.{_≡_, refl, sym, ap, _∙_}
-use mathlib.Core.Bool.{Bool, true, false}
+use mathlib.Core.Bool.{Bool, true, false, cond}
 use mathlib.Core.List.{List}
-use mathlib.Core.Option.{none, some}
+use mathlib.Core.Option.{Option, none, some}
 use native.Mathlib.Omega.{arith}
 use lib.Dec.{eqb}
 use lib.ListN.{length, getD}
 use Rattle.machine.specs.Registers.{reg-at, Rsp}
-use Rattle.machine.specs.Operands.{eval-maddr}
-use Rattle.machine.specs.Cells.{find-cell, index-of}
+use Rattle.machine.specs.Operands.{eval-maddr, wild, wild-operand, wild-or}
+use Rattle.machine.specs.Cells.{find-cell, cell-in, is-wild}
 use Rattle.machine.specs.declared.reg.Reg.{Reg}
-use Rattle.machine.specs.declared.Found.{Found}
-use Rattle.machine.specs.declared.Found.the-variants.{At, Nothing}
+use Rattle.machine.specs.declared.Target.{Target}
+use Rattle.machine.specs.declared.Target.the-variants.{Cell, Absent, Wild}
 use Rattle.machine.specs.declared.Maddr.{Maddr}
 use Rattle.machine.specs.declared.Operand.{Operand}
 use Rattle.machine.specs.declared.Operand.the-variants.{OConst, OReg, OMem}
@@ -25,7 +25,7 @@ use Rattle.code.specs.declared.records.Form.the-variants.{Memory}
 use Rattle.code.proofs.Forms.{memory-is}
 use Rattle.eval.specs.Config.{Env, Config, with-values}
 use Rattle.eval.specs.Instructions.{cell-of, valid-operand, eval-operand, valid-dst-operand, update-operand}
-use Rattle.eval.specs.Promises.{environment, held, Cells, Loads, Resolves, no-slot}
+use Rattle.eval.specs.Promises.{environment, held, Cells, Loads, Resolves, no-word, no-slot}
 use Rattle.eval.specs.declared.operand.Loaded.{Loaded}
 use Rattle.eval.specs.declared.operand.Slot.{Slot}
 
@@ -44,13 +44,16 @@ module _ (addresses tags regs values : List ℕ) (o : Operand) (next : ℕ) (fil
   Resolve t = Resolves (environment addresses tags fill) (held regs xmms flags values) o next t
 
   -- ---- what is no destination
-  no-destination : (t : Slot) → t ≡ no-slot next → valid-dst-operand (environment addresses tags fill) o (held regs xmms flags values) ≡ false → Resolve t
-  no-destination t e invalid =
+  no-destination :
+      (n : ℕ) → 1 < n → n ≡ wild-or 32 o regs →
+      (t : Slot) → t ≡ no-slot n next →
+      valid-dst-operand (environment addresses tags fill) o (held regs xmms flags values) ≡ false → Resolve t
+  no-destination n l is t e invalid =
       rw e record {
-        valid = λ h. absurd (omega (arith, h));
-        fails = λ _. (invalid, refl);
-        writes = λ h. absurd (omega (arith, h));
-        bounds = λ h. absurd (omega (arith, h));
+        valid = λ h. absurd (omega (arith, h, l));
+        fails = λ _. (invalid, is);
+        writes = λ h. absurd (omega (arith, h, l));
+        bounds = λ h. absurd (omega (arith, h, l));
         next = refl;
       }
 
@@ -59,9 +62,9 @@ module _ (addresses tags regs values : List ℕ) (o : Operand) (next : ℕ) (fil
   unfolding valid-operand eval-operand
   load-constant n q = record { number = rw q; word = λ _. rw q; next = refl }
 
-  pub resolve-constant : (n : ℕ) → o ≡ OConst n → (t : Slot) → t ≡ no-slot next → Resolve t
-  unfolding valid-dst-operand valid-operand
-  resolve-constant n q t e = no-destination t e (rw (q, constant-no-dst n))
+  pub resolve-constant : (n : ℕ) → o ≡ OConst n → (t : Slot) → t ≡ no-slot 32 next → Resolve t
+  unfolding valid-dst-operand valid-operand wild-operand
+  resolve-constant n q t e = no-destination 32 (omega arith) (rw q) t e (rw (q, constant-no-dst n))
 
   -- ---- a register
   module _ (r : Reg) (q : o ≡ OReg r) where
@@ -70,11 +73,11 @@ module _ (addresses tags regs values : List ℕ) (o : Operand) (next : ℕ) (fil
     load-register = record { number = rw q; word = λ _. rw q; next = refl }
 
     module _ (b : Bool) (is : b ≡ eqb (r .number) (Rsp .number)) where
-      pub resolve-rsp : b ≡ true → (t : Slot) → t ≡ no-slot next → Resolve t
-      unfolding valid-dst-operand valid-operand
+      pub resolve-rsp : b ≡ true → (t : Slot) → t ≡ no-slot 32 next → Resolve t
+      unfolding valid-dst-operand valid-operand wild-operand
       resolve-rsp h t e =
           let p : eqb (r .number) 7 ≡ true = sym is ∙ h in
-          no-destination t e (rw (q, register-dst r, p))
+          no-destination 32 (omega arith) (rw q) t e (rw (q, register-dst r, p))
 
       pub resolve-register :
           b ≡ false → r .number < 16 →
@@ -90,10 +93,10 @@ module _ (addresses tags regs values : List ℕ) (o : Operand) (next : ℕ) (fil
             next = refl;
           }
 
-  -- ---- memory, by the form that was decoded and the cell that was found
+  -- ---- memory, by the form that was decoded and what it leads to
   module _
-      (form : Form) (is : form ≡ form-of o) (memory : form ≡ Memory) (f : Found)
-      (found : (m : Maddr) → o ≡ OMem m → index-of f ≡ find-cell addresses tags (eval-maddr m regs)) where
+      (form : Form) (is : form ≡ form-of o) (memory : form ≡ Memory) (f : Target)
+      (found : (m : Maddr) → o ≡ OMem m → (cell-in f ≡ find-cell addresses tags (eval-maddr m regs)) × (is-wild f ≡ wild (eval-maddr m regs))) where
     m : Maddr
     m = memory-is o (sym is ∙ memory) .0
 
@@ -101,9 +104,12 @@ module _ (addresses tags regs values : List ℕ) (o : Operand) (next : ℕ) (fil
     unfolding m
     q = memory-is o (sym is ∙ memory) .1
 
-    module _ (i : ℕ) (e : f ≡ At i) where
+    leads : {k : Option ℕ} → cell-in f ≡ k → find-cell addresses tags (eval-maddr m regs) ≡ k
+    leads e = sym (found m q .0) ∙ e
+
+    module _ (i : ℕ) (e : f ≡ Cell i) where
       here : find-cell addresses tags (eval-maddr m regs) ≡ some i
-      here = sym (found m q) ∙ ap index-of e
+      here = leads (ap cell-in e)
 
       pub cell-inside : Cells addresses tags values → i < length values
       cell-inside cells = omega (arith, find-hit addresses tags (eval-maddr m regs) i here .inside, cells .long)
@@ -125,14 +131,41 @@ module _ (addresses tags regs values : List ℕ) (o : Operand) (next : ℕ) (fil
             next = refl;
           }
 
-    module _ (e : f ≡ Nothing) where
+    -- no cell: which number that is was told with it
+    module _ (b : Bool) (none-there : cell-in f ≡ none) (told : is-wild f ≡ b) where
       nowhere : find-cell addresses tags (eval-maddr m regs) ≡ none
-      nowhere = sym (found m q) ∙ ap index-of e
+      nowhere = leads none-there
 
-      pub load-none : Load (record { number = 31; word = 0; next = next })
+      number-told : (n : ℕ) → wild-or n o regs ≡ cond b 36 n
+      unfolding wild-operand
+      number-told n = rw (q, ← (found m q .1), told)
+
+      absent : valid-operand (environment addresses tags fill) o (held regs xmms flags values) ≡ false
       unfolding valid-operand cell-of
-      load-none = record { number = rw (q, nowhere); word = λ h. absurd (omega (arith, h)); next = refl }
+      absent = rw (q, nowhere)
 
-      pub resolve-none : (t : Slot) → t ≡ no-slot next → Resolve t
-      unfolding valid-dst-operand valid-operand cell-of
-      resolve-none t g = no-destination t g (rw (q, nowhere))
+      load-none : (n : ℕ) → n ≡ cond b 36 31 → 0 < n → (r : Loaded) → r ≡ no-word n next → Load r
+      load-none n is l r e =
+          rw e record {
+            number = rw absent (is ∙ sym (number-told 31));
+            word = λ h. absurd (omega (arith, h, l));
+            next = refl;
+          }
+
+      resolve-none : (n : ℕ) → n ≡ cond b 36 32 → 1 < n → (t : Slot) → t ≡ no-slot n next → Resolve t
+      unfolding valid-dst-operand
+      resolve-none n is l t e = no-destination n l (is ∙ sym (number-told 32)) t e (rw absent)
+
+    module _ (e : f ≡ Absent) where
+      pub load-absent : (r : Loaded) → r ≡ no-word 31 next → Load r
+      load-absent = load-none false (ap cell-in e) (ap is-wild e) 31 refl (omega arith)
+
+      pub resolve-absent : (t : Slot) → t ≡ no-slot 32 next → Resolve t
+      resolve-absent = resolve-none false (ap cell-in e) (ap is-wild e) 32 refl (omega arith)
+
+    module _ (e : f ≡ Wild) where
+      pub load-wild : (r : Loaded) → r ≡ no-word 36 next → Load r
+      load-wild = load-none true (ap cell-in e) (ap is-wild e) 36 refl (omega arith)
+
+      pub resolve-wild : (t : Slot) → t ≡ no-slot 36 next → Resolve t
+      resolve-wild = resolve-none true (ap cell-in e) (ap is-wild e) 36 refl (omega arith)

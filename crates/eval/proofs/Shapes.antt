@@ -4,6 +4,7 @@ use mathlib.Core.Path.{_≡_, refl, ap, _∙_}
 use lib.Dec.{ltb}
 use Rattle.words.specs.Words.{Four}
 use Rattle.machine.specs.Registers.{set-xmm}
+use Rattle.machine.specs.Operands.{wild-or}
 use Rattle.machine.specs.declared.Operand.{Operand}
 use Rattle.machine.specs.declared.Operand.the-variants.{OConst, OReg, OMem}
 use Rattle.eval.specs.Config.{Env, Config, with-flags, with-xmms, End, ends, done, check}
@@ -12,11 +13,11 @@ use Rattle.eval.specs.Instructions.{valid-operand, eval-operand, valid-d
 module _ (env : Env) (p : ℕ) where
   -- the check of a source
   abbrev pub read-check : Operand → Config → End → End
-  read-check o s k = check (valid-operand env o s) 31 p s k
+  read-check o s k = check (valid-operand env o s) (wild-or 31 o (s .regs)) p s k
 
   -- the check of a destination
   abbrev pub write-check : Operand → Config → End → End
-  write-check o s k = check (valid-dst-operand env o s) 32 p s k
+  write-check o s k = check (valid-dst-operand env o s) (wild-or 32 o (s .regs)) p s k
 
   -- the checks of a shift amount
   abbrev pub amount-check : Operand → Config → End → End
@@ -35,7 +36,7 @@ module _ (env : Env) (p : ℕ) where
   write-halves dst-hi dst-lo hi lo s =
       let t = update-operand env dst-lo lo s in
       write-check dst-lo s
-      (check (valid-dst-operand env dst-hi t) 32 p s (ends done (with-flags (s .flags) (update-operand env dst-hi hi t))))
+      (check (valid-dst-operand env dst-hi t) (wild-or 32 dst-hi (t .regs)) p s (ends done (with-flags (s .flags) (update-operand env dst-hi hi t))))
 
 -- a destination that is written leaves the flags
 module _ (env : Env) where

@@ -12,7 +12,7 @@ use Rattle.words.specs.Types.{quad32-xor, insert-nat32, insert-nat64, add-lanes
 use Rattle.words.specs.Sums.{sum-mod, sum-carry, sub-mod, mul-div, mul-mod}
 use Rattle.words.specs.Flags.{cf, overflow, update-cf, update-of}
 use Rattle.machine.specs.Registers.{Rax, Rdx, reg-at, set-reg, xmm-at, set-xmm}
-use Rattle.machine.specs.Operands.{eval-maddr, valid-dst}
+use Rattle.machine.specs.Operands.{eval-maddr, wild-or, unread-number, valid-dst}
 use Rattle.machine.specs.Cells.{find-cell, cell-value, set-cell, is-cell}
 use Rattle.machine.specs.declared.reg.Reg.{Reg}
 use Rattle.machine.specs.declared.Maddr.{Maddr}
@@ -22,6 +22,7 @@ use Rattle.code.specs.declared.tree.Instruction.{Instruction}
 use Rattle.code.specs.declared.tree.Instruction.the-variants.{Mov64, Add64, AddLea64, AddCarry64, Adcx64, Adox64, Sub64, Mul64, Mulx64, IMul64, Xor64, And64, Shr64, Shl64, Paddd, Pxor, Pslld, Psrld, Pshufd, Pcmpeqd, Pextrq, Pinsrd, Pinsrq, VPSLLDQ, Popcnt64, Lzcnt64, Tzcnt64}
 use Rattle.code.specs.declared.tree.Ocmp.{Ocmp}
 use Rattle.code.specs.declared.tree.Ocmp.the-variants.{OEq, ONe, OLe, OGe, OLt, OGt}
+use Rattle.code.specs.Layout.{ocmp-layout}
 use Rattle.code.specs.Families.{at-kind}
 use Rattle.eval.specs.Config.{Env, Config, with-regs, with-xmms, with-flags, with-values, End, ends, done, check}
 
@@ -85,8 +86,10 @@ inserts-word k q word index =
 
 -- what an instruction does in a configuration
 pub record Act : Type 0 where
-  -- the checks before those of its destinations, in order: whether each passes, and its number
-  pub checks : List (Bool × ℕ)
+  -- the sources that it reads, left to right
+  pub sources : List Operand
+  -- the rules for what it has read and for its immediate: whether each passes, and its number
+  pub rules : List (Bool × ℕ)
   -- the words for its destinations, in the order of writing
   pub words : List (Operand × ℕ)
   -- the words for registers that it has by itself
@@ -97,17 +100,18 @@ pub record Act : Type 0 where
   pub flags : ℕ
 
 -- a word for one destination
-abbrev pub to-operand : List (Bool × ℕ) → Operand → ℕ → ℕ → Act
-to-operand checks dst v flags = record { checks = checks; words = (dst, v) ∷ []; regs = []; quads = []; flags = flags }
+abbrev pub to-operand : List Operand → List (Bool × ℕ) → Operand → ℕ → ℕ → Act
+to-operand sources rules dst v flags =
+    record { sources = sources; rules = rules; words = (dst, v) ∷ []; regs = []; quads = []; flags = flags }
 
 -- a quad for one xmm
-abbrev pub to-xmm : List (Bool × ℕ) → ℕ → Four ℕ → ℕ → Act
-to-xmm checks x q flags = record { checks = checks; words = []; regs = []; quads = (x, q) ∷ []; flags = flags }
+abbrev pub to-xmm : List Operand → List (Bool × ℕ) → ℕ → Four ℕ → ℕ → Act
+to-xmm sources rules x q flags = record { sources = sources; rules = rules; words = []; regs = []; quads = (x, q) ∷ []; flags = flags }
 
--- checks in order, and what follows where all pass
-abbrev pub checked : ℕ → List (Bool × ℕ) → Config → End → End
-checked p [] s k = k
-checked p (c ∷ cs) s k = check (c .0) (c .1) p s (checked p cs s k)
+-- rules in order, and what follows where all pass
+abbrev pub ruled : ℕ → List (Bool × ℕ) → Config → End → End
+ruled p [] s k = k
+ruled p (c ∷ cs) s k = check (c .0) (c .1) p s (ruled p cs s k)
 
 -- words are put into registers
 abbrev pub set-regs : List (Reg × ℕ) → Config → Config
@@ -146,56 +150,59 @@ module _ (env : Env) where
   update-operand (OReg r) v s = with-regs (set-reg (s .regs) r v) s
   update-operand (OMem m) v s = with-values (set-cell (s .values) (cell-of m s) v) s
 
-  -- 32: a destination is a constant, Rsp, or memory without a 64-bit cell. Each is resolved in the configuration t that the writes before it
-  -- leave; where one fails, the instruction, which began in s, has written nothing
+  -- 31: a source is memory without a 64-bit cell. 36 in its place: the exact address is wild
+  abbrev pub readable : ℕ → List Operand → Config → End → End
+  readable p [] s k = k
+  readable p (o ∷ os) s k = check (valid-operand o s) (wild-or 31 o (s .regs)) p s (readable p os s k)
+
+  -- 32: a destination is a constant, Rsp, or memory without a 64-bit cell. 36 in its place: the exact address is wild. Each is resolved in the
+  -- configuration t that the writes before it leave; where one fails, the instruction, which began in s, has written nothing
   abbrev pub written : ℕ → List (Operand × ℕ) → Config → (Config → End) → Config → End
   written p [] s k t = k t
-  written p (w ∷ ws) s k t = check (valid-dst-operand (w .0) t) 32 p s (written p ws s k (update-operand (w .0) (w .1) t))
+  written p (w ∷ ws) s k t =
+      check (valid-dst-operand (w .0) t) (wild-or 32 (w .0) (t .regs)) p s (written p ws s k (update-operand (w .0) (w .1) t))
 
-  -- an act at a place: its checks, its destinations, and then what nothing checks
+  -- an act at a place: its sources, its rules, its destinations, and then what nothing checks
   abbrev pub perform : ℕ → Act → Config → End
   perform p a s =
-      checked p (a .checks) s
-      (written p (a .words) s (λ t. ends done (with-flags (a .flags) (set-xmms (a .quads) (set-regs (a .regs) t)))) s)
-
-  -- 31: a source is memory without a 64-bit cell
-  abbrev pub reads : Operand → Config → Bool × ℕ
-  reads o s = (valid-operand o s, 31)
+      readable p (a .sources) s
+      (ruled p (a .rules) s
+      (written p (a .words) s (λ t. ends done (with-flags (a .flags) (set-xmms (a .quads) (set-regs (a .regs) t)))) s))
 
   -- an instruction of a destination and a source, by its kind
   abbrev pub two-act : ℕ → Operand → Operand → Config → Act
   two-act k dst src s =
       let a = eval-operand dst s in
       let b = eval-operand src s in
-      to-operand (reads src s ∷ []) dst (two-word k (s .flags) a b) (two-flags k (env .fill) (s .flags) a b)
+      to-operand (src ∷ []) [] dst (two-word k (s .flags) a b) (two-flags k (env .fill) (s .flags) a b)
 
   -- a shift; 33: its amount is 64 or more
   abbrev pub shift-act : ℕ → Operand → Operand → Config → Act
   shift-act k dst amt s =
       let a = eval-operand dst s in
       let b = eval-operand amt s in
-      to-operand (reads amt s ∷ (ltb b 64, 33) ∷ []) dst (two-word k (s .flags) a b) (two-flags k (env .fill) (s .flags) a b)
+      to-operand (amt ∷ []) ((ltb b 64, 33) ∷ []) dst (two-word k (s .flags) a b) (two-flags k (env .fill) (s .flags) a b)
 
   -- an instruction of two quads, by its kind
   abbrev pub quads-act : ℕ → ℕ → ℕ → Config → Act
   quads-act k dst src s =
-      to-xmm [] dst (quads-word k (xmm-at (s .xmms) dst) (xmm-at (s .xmms) src)) (quads-flags k (env .fill) (s .flags))
+      to-xmm [] [] dst (quads-word k (xmm-at (s .xmms) dst) (xmm-at (s .xmms) src)) (quads-flags k (env .fill) (s .flags))
 
   -- a shift of a quad's words; 34: by 32 or more
   abbrev pub shifts-act : ℕ → ℕ → ℕ → Config → Act
-  shifts-act k dst amt s = to-xmm ((ltb amt 32, 34) ∷ []) dst (shifts-word k (xmm-at (s .xmms) dst) amt) (s .flags)
+  shifts-act k dst amt s = to-xmm [] ((ltb amt 32, 34) ∷ []) dst (shifts-word k (xmm-at (s .xmms) dst) amt) (s .flags)
 
   -- an insertion into a quad
   abbrev pub inserts-act : ℕ → ℕ → Operand → ℕ → Config → Act
   inserts-act k dst src index s =
-      to-xmm (reads src s ∷ []) dst (inserts-word k (xmm-at (s .xmms) dst) (eval-operand src s) index) (s .flags)
+      to-xmm (src ∷ []) [] dst (inserts-word k (xmm-at (s .xmms) dst) (eval-operand src s) index) (s .flags)
 
   -- what each instruction does
   unfoldable pub act : Instruction → Config → Act
   act (Mov64 dst src) s = two-act 0x01 dst src s
   act (Add64 dst src) s = two-act 0x02 dst src s
   act (AddLea64 dst src1 src2) s =
-      to-operand (reads src1 s ∷ reads src2 s ∷ []) dst (sum-mod 64 (eval-operand src1 s + eval-operand src2 s)) (s .flags)
+      to-operand (src1 ∷ src2 ∷ []) [] dst (sum-mod 64 (eval-operand src1 s + eval-operand src2 s)) (s .flags)
   act (AddCarry64 dst src) s = two-act 0x04 dst src s
   act (Adcx64 dst src) s = two-act 0x05 dst src s
   act (Adox64 dst src) s = two-act 0x06 dst src s
@@ -204,7 +211,8 @@ module _ (env : Env) where
       let a = reg-at (s .regs) Rax in
       let b = eval-operand src s in
       record {
-        checks = reads src s ∷ [];
+        sources = src ∷ [];
+        rules = [];
         words = [];
         regs = (Rax, mul-mod 64 a b) ∷ (Rdx, mul-div 64 a b) ∷ [];
         quads = [];
@@ -215,7 +223,8 @@ module _ (env : Env) where
       let a = reg-at (s .regs) Rdx in
       let b = eval-operand src s in
       record {
-        checks = reads src s ∷ [];
+        sources = src ∷ [];
+        rules = [];
         words = (dst-lo, mul-mod 64 a b) ∷ (dst-hi, mul-div 64 a b) ∷ [];
         regs = [];
         quads = [];
@@ -230,14 +239,14 @@ module _ (env : Env) where
   act (Pxor dst src) s = quads-act 0x10 dst src s
   act (Pslld dst amt) s = shifts-act 0x11 dst amt s
   act (Psrld dst amt) s = shifts-act 0x12 dst amt s
-  act (Pshufd dst src imm8) s = to-xmm [] dst (shuffle-lanes (xmm-at (s .xmms) src) imm8) (s .flags)
+  act (Pshufd dst src imm8) s = to-xmm [] [] dst (shuffle-lanes (xmm-at (s .xmms) src) imm8) (s .flags)
   act (Pcmpeqd dst src) s = quads-act 0x14 dst src s
   act (Pextrq dst src index) s =
-      to-operand [] dst (two-to-nat 32 (two-select (four-to-two-two (xmm-at (s .xmms) src)) (index % 2))) (s .flags)
+      to-operand [] [] dst (two-to-nat 32 (two-select (four-to-two-two (xmm-at (s .xmms) src)) (index % 2))) (s .flags)
   act (Pinsrd dst src index) s = inserts-act 0x16 dst src index s
   act (Pinsrq dst src index) s = inserts-act 0x17 dst src index s
   -- 35: a count that is not 4
-  act (VPSLLDQ dst src count) s = to-xmm ((eqb count 4, 35) ∷ []) dst (shift-quad (xmm-at (s .xmms) src)) (s .flags)
+  act (VPSLLDQ dst src count) s = to-xmm [] ((eqb count 4, 35) ∷ []) dst (shift-quad (xmm-at (s .xmms) src)) (s .flags)
   act (Popcnt64 dst src) s = two-act 0x19 dst src s
   act (Lzcnt64 dst src) s = two-act 0x1a dst src s
   act (Tzcnt64 dst src) s = two-act 0x1b dst src s
@@ -254,6 +263,10 @@ module _ (env : Env) where
   valid-ocmp (OGe a b) s = valid-operand a s && valid-operand b s
   valid-ocmp (OLt a b) s = valid-operand a s && valid-operand b s
   valid-ocmp (OGt a b) s = valid-operand a s && valid-operand b s
+
+  -- the number of that check: of the first operand, or where that can be read of the second
+  unfoldable pub ocmp-number : Ocmp → Config → ℕ
+  ocmp-number c s = unread-number (λ o. valid-operand o s) (s .regs) (ocmp-layout c .operands)
 
   -- `eval_ocmp`: unsigned
   unfoldable pub eval-ocmp : Ocmp → Config → Bool

@@ -8,6 +8,7 @@ use lib.Dec.{eqb, ltb, leb}
 use lib.ListN.{length, getD, set}
 use denote.Ref.{RefT, now}
 use denote.Triple.Both.{Both}
+use Rattle.machine.specs.Operands.{wild-or}
 use Rattle.machine.specs.Cells.{Searchable}
 use Rattle.machine.specs.declared.Operand.{Operand}
 use Rattle.code.specs.declared.tree.Ocmp.{Ocmp}
@@ -16,7 +17,7 @@ use Rattle.code.specs.Records.{is-ins, is-ocmp, byte-at, ins-at, ocmp-at}
 use Rattle.code.specs.Spells.{Stands, Spells, SpellsAll}
 use Rattle.eval.specs.Config.{Env, Config, with-regs, with-values, Outcome, done, fault, spent, End}
 use Rattle.eval.specs.Config as Config
-use Rattle.eval.specs.Instructions.{valid-operand, eval-operand, valid-dst-operand, update-operand, valid-ocmp, eval-ocmp, run-ins}
+use Rattle.eval.specs.Instructions.{valid-operand, eval-operand, valid-dst-operand, update-operand, valid-ocmp, ocmp-number, eval-ocmp, run-ins}
 use Rattle.eval.specs.Running.{run-code, run-codes}
 use Rattle.eval.specs.declared.exit.Exit.{Exit}
 use Rattle.eval.specs.declared.operand.Loaded.{Loaded}
@@ -41,13 +42,17 @@ pub record Cells (addresses tags values : List ℕ) : Type 0 where
 -- ---- operands
 -- what a Loaded says of a source: the number of the check that fails, or 0; its word; and the place behind it
 pub record Loads (env : Env) (s : Config) (o : Operand) (end : ℕ) (r : Loaded) : Type 0 where
-  pub number : r .number ≡ cond (valid-operand env o s) 0 31
+  pub number : r .number ≡ cond (valid-operand env o s) 0 (wild-or 31 o (s .regs))
   pub word : r .number ≡ 0 → r .word ≡ eval-operand env o s
   pub next : r .next ≡ end
 
--- no destination, and the place behind it
-abbrev pub no-slot : ℕ → Slot
-no-slot next = record { how = 32; index = 0; word = 0; next = next }
+-- no source, with the number of its check, and the place behind it
+abbrev pub no-word : ℕ → ℕ → Loaded
+no-word number next = record { number = number; word = 0; next = next }
+
+-- no destination, with the number of its check, and the place behind it
+abbrev pub no-slot : ℕ → ℕ → Slot
+no-slot number next = record { how = number; index = 0; word = 0; next = next }
 
 -- the registers with a word put into a slot
 abbrev pub put-regs : Slot → ℕ → List ℕ → List ℕ
@@ -72,7 +77,7 @@ pub record Writes (env : Env) (s : Config) (o : Operand) (t : Slot) : Type 0 whe
 -- what a Slot says of a destination: 0 is a register and 1 a cell, and then where it is written; any other number is that of the check that fails
 pub record Resolves (env : Env) (s : Config) (o : Operand) (end : ℕ) (t : Slot) : Type 0 where
   pub valid : t .how ≤ 1 → valid-dst-operand env o s ≡ true
-  pub fails : 1 < t .how → (valid-dst-operand env o s ≡ false) × (t .how ≡ 32)
+  pub fails : 1 < t .how → (valid-dst-operand env o s ≡ false) × (t .how ≡ wild-or 32 o (s .regs))
   pub writes : t .how ≤ 1 → Writes env s o t
   pub bounds : t .how ≤ 1 → InBounds t (length (s .values))
   pub next : t .next ≡ end
@@ -112,7 +117,7 @@ OcmpAt bs at = (e : ℕ) × Stands is-ocmp bs at e × (e ≤ length bs)
 
 -- what a Compared says: 1 where it holds, 0 where it does not, or the number of the check that fails; where that passes, the place behind
 pub record Compares (env : Env) (s : Config) (c : Ocmp) (end : ℕ) (r : Compared) : Type 0 where
-  pub how : r .how ≡ cond (valid-ocmp env c s) (cond (eval-ocmp env c s) 1 0) 31
+  pub how : r .how ≡ cond (valid-ocmp env c s) (cond (eval-ocmp env c s) 1 0) (ocmp-number env c s)
   pub next : r .how ≤ 1 → r .next ≡ end
 
 -- a Compared from s is that of the comparison that stands at a place

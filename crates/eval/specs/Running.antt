@@ -7,13 +7,13 @@ use Rattle.code.specs.declared.tree.Ocmp.{Ocmp}
 use Rattle.code.specs.Tree.{Code, Ins, Block, IfElse, While, Codes, ⟨⟩, _∷ᶜ_}
 use Rattle.code.specs.Reader.{Read, got, trouble, parse}
 use Rattle.eval.specs.Config.{Env, Config, with-flags, End, ends, done, spent, refused, and-then, check, choose}
-use Rattle.eval.specs.Instructions.{run-ins, valid-ocmp, eval-ocmp}
+use Rattle.eval.specs.Instructions.{run-ins, valid-ocmp, ocmp-number, eval-ocmp}
 
 module _ (env : Env) where
-  -- a comparison at a place: 31 where an operand cannot be read; one that passes sets flags to the fill word
+  -- a comparison at a place: 31 or 36 where an operand cannot be read; one that passes sets flags to the fill word
   unfoldable pub run-ocmp : ℕ → Ocmp → (Config → End) → (Config → End) → Config → End
   run-ocmp q c yes-way no-way s =
-      check (valid-ocmp env c s) 31 q s (choose (eval-ocmp env c s) yes-way no-way (with-flags (env .fill) s))
+      check (valid-ocmp env c s) (ocmp-number env c s) q s (choose (eval-ocmp env c s) yes-way no-way (with-flags (env .fill) s))
 
   -- the rounds of a While: fuel is tested first, and body and next round each get one less
   unfoldable pub rounds : (ℕ → Config → End) → ℕ → ℕ → Ocmp → ℕ → Config → End

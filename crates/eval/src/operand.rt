@@ -5,18 +5,18 @@ ghost use Prim.Native.Nat.{ℕ, _<_};
 ghost use lib.ListN.{length};
 ghost use Rattle.machine.specs.declared.Maddr.{Maddr};
 ghost use Rattle.machine.specs.declared.Operand.the-variants.{OMem};
-ghost use Rattle.machine.specs.Operands.{eval-maddr};
-ghost use Rattle.machine.specs.Cells.{Searchable, find-cell, index-of};
+ghost use Rattle.machine.specs.Operands.{eval-maddr, wild};
+ghost use Rattle.machine.specs.Cells.{Searchable, find-cell, cell-in, is-wild};
 ghost use Rattle.code.specs.Records.{operand-at, behind};
 ghost use Rattle.code.specs.Spells.{OperandBytes};
 ghost use Rattle.code.specs.Forms.{form-of};
 ghost use Rattle.code.specs.declared.records.Form.the-variants.{Memory};
-ghost use Rattle.eval.specs.Promises.{environment, held, Cells, Loads, Resolves, InBounds, no-slot, put-regs, put-values};
+ghost use Rattle.eval.specs.Promises.{environment, held, Cells, Loads, Resolves, InBounds, no-word, no-slot, put-regs, put-values};
 use code::Form;
 use code::form_at;
 use code::memory_at;
 use code::operand_behind;
-use machine::Found;
+use machine::Target;
 use machine::cell_of;
 
 // A source: 0 or the number of the check that fails, its word, and the place behind its record.
@@ -37,18 +37,30 @@ pub struct Slot {
 
 // The cell of the memory operand at a place. It stands apart, so that operands that are no memory are
 // read in place.
-fn cell_at(code: &[u8], at: usize, regs: &[u64; 16], addresses: &[u64], tags: &[u8]) -> Found
+fn cell_at(code: &[u8], at: usize, regs: &[u64; 16], addresses: &[u64], tags: &[u8]) -> Target
     requires { ⌜ OperandBytes (now code) at ⌝ }
     requires { ⌜ form-of (operand-at (now code) at) ≡ Memory ⌝ }
     requires { ⌜ Searchable (now addresses) (now tags) ⌝ }
     ensures { λ r. ⌜
         ((m : Maddr) →
         operand-at (now (code .entry)) at ≡ OMem m →
-        index-of r ≡ find-cell (now (addresses .entry)) (now (tags .entry)) (eval-maddr m (now (regs .entry))))
+        (cell-in r ≡ find-cell (now (addresses .entry)) (now (tags .entry)) (eval-maddr m (now (regs .entry))))
+        × (is-wild r ≡ wild (eval-maddr m (now (regs .entry)))))
         ⌝ }
 {
     let m = memory_at(code, at);
     cell_of(m, regs, addresses, tags)
+}
+
+// A source that cannot be read.
+fn unread(number: u8, next: usize) -> Loaded
+    ensures { λ r. ⌜ r ≡ no-word number next ⌝ }
+{
+    Loaded {
+        number,
+        word: 0,
+        next,
+    }
 }
 
 pub fn load(
@@ -85,26 +97,23 @@ pub fn load(
             }
         }
         Form::Memory => match cell_at(code, at, regs, addresses, tags) {
-            Found::At(index) => Loaded {
+            Target::Cell(index) => Loaded {
                 number: 0,
                 word: values[index],
                 next,
             },
-            Found::Nothing => Loaded {
-                number: 31,
-                word: 0,
-                next,
-            },
+            Target::Absent => unread(31, next),
+            Target::Wild => unread(36, next),
         },
     }
 }
 
 // No destination.
-fn nowhere(next: usize) -> Slot
-    ensures { λ r. ⌜ r ≡ no-slot next ⌝ }
+fn nowhere(number: u8, next: usize) -> Slot
+    ensures { λ r. ⌜ r ≡ no-slot number next ⌝ }
 {
     Slot {
-        how: 32,
+        how: number,
         index: 0,
         word: 0,
         next,
@@ -131,10 +140,10 @@ pub fn resolve(
     let next = operand_behind(code, at);
     let form = form_at(code, at);
     match form {
-        Form::Const(_) => nowhere(next),
+        Form::Const(_) => nowhere(32, next),
         Form::Register(register) => {
             if register.is_rsp() {
-                return nowhere(next);
+                return nowhere(32, next);
             }
             let index = register.number as usize;
             Slot {
@@ -145,13 +154,14 @@ pub fn resolve(
             }
         }
         Form::Memory => match cell_at(code, at, regs, addresses, tags) {
-            Found::At(index) => Slot {
+            Target::Cell(index) => Slot {
                 how: 1,
                 index,
                 word: values[index],
                 next,
             },
-            Found::Nothing => nowhere(next),
+            Target::Absent => nowhere(32, next),
+            Target::Wild => nowhere(36, next),
         },
     }
 }

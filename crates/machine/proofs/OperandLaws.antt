@@ -1,19 +1,23 @@
 -- Operands: which are destinations, and the cell that a memory operand names. Addresses of cells are words, so an exact address that is
 -- no word is none of them.
 use Prim.Native.Nat.{ℕ, _^_, _<_}
-use mathlib.Core.Path.{_≡_, refl, ap, _∙_}
+use mathlib.Core.Path.{_≡_, refl, sym, ap, _∙_}
 use mathlib.Core.Bool.{Bool, true, false, not, cond}
 use mathlib.Core.List.{List}
-use mathlib.Core.Option.{none, some}
+use mathlib.Core.Option.{Option, none, some}
 use native.Mathlib.Omega.{arith}
-use borrow.Author.Tests.{lt-ltb}
+use borrow.Author.Tests.{lt-ltb, ltb-true, ltb-false, le-leb, lt-leb}
 use lib.Dec.{eqb, ltb}
 use lib.IntN.{ℤ, pos, negsuc}
 use lib.ListN.{getD}
 use Rattle.machine.specs.Registers.{Rsp}
-use Rattle.machine.specs.Operands.{in-range, valid-dst}
-use Rattle.machine.specs.Cells.{find-cell}
+use Rattle.machine.specs.Operands.{in-range, wild, valid-dst}
+use Rattle.machine.specs.Cells.{find-cell, index-of, cell-in, is-wild}
 use Rattle.machine.specs.declared.reg.Reg.{Reg}
+use Rattle.machine.specs.declared.Found.{Found}
+use Rattle.machine.specs.declared.Found.the-variants.{At, Nothing}
+use Rattle.machine.specs.declared.Target.{Target}
+use Rattle.machine.specs.declared.Target.the-variants.{Cell, Absent, Wild}
 use Rattle.machine.specs.declared.Maddr.{Maddr}
 use Rattle.machine.specs.declared.Operand.the-variants.{OConst, OReg, OMem}
 use Rattle.machine.proofs.FindLaws.{find-none}
@@ -49,6 +53,24 @@ in-range-none z a e l p =
     let x : _≡_ {A = ℕ} 0 1 = cc in
     omega arith
 
+pub wild-inside : (z : ℤ) (w : ℕ) → in-range z ≡ some w → wild z ≡ false
+unfolding in-range wild
+wild-inside (pos n) w e = go (ltb n (2 ^ 64)) refl e
+  where
+    go : (b : Bool) → ltb n (2 ^ 64) ≡ b → cond b (some n) none ≡ some w → wild (pos n) ≡ false
+    go true h _ = lt-leb (2 ^ 64) n (ltb-true n (2 ^ 64) h)
+    go false h g = absurd (let x : _≡_ {A = ℕ} 0 1 = cc in omega arith)
+wild-inside (negsuc n) w e = absurd (let x : _≡_ {A = ℕ} 0 1 = cc in omega arith)
+
+pub wild-outside : (z : ℤ) → in-range z ≡ none → wild z ≡ true
+unfolding in-range wild
+wild-outside (pos n) e = go (ltb n (2 ^ 64)) refl e
+  where
+    go : (b : Bool) → ltb n (2 ^ 64) ≡ b → cond b (some n) none ≡ none → wild (pos n) ≡ true
+    go true h g = absurd (let x : _≡_ {A = ℕ} 0 1 = cc in omega arith)
+    go false h _ = le-leb (2 ^ 64) n (ltb-false n (2 ^ 64) h)
+wild-outside (negsuc n) e = refl
+
 -- ---- the cell at an exact address
 module _ (xs ts : List ℕ) (z : ℤ) where
   pub find-inside : (w : ℕ) → in-range z ≡ some w → find-cell xs ts z ≡ find-cell xs ts (pos w)
@@ -56,3 +78,20 @@ module _ (xs ts : List ℕ) (z : ℤ) where
 
   pub find-outside : in-range z ≡ none → ((k : ℕ) → getD xs k 0 < 2 ^ 64) → find-cell xs ts z ≡ none
   find-outside e small = find-none xs ts z (λ k h p. in-range-none z (getD xs k 0) e (small k) p)
+
+  -- what a memory operand leads to: what was found at its word, and nothing where it has none
+  abbrev LeadsTo : Target → Type 0
+  LeadsTo r = (cell-in r ≡ find-cell xs ts z) × (is-wild r ≡ wild z)
+
+  module _ (w : ℕ) (e : in-range z ≡ some w) (f : Found) (found : index-of f ≡ find-cell xs ts (pos w)) where
+    at-word : {k : Option ℕ} → index-of f ≡ k → k ≡ find-cell xs ts z
+    at-word h = sym h ∙ found ∙ sym (find-inside w e)
+
+    pub leads-to-cell : (i : ℕ) → f ≡ At i → LeadsTo (Cell i)
+    leads-to-cell i h = (at-word (ap index-of h), sym (wild-inside z w e))
+
+    pub leads-to-none : f ≡ Nothing → LeadsTo Absent
+    leads-to-none h = (at-word (ap index-of h), sym (wild-inside z w e))
+
+  pub leads-outside : in-range z ≡ none → ((k : ℕ) → getD xs k 0 < 2 ^ 64) → LeadsTo Wild
+  leads-outside e small = (sym (find-outside e small), sym (wild-outside z e))

@@ -11,6 +11,8 @@ use Rattle.machine.specs.declared.Checked.{Checked}
 use Rattle.machine.specs.declared.Checked.the-variants.{Accepted, Refused}
 use Rattle.machine.specs.declared.Found.{Found}
 use Rattle.machine.specs.declared.Found.the-variants.{At, Nothing}
+use Rattle.machine.specs.declared.Target.{Target}
+use Rattle.machine.specs.declared.Target.the-variants.{Cell, Absent, Wild}
 
 -- what a check says: accepted, or a number with a place or an index
 pub data Verdict : Type 0 where
@@ -87,6 +89,18 @@ find-cell (a ∷ xs) (t ∷ ts) z = cond (eqℤ (pos a) z) (cond (eqb t 64) (som
 abbrev pub index-of : Found → Option ℕ
 index-of (At i) = some i
 index-of Nothing = none
+
+-- the cell that a Target names
+abbrev pub cell-in : Target → Option ℕ
+cell-in (Cell i) = some i
+cell-in Absent = none
+cell-in Wild = none
+
+-- whether a Target says that the exact address is below 0 or above 2^64 - 1
+abbrev pub is-wild : Target → Bool
+is-wild (Cell i) = false
+is-wild Absent = false
+is-wild Wild = true
 
 -- the value of the cell at an index, 0 where there is none
 abbrev pub cell-value : List ℕ → Option ℕ → ℕ

@@ -1,9 +1,9 @@
 -- Operands and exact addresses.
 use Prim.Native.Nat.{ℕ, _^_, _<_}
 use mathlib.Core.Bool.{Bool, true, false, not, cond}
-use mathlib.Core.List.{List}
+use mathlib.Core.List.{List, [], _∷_}
 use mathlib.Core.Option.{Option, none, some}
-use lib.Dec.{eqb, ltb}
+use lib.Dec.{eqb, ltb, leb}
 use lib.IntN.{ℤ, pos, negsuc, _+ℤ_, _*ℤ_}
 use Rattle.machine.specs.Registers.{reg-at, Rsp}
 use Rattle.machine.specs.declared.Maddr.{Maddr}
@@ -38,6 +38,26 @@ in-range (negsuc n) = none
 abbrev pub word-of : Address → Option ℕ
 word-of (Inside w) = some w
 word-of Outside = none
+
+-- whether an exact address is below 0 or above 2^64 - 1
+unfoldable pub wild : ℤ → Bool
+wild (pos n) = leb (2 ^ 64) n
+wild (negsuc n) = true
+
+-- whether an operand is memory at such an address
+unfoldable pub wild-operand : Operand → List ℕ → Bool
+wild-operand (OConst n) regs = false
+wild-operand (OReg r) regs = false
+wild-operand (OMem m) regs = wild (eval-maddr m regs)
+
+-- 36: a memory operand's exact address is below 0 or above 2^64 - 1. It stands in place of the number that the check has for any other operand
+abbrev pub wild-or : ℕ → Operand → List ℕ → ℕ
+wild-or n o regs = cond (wild-operand o regs) 36 n
+
+-- the number of a check of sources that are judged left to right: that of the first which cannot be read
+unfoldable pub unread-number : (Operand → Bool) → List ℕ → List Operand → ℕ
+unread-number valid regs [] = 31
+unread-number valid regs (o ∷ os) = cond (valid o) (unread-number valid regs os) (wild-or 31 o regs)
 
 -- a constant and Rsp are no destination
 unfoldable pub valid-dst : Operand → Bool

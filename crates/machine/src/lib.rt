@@ -54,3 +54,11 @@ pub enum Found {
     At(usize),
     Nothing,
 }
+
+// What a memory operand leads to: the index of its 64-bit cell, no such cell at its address, or an exact address below 0
+// or above 2^64 - 1.
+pub enum Target {
+    Cell(usize),
+    Absent,
+    Wild,
+}

@@ -6,6 +6,7 @@ use machine::Checked;
 use machine::Found;
 use machine::Maddr;
 use machine::Reg;
+use machine::Target;
 ghost use Rattle.machine.specs.Operands.{NamesRegisters};
 
 const TOP: u64 = 18446744073709551615;
@@ -19,6 +20,23 @@ fn is_found(got: Found, expected: Found) -> bool {
         Found::Nothing => match expected {
             Found::At(_) => false,
             Found::Nothing => true,
+        },
+    }
+}
+
+fn is_target(got: Target, expected: Target) -> bool {
+    match got {
+        Target::Cell(i) => match expected {
+            Target::Cell(j) => i == j,
+            _ => false,
+        },
+        Target::Absent => match expected {
+            Target::Absent => true,
+            _ => false,
+        },
+        Target::Wild => match expected {
+            Target::Wild => true,
+            _ => false,
         },
     }
 }
@@ -135,51 +153,56 @@ pub fn tops(t: Tally) -> Tally {
 }
 
 // The cell of an operand, of cells that the check accepts. Rax is 1000, Rdx 3 and R15 the largest word.
-fn named(m: Maddr, addresses: &[u64], tags: &[u8], values: &[u64]) -> Found
+fn named(m: Maddr, addresses: &[u64], tags: &[u8], values: &[u64]) -> Target
     requires { ⌜ NamesRegisters m ⌝ }
 {
     let regs: [u64; 16] = [1000, 0, 0, 3, 0, 0, 0, 0, 0, 0, 0, 0, 0, 0, 0, TOP];
     let checked = machine::check_cells(addresses, tags, values);
     match checked {
         Checked::Accepted => machine::cell_of(m, &regs, addresses, tags),
-        Checked::Refused(_, _) => Found::Nothing,
+        Checked::Refused(_, _) => Target::Absent,
     }
 }
 
-fn operand(t: Tally, m: Maddr, expected: Found) -> Tally
+fn operand(t: Tally, m: Maddr, expected: Target) -> Tally
     requires { ⌜ NamesRegisters m ⌝ }
 {
     let addresses: [u64; 5] = [0, 992, 1000, 1008, TOP - 7];
     let got = named(m, &addresses, &[64, 64, 64, 32, 64], &[1, 2, 3, 4, 5]);
-    counted(t, is_found(got, expected))
+    counted(t, is_target(got, expected))
 }
 
-// Inside, and outside where the address modulo 2^64 is that of a cell.
+// A cell, none, and outside where the address modulo 2^64 is that of a cell.
 pub fn operands(t: Tally) -> Tally {
-    let t = operand(t, Maddr::MConst(1000), Found::At(2));
-    let t = operand(t, Maddr::MConst(1001), Found::Nothing);
-    let t = operand(t, Maddr::MConst(TOP - 7), Found::At(4));
-    let t = operand(t, Maddr::MReg(Reg::RAX, 0), Found::At(2));
-    let t = operand(t, Maddr::MReg(Reg::RAX, -8), Found::At(1));
-    let t = operand(t, Maddr::MReg(Reg::RAX, 8), Found::Nothing);
-    let t = operand(t, Maddr::MReg(Reg::RAX, -1000), Found::At(0));
-    let t = operand(t, Maddr::MReg(Reg::RAX, -1008), Found::Nothing);
-    let t = operand(t, Maddr::MReg(Reg::R15, -7), Found::At(4));
-    let t = operand(t, Maddr::MReg(Reg::R15, 1), Found::Nothing);
-    let t = operand(t, Maddr::MReg(Reg::R15, 1001), Found::Nothing);
-    let t = operand(t, Maddr::MIndex(Reg::RAX, 8, Reg::RDX, -24), Found::At(2));
-    let t = operand(t, Maddr::MIndex(Reg::RDX, -1, Reg::RAX, 997), Found::At(0));
-    let t = operand(
-        t,
-        Maddr::MIndex(Reg::RDX, -1, Reg::RAX, 989),
-        Found::Nothing,
-    );
-    let t = operand(t, Maddr::MIndex(Reg::RAX, 1, Reg::R15, 1), Found::Nothing);
-    let t = operand(
-        t,
-        Maddr::MIndex(Reg::R15, 32767, Reg::R15, 32768),
-        Found::Nothing,
-    );
+    let t = operand(t, Maddr::MConst(1000), Target::Cell(2));
+    let t = operand(t, Maddr::MConst(1001), Target::Absent);
+    let t = operand(t, Maddr::MConst(TOP - 7), Target::Cell(4));
+    let t = operand(t, Maddr::MConst(TOP), Target::Absent);
+    let t = operand(t, Maddr::MReg(Reg::RAX, 0), Target::Cell(2));
+    let t = operand(t, Maddr::MReg(Reg::RAX, -8), Target::Cell(1));
+    let t = operand(t, Maddr::MReg(Reg::RAX, 8), Target::Absent);
+    let t = operand(t, Maddr::MReg(Reg::RAX, -1000), Target::Cell(0));
+    let t = operand(t, Maddr::MReg(Reg::RAX, -1001), Target::Wild);
+    let t = operand(t, Maddr::MReg(Reg::RAX, -1008), Target::Wild);
+    let t = operand(t, Maddr::MReg(Reg::R15, -7), Target::Cell(4));
+    let t = operand(t, Maddr::MReg(Reg::R15, 0), Target::Absent);
+    let t = operand(t, Maddr::MReg(Reg::R15, 1), Target::Wild);
+    let t = operand(t, Maddr::MReg(Reg::R15, 1001), Target::Wild);
+    t
+}
+
+// The same by an index: sums that leave the range and come back, and a multiple of 2^64 beside a cell.
+pub fn indexed_operands(t: Tally) -> Tally {
+    let t = operand(t, Maddr::MIndex(Reg::RAX, 8, Reg::RDX, -24), Target::Cell(2));
+    let t = operand(t, Maddr::MIndex(Reg::RDX, -1, Reg::RAX, 997), Target::Cell(0));
+    let t = operand(t, Maddr::MIndex(Reg::RDX, -1, Reg::RAX, 996), Target::Wild);
+    let t = operand(t, Maddr::MIndex(Reg::RDX, -1, Reg::RAX, 989), Target::Wild);
+    let t = operand(t, Maddr::MIndex(Reg::RAX, 1, Reg::R15, -1000), Target::Absent);
+    let t = operand(t, Maddr::MIndex(Reg::RAX, 1, Reg::R15, -1007), Target::Cell(4));
+    let t = operand(t, Maddr::MIndex(Reg::RAX, 1, Reg::R15, -999), Target::Wild);
+    let t = operand(t, Maddr::MIndex(Reg::RAX, 1, Reg::R15, 1), Target::Wild);
+    let t = operand(t, Maddr::MIndex(Reg::R15, -1, Reg::R15, 992), Target::Cell(1));
+    let t = operand(t, Maddr::MIndex(Reg::R15, 32767, Reg::R15, 32768), Target::Wild);
     t
 }
 
@@ -188,5 +211,5 @@ pub fn empties(t: Tally) -> Tally {
     let t = counted(t, is_found(find(&[], &[], &[], 0), Found::Nothing));
     let t = counted(t, is_found(find(&[], &[], &[], TOP), Found::Nothing));
     let got = named(Maddr::MConst(0), &[], &[], &[]);
-    counted(t, is_found(got, Found::Nothing))
+    counted(t, is_target(got, Target::Absent))
 }

@@ -20,7 +20,7 @@ use Rattle.source.specs.Source as Source
 use Rattle.source.specs.Source.{State, St, with-ok, choose, eval-ins}
 use Rattle.source.specs.Log.{Note, Event, passed, failed, starved, event, events, first-bad, Logged, after, if-some, returned, check, note-ocmp, log-ocmp, log-while, log-code, log-codes}
 use Rattle.source.specs.Correspondence.{IntToNat64, state-of}
-use Rattle.source.proofs.OperandLaws.{Held, valid-ocmp-is, eval-ocmp-is}
+use Rattle.source.proofs.OperandLaws.{Held, valid-ocmp-is, ocmp-number-is, eval-ocmp-is}
 use Rattle.source.proofs.Instructions.{first-failed, Said, finishes, stops, says-ins, erase-ins}
 
 -- ---- ok stays clear
@@ -160,15 +160,16 @@ module _ (env : Env) where
     noted s c = note-ocmp load-mem64 int-to-nat64 (env .fill) (state-of env s) c
 
     ocmp-passes : (c : Ocmp) (s : Config) → WfOcmp c → Held env s → Run.valid-ocmp env c s ≡ true
-        → noted s c ≡ ((state-of env (with-flags (env .fill) s), Run.eval-ocmp env c s), (31, true) ∷ [])
+        → noted s c ≡ ((state-of env (with-flags (env .fill) s), Run.eval-ocmp env c s), (Run.ocmp-number env c s, true) ∷ [])
     unfolding note-ocmp check Source.check Source._>>=_
     ocmp-passes c s fits h e =
-        rw (valid-ocmp-is env load-mem64 loads int-to-nat64 ints c s h ∙ e)
-        (ap (λ b. ((state-of env (with-flags (env .fill) s), b), (31, true) ∷ [])) (eval-ocmp-is env load-mem64 loads int-to-nat64 ints c s fits h e))
+        rw (valid-ocmp-is env load-mem64 loads int-to-nat64 ints c s h ∙ e, ocmp-number-is env load-mem64 loads int-to-nat64 ints c s h)
+        (ap (λ b. ((state-of env (with-flags (env .fill) s), b), (Run.ocmp-number env c s, true) ∷ [])) (eval-ocmp-is env load-mem64 loads int-to-nat64 ints c s fits h e))
 
-    ocmp-fails : (c : Ocmp) (s : Config) → Held env s → Run.valid-ocmp env c s ≡ false → (noted s c .0 .0 .ok ≡ false) × (noted s c .1 ≡ (31, false) ∷ [])
+    ocmp-fails : (c : Ocmp) (s : Config) → Held env s → Run.valid-ocmp env c s ≡ false → (noted s c .0 .0 .ok ≡ false) × (noted s c .1 ≡ (Run.ocmp-number env c s, false) ∷ [])
     unfolding note-ocmp check Source.check Source._>>=_
-    ocmp-fails c s h e = rw (valid-ocmp-is env load-mem64 loads int-to-nat64 ints c s h ∙ e) (refl, refl)
+    ocmp-fails c s h e =
+        rw (valid-ocmp-is env load-mem64 loads int-to-nat64 ints c s h ∙ e, ocmp-number-is env load-mem64 loads int-to-nat64 ints c s h) (refl, refl)
 
     tells-ocmp : (q : ℕ) (c : Ocmp) (f g : Config → End) (f′ g′ : State → Logged) → WfOcmp c → TellAll f f′ → TellAll g g′ → Clears f′ → Clears g′
         → TellAll (Running.run-ocmp env q c f g) (log-ocmp load-mem64 int-to-nat64 (env .fill) q c f′ g′)
@@ -178,20 +179,24 @@ module _ (env : Env) where
         next : (State × Bool) × List Note → Logged
         next r = after (events q (state-of env s) (r .1)) (choose (r .0 .1) f′ g′ (r .0 .0))
 
+        -- the number of its check
+        n : ℕ
+        n = Run.ocmp-number env c s
+
         -- the way that the run takes
         taken : End
         taken = Config.choose (Run.eval-ocmp env c s) f g (with-flags (env .fill) s)
 
-        go : (b : Bool) → Run.valid-ocmp env c s ≡ b → Tells (Config.check b 31 q s taken) (next (noted s c))
+        go : (b : Bool) → Run.valid-ocmp env c s ≡ b → Tells (Config.check b n q s taken) (next (noted s c))
         go true e =
             subst⁻¹ (λ (r : (State × Bool) × List Note). Tells taken (next r)) (ocmp-passes c s fits h e)
-            (tells-after (passed 31 q ∷ []) _ _ refl (tells-choose (Run.eval-ocmp env c s) f g f′ g′ F G (with-flags (env .fill) s) h))
+            (tells-after (passed n q ∷ []) _ _ refl (tells-choose (Run.eval-ocmp env c s) f g f′ g′ F G (with-flags (env .fill) s) h))
         go false e =
             let r = noted s c in
             let u = state-of env s in
             let w = ocmp-fails c s h e in
-            ends-fault 31 q s refl
-            (subst⁻¹ (λ (l : List Note). first-bad (events q u l ++ choose (r .0 .1) f′ g′ (r .0 .0) .0) ≡ some (failed 31 q u)) (w .1) refl)
+            ends-fault n q s refl
+            (subst⁻¹ (λ (l : List Note). first-bad (events q u l ++ choose (r .0 .1) f′ g′ (r .0 .0) .0) ≡ some (failed n q u)) (w .1) refl)
             (clear-choose (r .0 .1) f′ g′ F′ G′ (r .0 .0) (w .0))
 
     tells-ins : (p : ℕ) (s : Config) (o : (Unit {0} × State) × List Note) (r : End)

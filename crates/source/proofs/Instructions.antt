@@ -14,6 +14,7 @@ use Rattle.words.specs.Types.{insert-nat32, insert-nat64, add-lanes, equal-lane
 use Rattle.words.specs.Sums.{sum-mod, sum-carry, sub-mod, mul-div, mul-mod}
 use Rattle.words.specs.Flags.{cf, overflow, update-cf, update-of}
 use Rattle.machine.specs.Registers.{Rax, Rdx, reg-at, set-reg, xmm-at, set-xmm}
+use Rattle.machine.specs.Operands.{wild-or}
 use Rattle.machine.specs.Memory.{Memory, LoadsMem64}
 use Rattle.machine.specs.declared.Operand.{Operand}
 use Rattle.code.specs.declared.tree.Instruction.{Instruction}
@@ -28,7 +29,7 @@ use Rattle.eval.specs.Instructions as Run
 use Rattle.eval.proofs.Shapes.{read-check, amount-check, write, write-xmm, flags-kept, halves-kept}
 use Rattle.source.specs.Source as Source
 use Rattle.source.specs.Source.{State, St, put}
-use Rattle.source.specs.Log.{Note, Noted, _>>=_, _>>_, quiet, get, check, check-imm, amount, update-operand-preserve-flags, update-operand, note-ins}
+use Rattle.source.specs.Log.{Note, Noted, _>>=_, _>>_, quiet, get, check, check-imm, unread, unwritten, amount, update-operand-preserve-flags, update-operand, note-ins}
 use Rattle.source.specs.Correspondence.{IntToNat64, state-of}
 use Rattle.source.proofs.OperandLaws.{Held, valid-operand-is, valid-dst-is, dst-read, update-is, update-held, eval-operand-is}
 
@@ -107,14 +108,15 @@ module _ (env : Env) where
   says-last p s0 m s t false n g = stops n refl (g .fails refl) (g .clear refl)
 
   -- ---- checks and writes
-  check-gate : (n : ℕ) (valid : State → Bool) (s : Config) (b : Bool) → Held env s → valid (state-of env s) ≡ b → Gate (check n valid) s s b n
+  check-gate : (number : State → ℕ) (valid : State → Bool) (s : Config) (b : Bool) (n : ℕ) → Held env s
+      → valid (state-of env s) ≡ b → number (state-of env s) ≡ n → Gate (check number valid) s s b n
   unfolding check Source.check Source._>>=_ first-failed
-  check-gate n valid s b h e = record {
+  check-gate number valid s b n h e is = record {
     held = h;
     state = λ f. rw (e ∙ f);
     notes = λ f. rw (e ∙ f);
     clear = λ f. rw (e ∙ f);
-    fails = λ f. rw (e ∙ f);
+    fails = λ f. rw (e ∙ f, is);
   }
 
   imm-gate : (n : ℕ) (b : Bool) (s : Config) → Held env s → Gate (check-imm n b) s s b n
@@ -132,14 +134,14 @@ module _ (env : Env) where
   quiet-gate m s t h e = record { held = h; state = λ f. e; notes = λ f. refl; clear = λ f. cc; fails = λ f. cc }
 
   -- a check, and then a state that is put
-  put-gate : (n : ℕ) (valid : State → Bool) (f : State → State) (s t : Config) (b : Bool) → Held env s → Held env t
+  put-gate : (number : State → ℕ) (valid : State → Bool) (f : State → State) (s t : Config) (b : Bool) → Held env s → Held env t
       → valid (state-of env s) ≡ b → (b ≡ true → f (state-of env s) ≡ state-of env t)
       → Gate (do
-        check n valid
+        check number valid
         s ← get
-        quiet (put (f s))) s t b n
+        quiet (put (f s))) s t b (number (state-of env s))
   unfolding check quiet _>>=_ Source.check Source._>>=_ first-failed
-  put-gate n valid f s t b h h′ e g = record {
+  put-gate number valid f s t b h h′ e g = record {
     held = h′;
     state = λ k. rw (e ∙ k) (g k);
     notes = λ k. rw (e ∙ k);
@@ -150,10 +152,10 @@ module _ (env : Env) where
   -- ---- writes
   -- a destination is written, and flags are kept
   preserve-gate : (dst : Operand) (v w : ℕ) (s t : Config) → Held env s → Run.update-operand env dst w s ≡ t
-      → (Run.valid-dst-operand env dst s ≡ true → v ≡ w) → Gate (update-operand-preserve-flags dst v) s t (Run.valid-dst-operand env dst s) 32
+      → (Run.valid-dst-operand env dst s ≡ true → v ≡ w) → Gate (update-operand-preserve-flags dst v) s t (Run.valid-dst-operand env dst s) (wild-or 32 dst (s .regs))
   unfolding update-operand-preserve-flags
   preserve-gate dst v w s t h e same =
-      put-gate 32 (Source.valid-dst-operand dst) (Source.update-operand-preserve-flags′ dst v) s t _ h
+      put-gate (unwritten dst) (Source.valid-dst-operand dst) (Source.update-operand-preserve-flags′ dst v) s t _ h
       (subst (λ (x : Config). Held env x) e (update-held env dst w s h))
       (valid-dst-is env dst s h)
       (λ g. ap (λ x. Source.update-operand-preserve-flags′ dst x (state-of env s)) (same g) ∙ update-is env dst w s h g ∙ ap (state-of env) e)
@@ -162,11 +164,11 @@ module _ (env : Env) where
     -- a destination is written, and flags are the fill word
     update-gate : (dst : Operand) (i : Instruction) (v w : ℕ) (s : Config) → Held env s → (Run.valid-dst-operand env dst s ≡ true → v ≡ w)
         → Gate (update-operand load-mem64 int-to-nat64 (env .fill) dst i v)
-        s (with-flags (env .fill) (Run.update-operand env dst w s)) (Run.valid-dst-operand env dst s) 32
+        s (with-flags (env .fill) (Run.update-operand env dst w s)) (Run.valid-dst-operand env dst s) (wild-or 32 dst (s .regs))
     unfolding update-operand Source.update-operand′
     update-gate dst i v w s h same =
         let put : ℕ → State = λ x. Source.update-operand-preserve-flags′ dst x (state-of env s) in
-        put-gate 32 (Source.valid-dst-operand dst) (Source.update-operand′ load-mem64 int-to-nat64 (env .fill) dst i v) s _ _ h
+        put-gate (unwritten dst) (Source.valid-dst-operand dst) (Source.update-operand′ load-mem64 int-to-nat64 (env .fill) dst i v) s _ _ h
         (update-held env dst w s h)
         (valid-dst-is env dst s h)
         (λ g. ap (Source.with-flags (env .fill)) (ap put (same g) ∙ update-is env dst w s h g))
@@ -193,8 +195,8 @@ module _ (env : Env) where
       says-get f r e = e
 
       says-source : (o : Operand) (k : Noted (Unit {0})) (r : End) → (Run.valid-operand env o s ≡ true → Says p s k s r)
-          → Says p s (check 31 (Source.valid-operand o) >> k) s (read-check env p o s r)
-      says-source o k r f = says-then p s _ k s s _ 31 r (check-gate 31 _ s _ h (valid-operand-is env o s h)) f
+          → Says p s (check (unread o) (Source.valid-operand o) >> k) s (read-check env p o s r)
+      says-source o k r f = says-then p s _ k s s _ _ r (check-gate (unread o) _ s _ _ h (valid-operand-is env o s h) refl) f
 
       -- what goes from t to u and checks nothing, with k after it, and as the last
       says-next : (m : St (Unit {0})) (k : Noted (Unit {0})) (t u : Config) (r : End) → Held env u → m (state-of env t) .1 ≡ state-of env u
@@ -209,12 +211,12 @@ module _ (env : Env) where
       -- a destination is written and flags are kept
       says-keep : (dst : Operand) (v w : ℕ) → (Run.valid-dst-operand env dst s ≡ true → v ≡ w)
           → Says p s (update-operand-preserve-flags dst v) s (write env p dst w (s .flags) s)
-      says-keep dst v w same = says-last p s _ s _ _ 32 (preserve-gate dst v w s _ h (flags-kept env dst w s) same)
+      says-keep dst v w same = says-last p s _ s _ _ _ (preserve-gate dst v w s _ h (flags-kept env dst w s) same)
 
       -- a destination is written and flags are the fill word
       says-write : (dst : Operand) (i : Instruction) (v w : ℕ) → (Run.valid-dst-operand env dst s ≡ true → v ≡ w)
           → Says p s (update-operand load-mem64 int-to-nat64 (env .fill) dst i v) s (write env p dst w (env .fill) s)
-      says-write dst i v w same = says-last p s _ s _ _ 32 (update-gate dst i v w s h same)
+      says-write dst i v w same = says-last p s _ s _ _ _ (update-gate dst i v w s h same)
 
       -- a destination is written, and then flags by m
       says-flags : (dst : Operand) (i : Instruction) (v w : ℕ) (m : St (Unit {0})) (flags : ℕ) → (Run.valid-dst-operand env dst s ≡ true → v ≡ w)
@@ -222,13 +224,13 @@ module _ (env : Env) where
           → Says p s (update-operand load-mem64 int-to-nat64 (env .fill) dst i v >> quiet m) s (write env p dst w flags s)
       says-flags dst i v w m flags same sets =
           let t = Run.update-operand env dst w s in
-          says-then p s _ _ s (with-flags (env .fill) t) _ 32 _ (update-gate dst i v w s h same)
+          says-then p s _ _ s (with-flags (env .fill) t) _ _ _ (update-gate dst i v w s h same)
           (λ e. says-end m (with-flags (env .fill) t) (with-flags flags t) (update-held env dst w s h) (sets e t))
 
       -- f of a destination and a source, and flags by g
       says-two : (dst src : Operand) → WfTwo dst src → (i : Instruction) (f g : ℕ → ℕ → ℕ)
           → Says p s (do
-            check 31 (Source.valid-operand src)
+            check (unread src) (Source.valid-operand src)
             update-operand load-mem64 int-to-nat64 (env .fill) dst i (f (read dst s) (read src s))
             quiet (Source.update-flags (g (read dst s) (read src s)))) s
           (read-check env p src s (write env p dst (f (value dst s) (value src s)) (g (value dst s) (value src s)) s))
@@ -242,7 +244,7 @@ module _ (env : Env) where
       -- the same, with flags the fill word without carry and overflow
       says-cleared : (dst src : Operand) → WfTwo dst src → (i : Instruction) (f : ℕ → ℕ → ℕ)
           → Says p s (do
-            check 31 (Source.valid-operand src)
+            check (unread src) (Source.valid-operand src)
             update-operand load-mem64 int-to-nat64 (env .fill) dst i (f (read dst s) (read src s))
             quiet (Source.update-cf-of false false)) s
           (read-check env p src s (write env p dst (f (value dst s) (value src s)) (update-cf (update-of (env .fill) false) false) s))
@@ -253,38 +255,39 @@ module _ (env : Env) where
       -- the same, with flags the fill word
       says-binary : (dst src : Operand) → WfTwo dst src → (i : Instruction) (f : ℕ → ℕ → ℕ)
           → Says p s (do
-            check 31 (Source.valid-operand src)
+            check (unread src) (Source.valid-operand src)
             update-operand load-mem64 int-to-nat64 (env .fill) dst i (f (read dst s) (read src s))) s
           (read-check env p src s (write env p dst (f (value dst s) (value src s)) (env .fill) s))
       says-binary dst src fits i f =
           says-source src _ _ (λ e. says-write dst i _ _ (λ d. two-are f dst src fits d e))
 
-      -- a shift amount: one check of the source, 31 and then 33 in the run
+      -- a shift amount: one check of the source; in the run that of what is read, and then 33
       says-amount : (o : Operand) → WfOperand o → (k : Noted (Unit {0})) (r : End) → (Run.valid-operand env o s ≡ true → Says p s k s r)
-          → Says p s (check (amount o (state-of env s)) (Source.valid-shift-operand load-mem64 int-to-nat64 (env .fill) o) >> k) s (amount-check env p o s r)
+          → Says p s (check (amount o) (Source.valid-shift-operand load-mem64 int-to-nat64 (env .fill) o) >> k) s (amount-check env p o s r)
       unfolding Config.check Source.valid-shift-operand
       says-amount o fits k r f = go (Run.valid-operand env o s) refl
         where
           valid : State → Bool
           valid = Source.valid-shift-operand load-mem64 int-to-nat64 (env .fill) o
 
+          n : ℕ
+          n = wild-or 31 o (s .regs)
+
           go : (b : Bool) → Run.valid-operand env o s ≡ b
-              → Says p s (check (amount o (state-of env s)) valid >> k) s (Config.check b 31 p s (Config.check (ltb (value o s) 64) 33 p s r))
+              → Says p s (check (amount o) valid >> k) s (Config.check b n p s (Config.check (ltb (value o s) 64) 33 p s r))
           go true e =
               let v : Source.valid-operand o (state-of env s) ≡ true = valid-operand-is env o s h ∙ e in
-              subst⁻¹ (λ n. Says p s (check n valid >> k) s (Config.check (ltb (value o s) 64) 33 p s r)) (ap (λ b. cond b 33 31) v)
-              (says-then p s (check 33 valid) k s s (ltb (value o s) 64) 33 r
-              (check-gate 33 valid s _ h (ap₂ (λ b x. b && ltb x 64) v (is o fits e))) (λ g. f e))
+              says-then p s (check (amount o) valid) k s s (ltb (value o s) 64) 33 r
+              (check-gate (amount o) valid s _ 33 h (ap₂ (λ b x. b && ltb x 64) v (is o fits e)) (ap (λ b. cond b 33 n) v)) (λ g. f e)
           go false e =
               let v : Source.valid-operand o (state-of env s) ≡ false = valid-operand-is env o s h ∙ e in
-              subst⁻¹ (λ n. Says p s (check n valid >> k) s (ends (fault 31 p) s)) (ap (λ b. cond b 33 31) v)
-              (says-then p s (check 31 valid) k s s false 31 (ends done s)
-              (check-gate 31 valid s _ h (ap (λ b. b && ltb (read o s) 64) v)) (λ g. absurd (false≢true g)))
+              says-then p s (check (amount o) valid) k s s false n (ends done s)
+              (check-gate (amount o) valid s _ n h (ap (λ b. b && ltb (read o s) 64) v) (ap (λ b. cond b 33 n) v)) (λ g. absurd (false≢true g))
 
       -- f of a destination that is read and a shift amount
       says-shift : (dst amt : Operand) → WfTwo dst amt → (i : Instruction) (f : ℕ → ℕ → ℕ)
           → Says p s (do
-            check (amount amt (state-of env s)) (Source.valid-shift-operand load-mem64 int-to-nat64 (env .fill) amt)
+            check (amount amt) (Source.valid-shift-operand load-mem64 int-to-nat64 (env .fill) amt)
             update-operand load-mem64 int-to-nat64 (env .fill) dst i (f (read dst s) (read amt s))) s
           (amount-check env p amt s (write env p dst (f (value dst s) (value amt s)) (env .fill) s))
       says-shift dst amt fits i f =
@@ -299,7 +302,7 @@ module _ (env : Env) where
       -- f of a source is written to an xmm
       says-insert : (x : ℕ) (src : Operand) → WfOperand src → (f : ℕ → Four ℕ)
           → Says p s (do
-            check 31 (Source.valid-operand src)
+            check (unread src) (Source.valid-operand src)
             quiet (Source.update-xmm-preserve-flags x (f (read src s)))) s
           (read-check env p src s (write-xmm env p x (f (value src s)) (s .flags) s))
       says-insert x src fits f = says-source src _ _ (λ e. says-xmm x _ _ (ap f (is src fits e)))
@@ -316,7 +319,7 @@ module _ (env : Env) where
           let u = with-flags (env .fill) t in
           let g = update-held env dst (sum (value dst s) (value src s)) s h in
           says-get _ _ (says-source src _ _ (λ e.
-          says-then p s _ _ s u _ 32 _ (update-gate dst (AddCarry64 dst src) _ _ s h (λ d. two-are sum dst src fits d e)) (λ d.
+          says-then p s _ _ s u _ _ _ (update-gate dst (AddCarry64 dst src) _ _ s h (λ d. two-are sum dst src fits d e)) (λ d.
           says-next (Source.update-flags (env .fill)) _ u u _ g refl
           (says-end _ u (with-flags (flags (value dst s) (value src s)) t) g (ap (λ x. state-of env (with-flags x t)) (two-are flags dst src fits d e))))))
 
@@ -338,8 +341,8 @@ module _ (env : Env) where
           let a = reg-at (s .regs) Rdx in
           let t = Run.update-operand env dst-lo (mul-mod 64 a (value src s)) s in
           says-get _ _ (says-source src _ _ (λ e.
-          says-then p s _ _ s t _ 32 _ (preserve-gate dst-lo _ _ s t h refl (λ _. ap (mul-mod 64 a) (is src fits e)))
-          (λ _. says-last p s _ t _ _ 32
+          says-then p s _ _ s t _ _ _ (preserve-gate dst-lo _ _ s t h refl (λ _. ap (mul-mod 64 a) (is src fits e)))
+          (λ _. says-last p s _ t _ _ _
           (preserve-gate dst-hi _ _ t _ (update-held env dst-lo _ s h)
           (halves-kept env dst-lo dst-hi (mul-mod 64 a (value src s)) (mul-div 64 a (value src s)) s)
           (λ _. ap (mul-div 64 a) (is src fits e))))))
@@ -381,7 +384,7 @@ module _ (env : Env) where
       says-ins (Pinsrd dst src index) fits = says-get _ _ (says-insert dst src (fits .1 .1) (λ a. insert-nat32 (xmm-at (s .xmms) dst) (a % 2 ^ 32) (index % 4)))
       says-ins (Pinsrq dst src index) fits = says-get _ _ (says-insert dst src (fits .1 .1) (λ a. insert-nat64 (xmm-at (s .xmms) dst) a (index % 2)))
       says-ins (VPSLLDQ dst src count) fits =
-          says-get _ _ (says-then p s _ _ s s _ 35 _ (check-gate 35 (λ _. eqb count 4) s _ h refl) (λ _. says-xmm dst _ _ refl))
+          says-get _ _ (says-then p s _ _ s s _ 35 _ (check-gate (λ _. 35) (λ _. eqb count 4) s _ 35 h refl refl) (λ _. says-xmm dst _ _ refl))
       says-ins (Popcnt64 dst src) fits = says-get _ _ (says-cleared dst src fits (Popcnt64 dst src) (λ a b. popcnt 64 b))
       says-ins (Lzcnt64 dst src) fits =
           says-get _ _ (says-two dst src fits (Lzcnt64 dst src) (λ a b. lzcnt 64 b) (λ a b. update-cf (env .fill) (eqb b 0)))

@@ -2,11 +2,12 @@
 use Prim.Native.Nat.{ℕ, _≤_}
 use mathlib.Core.Path.{_≡_, refl, ap}
 use mathlib.Core.Bool.{Bool, true, false, _&&_}
+use mathlib.Core.List.{List, [], _∷_}
 use mathlib.Core.Option.{Option, none, some}
 use native.Mathlib.Omega.{arith}
 use lib.IntN.{ℤ}
 use lib.ListN.{length, length-set}
-use Rattle.machine.specs.Operands.{eval-maddr, valid-dst}
+use Rattle.machine.specs.Operands.{eval-maddr, unread-number, valid-dst}
 use Rattle.machine.specs.Cells.{find-cell, cell-value, set-cell, is-cell}
 use Rattle.machine.specs.Memory.{Memory, LoadsMem64, memory-of, store-mem64}
 use Rattle.machine.specs.declared.Operand.{Operand}
@@ -14,12 +15,14 @@ use Rattle.machine.specs.declared.Operand.the-variants.{OConst, OReg, OMem}
 use Rattle.machine.proofs.MemoryLaws.{valid-is-cell, load-at, memory-store}
 use Rattle.code.specs.declared.tree.Ocmp.{Ocmp}
 use Rattle.code.specs.declared.tree.Ocmp.the-variants.{OEq, ONe, OLe, OGe, OLt, OGt}
+use Rattle.code.specs.Layout.{ocmp-layout}
 use Rattle.code.specs.WellFormed.{WfOperand, WfOcmp}
 use Rattle.code.proofs.Accepted.{WfTwo}
 use Rattle.eval.specs.Config.{Env, Config}
 use Rattle.eval.specs.Instructions as Run
 use Rattle.source.specs.Source as Source
 use Rattle.source.specs.Source.{with-mem}
+use Rattle.source.specs.Log.{ocmp-number}
 use Rattle.source.specs.Correspondence.{IntToNat64, state-of}
 
 -- every cell has a value
@@ -89,6 +92,12 @@ module _ (env : Env) where
         go none p f = cc
         go (some i) p f = load-at load-mem64 loads (env .addresses) (env .tags) (s .values) (eval-maddr m (s .regs)) i p h
 
+    unread-is : (os : List Operand) (s : Config) → Held env s
+        → unread-number (λ o. Source.valid-operand o (state-of env s)) (s .regs) os ≡ unread-number (λ o. Run.valid-operand env o s) (s .regs) os
+    unfolding unread-number
+    unread-is [] s h = refl
+    unread-is (o ∷ os) s h = rw (valid-operand-is o s h, unread-is os s h)
+
     pub valid-ocmp-is : (c : Ocmp) (s : Config) → Held env s → Source.valid-ocmp c (state-of env s) ≡ Run.valid-ocmp env c s
     unfolding Source.valid-ocmp Run.valid-ocmp
     valid-ocmp-is (OEq a b) s h = rw (valid-operand-is a s h, valid-operand-is b s h)
@@ -97,6 +106,11 @@ module _ (env : Env) where
     valid-ocmp-is (OGe a b) s h = rw (valid-operand-is a s h, valid-operand-is b s h)
     valid-ocmp-is (OLt a b) s h = rw (valid-operand-is a s h, valid-operand-is b s h)
     valid-ocmp-is (OGt a b) s h = rw (valid-operand-is a s h, valid-operand-is b s h)
+
+    -- and the number of its check is one in both
+    pub ocmp-number-is : (c : Ocmp) (s : Config) → Held env s → ocmp-number c (state-of env s) ≡ Run.ocmp-number env c s
+    unfolding ocmp-number Run.ocmp-number
+    ocmp-number-is c s h = unread-is (ocmp-layout c .operands) s h
 
     -- the values of two operands that can be read
     module _ (a b : Operand) (s : Config) (fits : WfTwo a b) (h : Held env s) (e : Run.valid-operand env a s && Run.valid-operand env b s ≡ true) where

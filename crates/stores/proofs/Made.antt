@@ -16,7 +16,7 @@ use Rattle.code.specs.declared.tree.Instruction.{Instruction}
 use Rattle.code.specs.declared.tree.Ocmp.{Ocmp}
 use Rattle.code.specs.Tree.{Code, Ins, Block, IfElse, While, Codes, ⟨⟩, _∷ᶜ_}
 use Rattle.eval.specs.Config.{Env, Config, with-regs, with-xmms, with-flags, End, ends, Outcome, done, fault, spent, refused, continue, check, choose}
-use Rattle.eval.specs.Instructions.{cell-of, update-operand, checked, set-regs, set-xmms, written, act, run-ins, valid-ocmp, eval-ocmp}
+use Rattle.eval.specs.Instructions.{cell-of, update-operand, readable, ruled, set-regs, set-xmms, written, act, run-ins, valid-ocmp, ocmp-number, eval-ocmp}
 use Rattle.eval.specs.Running.{run-ocmp, rounds, run-code, run-codes}
 use Rattle.stores.specs.Stores.{Store, with-stores, to-cell, store, stores-to, stores, stores-of, Completed, if-done, way, completed, completed-all, completed-rounds}
 
@@ -58,9 +58,13 @@ module _ (env : Env) where
       go (some i) = refl
 
   -- the checks of what is read
-  made-checked : (p : ℕ) (cs : List (Bool × ℕ)) {ws : List Store} {s : Config} {k : End} → Made ws s k → Made ws s (checked p cs s k)
-  made-checked p [] h = h
-  made-checked p (c ∷ cs) h = made-check (c .0) (c .1) p (made-checked p cs h)
+  made-readable : (p : ℕ) (os : List Operand) {ws : List Store} {s : Config} {k : End} → Made ws s k → Made ws s (readable env p os s k)
+  made-readable p [] h = h
+  made-readable p (o ∷ os) h = made-check _ _ p (made-readable p os h)
+
+  made-ruled : (p : ℕ) (cs : List (Bool × ℕ)) {ws : List Store} {s : Config} {k : End} → Made ws s k → Made ws s (ruled p cs s k)
+  made-ruled p [] h = h
+  made-ruled p (c ∷ cs) h = made-check (c .0) (c .1) p (made-ruled p cs h)
 
   -- the writes from t on, behind the stores a
   made-written :
@@ -73,7 +77,7 @@ module _ (env : Env) where
       let next = store env (w .0) (w .1) t in
       let u = update-operand env (w .0) (w .1) t in
       let so-far = stored (w .0) (w .1) t ∙ ap (with-stores next) h ∙ sym (make-append a next (s .values)) in
-      made-check _ 32 p
+      made-check _ _ p
       (subst (λ l. Made l s (written env p ws s (λ u. ends done (f u)) u)) (append-assoc a next (stores-to env ws u))
       (made-written p ws s u f keeps (a ++ next) so-far))
 
@@ -90,9 +94,9 @@ module _ (env : Env) where
   unfolding run-ins stores with-stores
   made-ins p i s =
       let a = act env i s in
-      made-checked p (a .checks)
+      made-readable p (a .sources) (made-ruled p (a .rules)
       (made-written p (a .words) s s (λ t. with-flags (a .flags) (set-xmms (a .quads) (set-regs (a .regs) t)))
-      (λ t. xmms-keep (a .quads) (set-regs (a .regs) t) ∙ regs-keep (a .regs) t) [] refl)
+      (λ t. xmms-keep (a .quads) (set-regs (a .regs) t) ∙ regs-keep (a .regs) t) [] refl))
 
   stores-of-append : (a b : List Completed) → stores-of env (a ++ b) ≡ stores-of env a ++ stores-of env b
   unfolding stores-of
@@ -134,7 +138,7 @@ module _ (env : Env) where
   unfolding run-ocmp check choose way stores-of with-stores
   traced-way q c f g l m s F G = go (valid-ocmp env c s) (eval-ocmp env c s)
     where
-      go : (a b : Bool) → Traced (s .values) (way a b l m (with-flags (env .fill) s)) (check a 31 q s (choose b f g (with-flags (env .fill) s)))
+      go : (a b : Bool) → Traced (s .values) (way a b l m (with-flags (env .fill) s)) (check a (ocmp-number env c s) q s (choose b f g (with-flags (env .fill) s)))
       go true true = F (with-flags (env .fill) s)
       go true false = G (with-flags (env .fill) s)
       go false b = record { judged = tt; made = refl }

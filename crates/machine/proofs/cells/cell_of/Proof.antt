@@ -1,47 +1,50 @@
--- `machine::cells::cell_of` meets its contract: a cell is found at the word of the exact address, and none where that is no word.
+-- `machine::cells::cell_of` meets its contract: what is found at the word of the exact address, and a wild one where that is no word.
 use mathlib.Core.Path.{sym, ap, _∙_}
 use denote.Ref.{now}
 use borrow.Author.Needs.{needs}
 use Rattle.machine.specs.Operands.{word-of, eval-maddr}
-use Rattle.machine.proofs.OperandLaws.{find-inside, find-outside}
+use Rattle.machine.proofs.OperandLaws.{leads-to-cell, leads-to-none, leads-outside}
 use Rattle.machine.proofs.cells.cell_of.Statement.{statement}
 use Rattle.machine.proofs.cells.cell_of.Tie as tie
 
-operand-address-requires : tie.Need-operand-address-requires
-operand-address-requires c κs = search needs
-
-enum-known-word : tie.Need-enum-known-word
-enum-known-word c = search needs
-
-find-cell-requires : tie.Need-find-cell-requires
-find-cell-requires c κs = search needs
-
-enum-told : tie.Need-enum-told
-enum-told c = search needs
-
 returns : tie.Need-returns
 returns c =
-    let k = c .before .before .before .before in
-    let a = k .before .before .before .args in
-    let z = eval-maddr (a .m) (now (a .regs)) in
-    c .find-cell .ensures
-    ∙ sym (find-inside (a .addresses .now) (a .tags .now) z _ (sym (k .operand-address .ensures) ∙ ap word-of (c .before .before .word .given .1)))
+    let found = c .before .before .before in
+    let inside = found .before .before in
+    let address = inside .before .before in
+    let a = address .before .before .before .args in
+    leads-to-cell (a .addresses .now) (a .tags .now) (eval-maddr (a .m) (now (a .regs))) _
+    (sym (address .operand-address .ensures) ∙ ap word-of (inside .word .given .1))
+    (found .find-cell .result) (found .find-cell .ensures) _ (c .before .index .given .1)
 
 returns-2 : tie.Need-returns-2
 returns-2 c =
-    let k = c .before .before in
-    let a = k .before .before .before .args in
-    let z = eval-maddr (a .m) (now (a .regs)) in
-    let e = sym (k .operand-address .ensures) ∙ ap word-of (c .enum-told .given .1) in
-    sym (find-outside (a .addresses .now) (a .tags .now) z e (λ i. k .before .before .shared-slice-known .given i .fits))
+    let found = c .before .before in
+    let inside = found .before .before in
+    let address = inside .before .before in
+    let a = address .before .before .before .args in
+    leads-to-none (a .addresses .now) (a .tags .now) (eval-maddr (a .m) (now (a .regs))) _
+    (sym (address .operand-address .ensures) ∙ ap word-of (inside .word .given .1))
+    (found .find-cell .result) (found .find-cell .ensures) (c .enum-told .given .1)
+
+returns-3 : tie.Need-returns-3
+returns-3 c =
+    let address = c .before .before in
+    let a = address .before .before .before .args in
+    leads-outside (a .addresses .now) (a .tags .now) (eval-maddr (a .m) (now (a .regs)))
+    (sym (address .operand-address .ensures) ∙ ap word-of (c .enum-told2 .given .1))
+    (λ i. address .before .before .shared-slice-known .given i .fits)
 
 pub cell-of-spec : {M : Type 1} → statement M
 cell-of-spec =
     tie.close
     (tie.spec
-    operand-address-requires
-    enum-known-word
-    find-cell-requires
-    enum-told
+    (λ c κs. search needs)
+    (λ c. search needs)
+    (λ c κs. search needs)
+    (λ c. search needs)
+    (λ c. search needs)
+    (λ c. search needs)
     returns
-    returns-2)
+    returns-2
+    returns-3)
