@@ -1,0 +1,386 @@
+-- A check that fails has one reason, and a reason makes its check fail: said once of an operand, and then of sources, rules and destinations in a row, of
+-- a comparison, and of a whole run by its tree. Assumes nothing.
+use Prim.Native.Nat.{ℕ, zero, suc, _+_, _/_, _^_, _≤_}
+use mathlib.Core.Path.{_≡_, refl, sym, _∙_, ap, subst, subst⁻¹}
+use mathlib.Core.Bool.{Bool, true, false, not, _&&_, cond, false≢true}
+use mathlib.Core.List.{List, [], _∷_}
+use mathlib.Core.Logic.{_⊎_, inl, inr, ⊎-elim}
+use mathlib.Core.Option.{Option, none, some}
+use native.Mathlib.Omega.{arith}
+use borrow.Author.Tests.{leb-true, le-leb, eqb-true}
+use lib.Dec.{eqb}
+use lib.IntN.{ℤ, pos, negsuc}
+use lib.ListN.{getD}
+use Rattle.machine.specs.Registers.{Rsp, reg}
+use Rattle.machine.specs.Operands.{eval-maddr, wild, wild-operand, wild-or, unread-number, valid-dst}
+use Rattle.machine.specs.Cells.{Verdict, accepted, check-cells, find-cell, is-cell}
+use Rattle.machine.specs.Cells.{refused as cells-refused}
+use Rattle.machine.specs.declared.Maddr.{Maddr}
+use Rattle.machine.specs.declared.Operand.{Operand}
+use Rattle.machine.specs.declared.Operand.the-variants.{OConst, OReg, OMem}
+use Rattle.machine.proofs.FindLaws.{find-hit}
+use Rattle.machine.proofs.Accepting.{cells-within}
+use Rattle.code.specs.declared.tree.Instruction.{Instruction}
+use Rattle.code.specs.declared.tree.Ocmp.{Ocmp}
+use Rattle.code.specs.declared.tree.Ocmp.the-variants.{OEq, ONe, OLe, OGe, OLt, OGt}
+use Rattle.code.specs.Layout.{ocmp-layout}
+use Rattle.code.specs.Tree.{Code, Ins, Block, IfElse, While, Codes, ⟨⟩, _∷ᶜ_}
+use Rattle.code.specs.Reader.{Read, got, trouble, parse}
+use Rattle.eval.specs.Config.{Env, Config, with-flags, Outcome, done, fault, spent, refused, End, ends, continue, and-then, check, choose}
+use Rattle.eval.specs.Instructions.{cell-of, valid-operand, valid-dst-operand, update-operand, readable, ruled, written, act, run-ins, valid-ocmp, ocmp-number, eval-ocmp}
+use Rattle.eval.specs.Running.{run-ocmp, rounds, run-code, run-codes, run-checked, run-read, run-of}
+use Rattle.demands.specs.Telling.{OutOfRange, Wild, Absent, Unread, wild as is-wild, absent, Unwritten, wild-dst, absent-dst, constant, rsp, AllRead, FirstUnread, AllHold, FirstBroken, FirstUnwritten, Fails, FailsAt, FailsIn, Tells, Telling}
+
+-- ---- exact addresses
+wild-is : (z : ℤ) → wild z ≡ true → OutOfRange z
+unfolding wild
+wild-is (pos n) e = leb-true (2 ^ 64) n e
+wild-is (negsuc n) e = tt
+
+is-out : (z : ℤ) → OutOfRange z → wild z ≡ true
+unfolding wild
+is-out (pos n) h = le-leb (2 ^ 64) n h
+is-out (negsuc n) h = refl
+
+not-both : {b : Bool} {A : Type 0} → b ≡ true → b ≡ false → A
+not-both e f = absurd (false≢true (sym f ∙ e))
+
+-- ---- a check
+-- only a fault is one
+abbrev IsFault : Outcome → Type 0
+IsFault done = ⊥
+IsFault (fault n p) = Unit {0}
+IsFault (spent p) = ⊥
+IsFault (refused n p) = ⊥
+
+is-fault : {e : End} {n p : ℕ} {t : Config} → e ≡ ends (fault n p) t → IsFault (e .how)
+is-fault e = subst⁻¹ (λ (x : End). IsFault (x .how)) e tt
+
+-- the end of a fault names its number, its place and what it leaves
+same-fault : {m n p q : ℕ} {s t : Config} → ends (fault m p) s ≡ ends (fault n q) t → (q ≡ p) × (t ≡ s) × (n ≡ m)
+same-fault {m} {n} {p} {q} {s} {t} e =
+    let h : fault m p ≡ fault n q = ap (λ (x : End). x .how) e in
+    (cc, sym (ap (λ (x : End). x .config) e), cc)
+
+module _ {n q : ℕ} {t : Config} (p : ℕ) (s : Config) where
+  -- it fails, and the fault is its own, or it passes and the fault is that of what follows
+  check-faults : (b : Bool) (m : ℕ) (k : End) → check b m p s k ≡ ends (fault n q) t
+      → ((b ≡ false) × (q ≡ p) × (t ≡ s) × (n ≡ m)) ⊎ ((b ≡ true) × (k ≡ ends (fault n q) t))
+  unfolding check
+  check-faults true m k e = inr (refl, e)
+  check-faults false m k e = let w = same-fault e in inl (refl, w .0, w .1, w .2)
+
+module _ (env : Env) where
+  -- ---- an operand
+  module _ (s : Config) where
+    abbrev Misses : Operand → ℕ → ℕ → Type 0
+    Misses o k n = ((n ≡ 36) × Wild o s) ⊎ ((n ≡ k) × Absent env o s)
+
+    -- memory that has no cell
+    misses : (m : Maddr) (k n : ℕ) → cell-of env m s ≡ none → n ≡ wild-or k (OMem m) (s .regs) → Misses (OMem m) k n
+    unfolding wild-operand
+    misses m k n e is = go (wild (eval-maddr m (s .regs))) refl is
+      where
+        go : (b : Bool) → wild (eval-maddr m (s .regs)) ≡ b → n ≡ cond b 36 k → Misses (OMem m) k n
+        go true w is = inl (is, record { memory = m; is-memory = refl; out = wild-is _ w })
+        go false w is =
+            inr (is, record { memory = m; is-memory = refl; in-range = λ out. not-both (is-out _ out) w; no-cell = e })
+
+    -- an operand that cannot be read
+    unreadable : (o : Operand) (k n : ℕ) → valid-operand env o s ≡ false → n ≡ wild-or k o (s .regs) → Misses o k n
+    unfolding valid-operand
+    unreadable (OConst v) k n e is = absurd (false≢true (sym e))
+    unreadable (OReg r) k n e is = absurd (false≢true (sym e))
+    unreadable (OMem m) k n e is = misses m k n (go (cell-of env m s) e) is
+      where
+        go : (i : Option ℕ) → is-cell i ≡ false → i ≡ none
+        go none e = refl
+        go (some i) e = absurd (false≢true (sym e))
+
+    unread-why : (o : Operand) (n : ℕ) → valid-operand env o s ≡ false → n ≡ wild-or 31 o (s .regs) → Unread env o s n
+    unread-why o n e is =
+        ⊎-elim (λ (w : (n ≡ 36) × Wild o s). is-wild (w .0) (w .1)) (λ w. absent (w .0) (w .1)) (unreadable o 31 n e is)
+
+    unwritten-why : (o : Operand) (n : ℕ) → valid-dst-operand env o s ≡ false → n ≡ wild-or 32 o (s .regs) → Unwritten env o s n
+    unfolding valid-dst-operand valid-operand valid-dst wild-operand
+    unwritten-why (OConst v) n e is = constant is v refl
+    unwritten-why (OReg r) n e is = rsp is (go (eqb (r .number) 7) refl e)
+      where
+        go : (b : Bool) → eqb (r .number) 7 ≡ b → not b ≡ false → OReg r ≡ OReg Rsp
+        go true h f = ap (λ i. OReg (reg i)) (eqb-true (r .number) 7 h)
+        go false h f = absurd (false≢true (sym f))
+    unwritten-why (OMem m) n e is = go (is-cell (cell-of env m s)) refl e
+      where
+        go : (b : Bool) → valid-operand env (OMem m) s ≡ b → b && true ≡ false → Unwritten env (OMem m) s n
+        go true h f = absurd (false≢true (sym f))
+        go false h f = ⊎-elim (λ (w : (n ≡ 36) × Wild (OMem m) s). wild-dst (w .0) (w .1)) (λ w. absent-dst (w .0) (w .1)) (unreadable (OMem m) 32 n h is)
+
+    -- the other way, over accepted cells
+    module _ (values : List ℕ) (cells : check-cells (env .addresses) (env .tags) values ≡ accepted) where
+      no-cell-out : (z : ℤ) → OutOfRange z → find-cell (env .addresses) (env .tags) z ≡ none
+      no-cell-out z out = go (find-cell (env .addresses) (env .tags) z) refl
+        where
+          within : (z : ℤ) (a : ℕ) → pos a ≡ z → a + 8 ≤ 2 ^ 64 → OutOfRange z → ⊥
+          within z a e h out = omega (arith, h, subst⁻¹ OutOfRange e out)
+
+          go : (k : Option ℕ) → find-cell (env .addresses) (env .tags) z ≡ k → k ≡ none
+          go none e = refl
+          go (some i) e =
+              let hit = find-hit (env .addresses) (env .tags) z i e in
+              let end = cells-within (env .addresses) (env .tags) values cells i (hit .inside) in
+              absurd (within z (getD (env .addresses) i 0) (hit .address)
+              (subst (λ t. getD (env .addresses) i 0 + t / 8 ≤ 2 ^ 64) (hit .tag) end) out)
+
+      wild-fails : (o : Operand) → Wild o s → (valid-operand env o s ≡ false) × (wild-operand o (s .regs) ≡ true)
+      unfolding valid-operand wild-operand cell-of
+      wild-fails o w = rw (w .is-memory, no-cell-out _ (w .out), is-out _ (w .out)) (refl, refl)
+
+      absent-fails : (o : Operand) → Absent env o s → (valid-operand env o s ≡ false) × (wild-operand o (s .regs) ≡ false)
+      unfolding valid-operand wild-operand
+      absent-fails o w = rw (w .is-memory, w .no-cell) (refl, go (wild (eval-maddr (w .memory) (s .regs))) refl)
+        where
+          go : (b : Bool) → wild (eval-maddr (w .memory) (s .regs)) ≡ b → b ≡ false
+          go true e = absurd (w .in-range (wild-is _ e))
+          go false e = refl
+
+      unread-fails : (o : Operand) (n : ℕ) → Unread env o s n → (valid-operand env o s ≡ false) × (wild-or 31 o (s .regs) ≡ n)
+      unread-fails o n (is-wild e w) = let f = wild-fails o w in (f .0, rw (f .1) (sym e))
+      unread-fails o n (absent e w) = let f = absent-fails o w in (f .0, rw (f .1) (sym e))
+
+      unwritten-fails : (o : Operand) (n : ℕ) → Unwritten env o s n → (valid-dst-operand env o s ≡ false) × (wild-or 32 o (s .regs) ≡ n)
+      unfolding valid-dst-operand valid-operand valid-dst wild-operand
+      unwritten-fails o n (wild-dst e w) = let f = wild-fails o w in (rw (f .0), rw (f .1) (sym e))
+      unwritten-fails o n (absent-dst e w) = let f = absent-fails o w in (rw (f .0), rw (f .1) (sym e))
+      unwritten-fails o n (constant e v is) = rw is (refl, sym e)
+      unwritten-fails o n (rsp e is) = rw is (refl, sym e)
+
+  -- ---- sources, rules and destinations in a row: a fault is the first one's that fails, or that of what follows
+  module _ (p : ℕ) (s : Config) where
+    module _ {n q : ℕ} {t : Config} where
+      readable-faults : (os : List Operand) (k : End) → readable env p os s k ≡ ends (fault n q) t
+          → ((q ≡ p) × (t ≡ s) × FirstUnread env s os n) ⊎ (AllRead env s os × (k ≡ ends (fault n q) t))
+      readable-faults [] k e = inr (tt, e)
+      readable-faults (o ∷ os) k e =
+          ⊎-elim
+          (λ w. inl (w .1, w .2, inl (unread-why s o n (w .0) (w .3))))
+          (λ w. ⊎-elim (λ v. inl (v .0, v .1, inr (w .0, v .2))) (λ v. inr ((w .0, v .0), v .1)) (readable-faults os k (w .1)))
+          (check-faults p s (valid-operand env o s) _ _ e)
+
+      ruled-faults : (cs : List (Bool × ℕ)) (k : End) → ruled p cs s k ≡ ends (fault n q) t
+          → ((q ≡ p) × (t ≡ s) × FirstBroken cs n) ⊎ (AllHold cs × (k ≡ ends (fault n q) t))
+      ruled-faults [] k e = inr (tt, e)
+      ruled-faults (c ∷ cs) k e =
+          ⊎-elim
+          (λ w. inl (w .1, w .2, inl (w .0, w .3)))
+          (λ w. ⊎-elim (λ v. inl (v .0, v .1, inr (w .0, v .2))) (λ v. inr ((w .0, v .0), v .1)) (ruled-faults cs k (w .1)))
+          (check-faults p s (c .0) (c .1) _ e)
+
+      written-faults : (ws : List (Operand × ℕ)) (f : Config → Config) (u : Config)
+          → written env p ws s (λ x. ends done (f x)) u ≡ ends (fault n q) t → (q ≡ p) × (t ≡ s) × FirstUnwritten env u ws n
+      written-faults [] f u e = absurd (is-fault e)
+      written-faults (w ∷ ws) f u e =
+          ⊎-elim
+          (λ x. (x .1, x .2, inl (unwritten-why u (w .0) n (x .0) (x .3))))
+          (λ x. let v = written-faults ws f (update-operand env (w .0) (w .1) u) (x .1) in (v .0, v .1, inr (x .0, v .2)))
+          (check-faults p s (valid-dst-operand env (w .0) u) _ _ e)
+
+      pub ins-faults : (i : Instruction) → run-ins env p i s ≡ ends (fault n q) t → (q ≡ p) × (t ≡ s) × Fails env i s n
+      unfolding run-ins
+      ins-faults i e =
+          let a = act env i s in
+          ⊎-elim
+          (λ w. (w .0, w .1, inl (w .2)))
+          (λ w. ⊎-elim
+          (λ v. (v .0, v .1, inr (w .0, inl (v .2))))
+          (λ v. let x = written-faults (a .words) _ s (v .1) in (x .0, x .1, inr (w .0, inr (v .0, x .2))))
+          (ruled-faults (a .rules) _ (w .1)))
+          (readable-faults (a .sources) _ e)
+
+    module _ (values : List ℕ) (cells : check-cells (env .addresses) (env .tags) values ≡ accepted) (n : ℕ) where
+      readable-fails : (os : List Operand) (k : End) → FirstUnread env s os n → readable env p os s k ≡ ends (fault n p) s
+      unfolding check
+      readable-fails [] k h = absurd h
+      readable-fails (o ∷ os) k (inl h) = let w = unread-fails s values cells o n h in rw (w .0, w .1)
+      readable-fails (o ∷ os) k (inr h) = rw (h .0) (readable-fails os k (h .1))
+
+      readable-passes : (os : List Operand) (k : End) → AllRead env s os → readable env p os s k ≡ k
+      unfolding check
+      readable-passes [] k h = refl
+      readable-passes (o ∷ os) k h = rw (h .0) (readable-passes os k (h .1))
+
+      ruled-fails : (cs : List (Bool × ℕ)) (k : End) → FirstBroken cs n → ruled p cs s k ≡ ends (fault n p) s
+      unfolding check
+      ruled-fails [] k h = absurd h
+      ruled-fails (c ∷ cs) k (inl h) = rw (h .0, h .1)
+      ruled-fails (c ∷ cs) k (inr h) = rw (h .0) (ruled-fails cs k (h .1))
+
+      ruled-passes : (cs : List (Bool × ℕ)) (k : End) → AllHold cs → ruled p cs s k ≡ k
+      unfolding check
+      ruled-passes [] k h = refl
+      ruled-passes (c ∷ cs) k h = rw (h .0) (ruled-passes cs k (h .1))
+
+      written-fails : (ws : List (Operand × ℕ)) (k : Config → End) (u : Config) → FirstUnwritten env u ws n → written env p ws s k u ≡ ends (fault n p) s
+      unfolding check
+      written-fails [] k u h = absurd h
+      written-fails (w ∷ ws) k u (inl h) = let x = unwritten-fails u values cells (w .0) n h in rw (x .0, x .1)
+      written-fails (w ∷ ws) k u (inr h) = rw (h .0) (written-fails ws k (update-operand env (w .0) (w .1) u) (h .1))
+
+      pub ins-fails : (i : Instruction) → Fails env i s n → run-ins env p i s ≡ ends (fault n p) s
+      unfolding run-ins
+      ins-fails i (inl h) = readable-fails (act env i s .sources) _ h
+      ins-fails i (inr (h, inl k)) = readable-passes (act env i s .sources) _ h ∙ ruled-fails (act env i s .rules) _ k
+      ins-fails i (inr (h, inr k)) =
+          let a = act env i s in
+          readable-passes (a .sources) _ h ∙ ruled-passes (a .rules) _ (k .0) ∙ written-fails (a .words) _ s (k .1)
+
+  -- ---- comparisons
+  module _ (s : Config) where
+    -- the two operands of a comparison
+    record Pair (c : Ocmp) : Type 0 where
+      one : Operand
+      other : Operand
+      operands : ocmp-layout c .operands ≡ one ∷ other ∷ []
+      valid : valid-ocmp env c s ≡ valid-operand env one s && valid-operand env other s
+
+    pair : (c : Ocmp) → Pair c
+    unfolding valid-ocmp
+    pair (OEq a b) = record { one = a; other = b; operands = refl; valid = refl }
+    pair (ONe a b) = record { one = a; other = b; operands = refl; valid = refl }
+    pair (OLe a b) = record { one = a; other = b; operands = refl; valid = refl }
+    pair (OGe a b) = record { one = a; other = b; operands = refl; valid = refl }
+    pair (OLt a b) = record { one = a; other = b; operands = refl; valid = refl }
+    pair (OGt a b) = record { one = a; other = b; operands = refl; valid = refl }
+
+    abbrev number-of : List Operand → ℕ
+    number-of os = unread-number (λ o. valid-operand env o s) (s .regs) os
+
+    two-unread : (a b : Operand) → valid-operand env a s && valid-operand env b s ≡ false → FirstUnread env s (a ∷ b ∷ []) (number-of (a ∷ b ∷ []))
+    unfolding unread-number
+    two-unread a b e = go (valid-operand env a s) (valid-operand env b s) refl refl e
+      where
+        go : (x y : Bool) → valid-operand env a s ≡ x → valid-operand env b s ≡ y → x && y ≡ false
+            → FirstUnread env s (a ∷ b ∷ []) (cond x (cond y 31 (wild-or 31 b (s .regs))) (wild-or 31 a (s .regs)))
+        go true true f g h = absurd (false≢true (sym h))
+        go true false f g h = inr (f, inl (unread-why s b _ g refl))
+        go false y f g h = inl (unread-why s a _ f refl)
+
+    pub ocmp-unread : (c : Ocmp) → valid-ocmp env c s ≡ false → FirstUnread env s (ocmp-layout c .operands) (ocmp-number env c s)
+    unfolding ocmp-number
+    ocmp-unread c e =
+        let w = pair c in
+        rw (w .operands) (two-unread (w .one) (w .other) (sym (w .valid) ∙ e))
+
+    module _ (values : List ℕ) (cells : check-cells (env .addresses) (env .tags) values ≡ accepted) where
+      two-fail : (a b : Operand) (n : ℕ) → FirstUnread env s (a ∷ b ∷ []) n
+          → (valid-operand env a s && valid-operand env b s ≡ false) × (number-of (a ∷ b ∷ []) ≡ n)
+      unfolding unread-number
+      two-fail a b n (inl h) = let w = unread-fails s values cells a n h in rw (w .0) (refl, w .1)
+      two-fail a b n (inr (e, inl h)) = let w = unread-fails s values cells b n h in rw (e, w .0) (refl, w .1)
+      two-fail a b n (inr (e, inr h)) = absurd (h .1)
+
+      pub ocmp-fails : (c : Ocmp) (q n : ℕ) (f g : Config → End) → FirstUnread env s (ocmp-layout c .operands) n
+          → run-ocmp env q c f g s ≡ ends (fault n q) s
+      unfolding run-ocmp ocmp-number check
+      ocmp-fails c q n f g h =
+          let w = pair c in
+          let x = two-fail (w .one) (w .other) n (subst (λ os. FirstUnread env s os n) (w .operands) h) in
+          rw (w .valid, x .0, w .operands, x .1)
+
+    pub ocmp-passes : (c : Ocmp) (q : ℕ) (f g : Config → End) → AllRead env s (ocmp-layout c .operands)
+        → run-ocmp env q c f g s ≡ choose (eval-ocmp env c s) f g (with-flags (env .fill) s)
+    unfolding run-ocmp check
+    ocmp-passes c q f g h =
+        let w = pair c in
+        let x = subst (AllRead env s) (w .operands) h in
+        rw (w .valid, x .0, x .1 .0)
+
+  -- ---- a run, by its tree
+  module _ (n p : ℕ) (t : Config) where
+    abbrev Faults : End → Type 0
+    Faults e = e ≡ ends (fault n p) t
+
+    -- a comparison at q
+    abbrev FailsBefore : ℕ → Ocmp → Type 0
+    FailsBefore q c = (q ≡ p) × FirstUnread env t (ocmp-layout c .operands) n
+
+    -- a fault is the comparison's, or that of one of its ways
+    ocmp-faults : (q : ℕ) (c : Ocmp) (f g : Config → End) (s : Config) → Faults (run-ocmp env q c f g s)
+        → FailsBefore q c ⊎ (((u : Config) × Faults (f u)) ⊎ ((u : Config) × Faults (g u)))
+    unfolding run-ocmp choose
+    ocmp-faults q c f g s e =
+        ⊎-elim
+        (λ w. inl (sym (w .1), subst⁻¹ (λ (x : Config). FirstUnread env x (ocmp-layout c .operands) n) (w .2)
+        (subst⁻¹ (λ m. FirstUnread env s (ocmp-layout c .operands) m) (w .3) (ocmp-unread s c (w .0)))))
+        (λ w. inr (go (eval-ocmp env c s) (w .1)))
+        (check-faults q s (valid-ocmp env c s) _ _ e)
+      where
+        go : (b : Bool) → Faults (choose b f g (with-flags (env .fill) s)) → ((u : Config) × Faults (f u)) ⊎ ((u : Config) × Faults (g u))
+        go true h = inl (with-flags (env .fill) s, h)
+        go false h = inr (with-flags (env .fill) s, h)
+
+    -- a fault of two in a row is the first one's, or the second one's
+    then-faults : (e : End) (k : Config → End) → Faults (and-then e k) → Faults e ⊎ ((u : Config) × Faults (k u))
+    unfolding continue
+    then-faults e k h = go (e .how) (e .config) h
+      where
+        go : (o : Outcome) (u : Config) → Faults (continue o u k) → Faults (ends o u) ⊎ ((u : Config) × Faults (k u))
+        go done u h = inr (u, h)
+        go (fault m q) u h = inl h
+        go (spent q) u h = inl h
+        go (refused m q) u h = inl h
+
+    rounds-fault : (body : ℕ → Config → End) (r q : ℕ) (c : Ocmp) (A : Type 0) → ((f : ℕ) (u : Config) → Faults (body f u) → A)
+        → (f : ℕ) (s : Config) → Faults (rounds env body r q c f s) → FailsBefore q c ⊎ A
+    unfolding rounds
+    rounds-fault body r q c A inside zero s e = absurd (is-fault e)
+    rounds-fault body r q c A inside (suc f) s e =
+        ⊎-elim (λ h. inl h)
+        (λ h. ⊎-elim
+        (λ x. ⊎-elim (λ y. inr (inside f (x .0) y)) (λ y. rounds-fault body r q c A inside f (y .0) (y .1)) (then-faults (body f (x .0)) _ (x .1)))
+        (λ x. absurd (is-fault (x .1)))
+        h)
+        (ocmp-faults q c _ _ s e)
+
+    mutual
+      unfolding run-code run-codes
+
+      code-faults : (c : Code) (f : ℕ) (s : Config) → Faults (run-code env c f s) → FailsAt env c p t n
+      code-faults (Ins q i) f s e =
+          let w = ins-faults q s i e in
+          (sym (w .0), subst⁻¹ (λ (x : Config). Fails env i x n) (w .1) (w .2))
+      code-faults (Block q cs) f s e = codes-fault cs f s e
+      code-faults (IfElse r q c a b) f s e =
+          ⊎-elim (λ h. inl h)
+          (λ h. inr (⊎-elim (λ x. inl (code-faults a f (x .0) (x .1))) (λ x. inr (code-faults b f (x .0) (x .1))) h))
+          (ocmp-faults q c _ _ s e)
+      code-faults (While r q c b) f s e = rounds-fault (run-code env b) r q c (FailsAt env b p t n) (code-faults b) f s e
+
+      codes-fault : (cs : Codes) (f : ℕ) (s : Config) → Faults (run-codes env cs f s) → FailsIn env cs p t n
+      codes-fault ⟨⟩ f s e = absurd (is-fault e)
+      codes-fault (c ∷ᶜ cs) f s e =
+          ⊎-elim (λ h. inl (code-faults c f s h)) (λ h. inr (codes-fault cs f (h .0) (h .1))) (then-faults (run-code env c f s) _ e)
+
+    -- Running, which faults only where code was read and cells were accepted
+    run-faults : (code : List ℕ) (fuel : ℕ) (s : Config) → Faults (run-of code env fuel s)
+        → (c : Code) × (next : ℕ) × (parse code ≡ got c next) × FailsAt env c p t n
+    unfolding run-of run-read run-checked
+    run-faults code fuel s e = read (parse code) refl e
+      where
+        checked : (v : Verdict) (c : Code) → Faults (run-checked env v c fuel s) → FailsAt env c p t n
+        checked accepted c e = code-faults c fuel s e
+        checked (cells-refused m i) c e = absurd (is-fault e)
+
+        read : (r : Read Code) → parse code ≡ r → Faults (run-read env r fuel s) → (c : Code) × (next : ℕ) × (parse code ≡ got c next) × FailsAt env c p t n
+        read (got c next) is e = (c, next, is, checked (check-cells (env .addresses) (env .tags) (s .values)) c e)
+        read (trouble m q) is e = absurd (is-fault e)
+
+pub telling : Telling
+unfolding cell-of
+telling env values cells = record {
+  faults = λ i p q n s t. ins-faults env p s i;
+  fails = λ i p n s. ins-fails env p s values cells n i;
+  unread = λ c q n f g s. ocmp-fails env s values cells c q n f g;
+  compares = λ c q f g s. ocmp-passes env s c q f g;
+  told = λ code fuel p n s t. run-faults env n p t code fuel s;
+  no-cell = λ m s. no-cell-out env s values cells (eval-maddr m (s .regs));
+}

@@ -1,0 +1,121 @@
+-- The claims of request 2026-03, in one record: `Telling`. From the number of a Fault, the code at its place and the state that it hands back, the reason
+-- follows; and from the reason the number. Sources are judged left to right, then amounts and immediates, then destinations. That the source fails
+-- its first check there with this number is the second demand's.
+use Prim.Native.Nat.{ℕ, _^_, _≤_}
+use mathlib.Core.Path.{_≡_}
+use mathlib.Core.Bool.{Bool, true, false}
+use mathlib.Core.List.{List, [], _∷_}
+use mathlib.Core.Logic.{_⊎_}
+use mathlib.Core.Option.{none}
+use lib.IntN.{ℤ, pos, negsuc}
+use Rattle.machine.specs.Registers.{Rsp}
+use Rattle.machine.specs.Operands.{eval-maddr}
+use Rattle.machine.specs.Cells.{accepted, check-cells}
+use Rattle.machine.specs.declared.Maddr.{Maddr}
+use Rattle.machine.specs.declared.Operand.{Operand}
+use Rattle.machine.specs.declared.Operand.the-variants.{OConst, OReg, OMem}
+use Rattle.code.specs.declared.tree.Instruction.{Instruction}
+use Rattle.code.specs.declared.tree.Ocmp.{Ocmp}
+use Rattle.code.specs.Layout.{ocmp-layout}
+use Rattle.code.specs.Tree.{Code, Ins, Block, IfElse, While, Codes, ⟨⟩, _∷ᶜ_}
+use Rattle.code.specs.Reader.{got, parse}
+use Rattle.eval.specs.Config.{Env, Config, with-flags, End, ends, fault, choose}
+use Rattle.eval.specs.Instructions.{cell-of, valid-operand, valid-dst-operand, update-operand, act, run-ins, eval-ocmp}
+use Rattle.eval.specs.Running.{run-ocmp, run-of}
+
+-- an exact address below 0 or above 2^64 - 1
+abbrev pub OutOfRange : ℤ → Type 0
+OutOfRange (pos n) = 2 ^ 64 ≤ n
+OutOfRange (negsuc n) = Unit {0}
+
+-- an operand is memory whose exact address in s is out of range
+pub record Wild (o : Operand) (s : Config) : Type 0 where
+  pub memory : Maddr
+  pub is-memory : o ≡ OMem memory
+  pub out : OutOfRange (eval-maddr memory (s .regs))
+
+-- rules that all hold
+abbrev pub AllHold : List (Bool × ℕ) → Type 0
+AllHold [] = Unit {0}
+AllHold (c ∷ cs) = (c .0 ≡ true) × AllHold cs
+
+-- rules of which the first that does not hold has the number n
+abbrev pub FirstBroken : List (Bool × ℕ) → ℕ → Type 0
+FirstBroken [] n = ⊥
+FirstBroken (c ∷ cs) n = ((c .0 ≡ false) × (n ≡ c .1)) ⊎ ((c .0 ≡ true) × FirstBroken cs n)
+
+module _ (env : Env) where
+  -- an operand is memory whose exact address is in range, but without a 64-bit cell there
+  pub record Absent (o : Operand) (s : Config) : Type 0 where
+    pub memory : Maddr
+    pub is-memory : o ≡ OMem memory
+    pub in-range : OutOfRange (eval-maddr memory (s .regs)) → ⊥
+    pub no-cell : cell-of env memory s ≡ none
+
+  -- what a source, a shift amount or an operand of a comparison fails by, with its number
+  pub data Unread (o : Operand) (s : Config) (n : ℕ) : Type 0 where
+    wild : n ≡ 36 → Wild o s → Unread o s n
+    absent : n ≡ 31 → Absent o s → Unread o s n
+
+  -- what a destination fails by
+  pub data Unwritten (o : Operand) (s : Config) (n : ℕ) : Type 0 where
+    wild-dst : n ≡ 36 → Wild o s → Unwritten o s n
+    absent-dst : n ≡ 32 → Absent o s → Unwritten o s n
+    constant : n ≡ 32 → (v : ℕ) → o ≡ OConst v → Unwritten o s n
+    rsp : n ≡ 32 → o ≡ OReg Rsp → Unwritten o s n
+
+  -- sources that can all be read
+  abbrev pub AllRead : Config → List Operand → Type 0
+  AllRead s [] = Unit {0}
+  AllRead s (o ∷ os) = (valid-operand env o s ≡ true) × AllRead s os
+
+  -- sources of which the first that cannot be read fails with n
+  abbrev pub FirstUnread : Config → List Operand → ℕ → Type 0
+  FirstUnread s [] n = ⊥
+  FirstUnread s (o ∷ os) n = Unread o s n ⊎ ((valid-operand env o s ≡ true) × FirstUnread s os n)
+
+  -- destinations of which the first that cannot be written fails with n, each in the configuration that the writes before it leave
+  abbrev pub FirstUnwritten : Config → List (Operand × ℕ) → ℕ → Type 0
+  FirstUnwritten t [] n = ⊥
+  FirstUnwritten t (w ∷ ws) n =
+      Unwritten (w .0) t n ⊎ ((valid-dst-operand env (w .0) t ≡ true) × FirstUnwritten (update-operand env (w .0) (w .1) t) ws n)
+
+  -- an instruction fails in s with n: by a source, then by a rule, then by a destination
+  abbrev pub Fails : Instruction → Config → ℕ → Type 0
+  Fails i s n =
+      let a = act env i s in
+      FirstUnread s (a .sources) n
+      ⊎ (AllRead s (a .sources) × (FirstBroken (a .rules) n ⊎ (AllHold (a .rules) × FirstUnwritten s (a .words) n)))
+
+  abbrev mutual
+    -- what stands at p in a code, an instruction or a comparison, fails in t with n
+    pub FailsAt : Code → ℕ → Config → ℕ → Type 0
+    FailsAt (Ins q i) p t n = (q ≡ p) × Fails i t n
+    FailsAt (Block q cs) p t n = FailsIn cs p t n
+    FailsAt (IfElse r q c a b) p t n = ((q ≡ p) × FirstUnread t (ocmp-layout c .operands) n) ⊎ (FailsAt a p t n ⊎ FailsAt b p t n)
+    FailsAt (While r q c b) p t n = ((q ≡ p) × FirstUnread t (ocmp-layout c .operands) n) ⊎ FailsAt b p t n
+
+    -- in one of these codes
+    pub FailsIn : Codes → ℕ → Config → ℕ → Type 0
+    FailsIn ⟨⟩ p t n = ⊥
+    FailsIn (c ∷ᶜ cs) p t n = FailsAt c p t n ⊎ FailsIn cs p t n
+
+  -- ---- the claims, of accepted cells
+  pub record Tells : Type 0 where
+    -- an instruction faults exactly where it fails, with that number, and nothing is written
+    pub faults : (i : Instruction) (p q n : ℕ) (s t : Config) → run-ins env p i s ≡ ends (fault n q) t → (q ≡ p) × (t ≡ s) × Fails i s n
+    pub fails : (i : Instruction) (p n : ℕ) (s : Config) → Fails i s n → run-ins env p i s ≡ ends (fault n p) s
+    -- a comparison's first operand is judged first, and one whose operands can be read takes its way
+    pub unread : (c : Ocmp) (q n : ℕ) (f g : Config → End) (s : Config) → FirstUnread s (ocmp-layout c .operands) n
+        → run-ocmp env q c f g s ≡ ends (fault n q) s
+    pub compares : (c : Ocmp) (q : ℕ) (f g : Config → End) (s : Config) → AllRead s (ocmp-layout c .operands)
+        → run-ocmp env q c f g s ≡ choose (eval-ocmp env c s) f g (with-flags (env .fill) s)
+    -- a run that faults: what stands at the place fails so in the state that is handed back
+    pub told : (code : List ℕ) (fuel p n : ℕ) (s t : Config) → run-of code env fuel s ≡ ends (fault n p) t
+        → (c : Code) × (next : ℕ) × (parse code ≡ got c next) × FailsAt c p t n
+    -- what is out of range has no cell, so 36 stands only where 31 or 32 stood
+    pub no-cell : (m : Maddr) (s : Config) → OutOfRange (eval-maddr m (s .regs)) → cell-of env m s ≡ none
+
+-- they hold of every accepted list of cells
+abbrev pub Telling : Type 0
+Telling = (env : Env) (values : List ℕ) → check-cells (env .addresses) (env .tags) values ≡ accepted → Tells env
