@@ -225,19 +225,19 @@ impl Program {
 
 // Running.
 
-/// The 64-bit cell that an operand names, with these registers. Kept out of line, so that what is done with registers
-/// alone stays short.
+/// The 64-bit cell that an operand names, with these registers, or the number of its check. Kept out of line, so that
+/// what is done with registers alone stays short.
 #[inline(never)]
-fn cell(machine: &Machine, operand: &Operand, regs: &[u64; 16]) -> Option<usize> {
+fn cell(machine: &Machine, operand: &Operand, regs: &[u64; 16], absent: u8) -> Result<usize, u8> {
     let address = match *operand {
         Operand::MConst(n) => Some(n),
         Operand::MReg(base, offset) => regs[number(base)].checked_add_signed(offset),
         Operand::MIndex(base, scale, index, offset) => {
             indexed(regs[number(base)], scale, regs[number(index)], offset)
         }
-        Operand::Const(_) | Operand::Reg(_) => None,
+        Operand::Const(_) | Operand::Reg(_) => return Err(absent),
     };
-    machine.cell(address)
+    machine.cell(address, absent)
 }
 
 #[inline(always)]
@@ -245,10 +245,7 @@ fn read(machine: &Machine, operand: &Operand) -> Result<u64, u8> {
     match *operand {
         Operand::Const(n) => Ok(n),
         Operand::Reg(r) => Ok(machine.regs[number(r)]),
-        _ => match cell(machine, operand, &machine.regs) {
-            Some(i) => Ok(machine.values[i]),
-            None => Err(31),
-        },
+        _ => cell(machine, operand, &machine.regs, 31).map(|i| machine.values[i]),
     }
 }
 
@@ -256,10 +253,7 @@ fn read(machine: &Machine, operand: &Operand) -> Result<u64, u8> {
 fn slot(machine: &Machine, operand: &Operand, regs: &[u64; 16]) -> Result<Slot, u8> {
     match *operand {
         Operand::Reg(r) => Ok(Slot::Reg(r)),
-        _ => match cell(machine, operand, regs) {
-            Some(i) => Ok(Slot::Cell(i)),
-            None => Err(32),
-        },
+        _ => cell(machine, operand, regs, 32).map(Slot::Cell),
     }
 }
 

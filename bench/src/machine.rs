@@ -74,9 +74,13 @@ pub fn holds(kind: u8, a: u64, b: u64) -> bool {
 
 // Registers and cells.
 impl Machine<'_> {
-    pub fn cell(&self, address: Option<u64>) -> Option<usize> {
-        let i = self.addresses.binary_search(&address?).ok()?;
-        (self.tags[i] == 64).then_some(i)
+    /// The 64-bit cell at an address, or the number of the check: 36 where there is none, else that of an absent cell.
+    pub fn cell(&self, address: Option<u64>, absent: u8) -> Result<usize, u8> {
+        let address = address.ok_or(36)?;
+        match self.addresses.binary_search(&address) {
+            Ok(i) if self.tags[i] == 64 => Ok(i),
+            _ => Err(absent),
+        }
     }
 
     #[inline(always)]

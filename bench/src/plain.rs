@@ -86,18 +86,22 @@ impl Machine<'_> {
         }
     }
 
-    fn cell(&self, address: Option<u64>) -> Option<usize> {
-        let i = self.addresses.binary_search(&address?).ok()?;
-        (self.tags[i] == 64).then_some(i)
+    /// The 64-bit cell at an address, or the number of the check: 36 where there is none, else that of an absent cell.
+    fn cell(&self, address: Option<u64>, absent: u8) -> Result<usize, u8> {
+        let address = address.ok_or(36)?;
+        match self.addresses.binary_search(&address) {
+            Ok(i) if self.tags[i] == 64 => Ok(i),
+            _ => Err(absent),
+        }
     }
 
     fn read(&self, place: Place, at: usize) -> Result<u64, Stop> {
         match place {
             Place::Const(n) => Ok(n),
             Place::Reg(r) => Ok(self.regs[r]),
-            Place::Mem(a) => match self.cell(a) {
-                Some(i) => Ok(self.values[i]),
-                None => Err(Stop::Fault(31, at)),
+            Place::Mem(a) => match self.cell(a, 31) {
+                Ok(i) => Ok(self.values[i]),
+                Err(number) => Err(Stop::Fault(number, at)),
             },
         }
     }
@@ -105,9 +109,9 @@ impl Machine<'_> {
     fn slot(&self, place: Place, at: usize) -> Result<Slot, Stop> {
         match place {
             Place::Reg(r) if r != RSP => Ok(Slot::Reg(r)),
-            Place::Mem(a) => match self.cell(a) {
-                Some(i) => Ok(Slot::Cell(i)),
-                None => Err(Stop::Fault(32, at)),
+            Place::Mem(a) => match self.cell(a, 32) {
+                Ok(i) => Ok(Slot::Cell(i)),
+                Err(number) => Err(Stop::Fault(number, at)),
             },
             _ => Err(Stop::Fault(32, at)),
         }

@@ -13,13 +13,10 @@ use Rattle.words.specs.Sums.{sum-mod, mul-div, mul-mod}
 use Rattle.words.specs.Types.{quad32, extract-nat64}
 use Rattle.words.specs.declared.Quad32.{Quad32}
 use Rattle.machine.specs.Registers.{reg-at, Rsp, xmm-at, set-xmm}
-use Rattle.machine.specs.Operands.{eval-maddr, wild}
-use Rattle.machine.specs.Cells.{Verdict, accepted, verdict, check-cells, find-cell, cell-in, is-wild}
+use Rattle.machine.specs.Cells.{Verdict, accepted, verdict, check-cells}
 use Rattle.machine.specs.declared.Checked.{Checked}
 use Rattle.machine.specs.declared.Checked.the-variants.{Accepted, Refused}
 use Rattle.machine.specs.declared.reg.Reg.{Reg}
-use Rattle.machine.specs.declared.Target.{Target}
-use Rattle.machine.specs.declared.Target.the-variants.{Cell, Absent, Wild}
 use Rattle.machine.specs.declared.Maddr.{Maddr}
 use Rattle.machine.specs.declared.Operand.{Operand}
 use Rattle.machine.specs.declared.Operand.the-variants.{OMem}
@@ -40,12 +37,13 @@ use Rattle.eval.specs.Config.{Env, Config, with-flags, ends}
 use Rattle.eval.specs.Config as Config
 use Rattle.eval.specs.Running.{run-of}
 use Rattle.eval.specs.Instructions.{checks-amount, two-word, two-flags, inserts-word, run-ins}
-use Rattle.eval.specs.Promises.{environment, held, Cells, CodeAt, CodesAt, InsAt, OcmpAt, codes-from, Loads, Resolves, no-word, no-slot, put-regs, put-values, comparison, Compares, ComparesAt, Ran, Runs, RunsIns, RunsAll}
+use Rattle.eval.specs.Promises.{environment, held, Cells, CodeAt, CodesAt, InsAt, OcmpAt, codes-from, Loads, Seeks, Resolves, no-slot, put-regs, put-values, comparison, Compares, ComparesAt, Ran, Runs, RunsIns, RunsAll}
 use Rattle.eval.specs.declared.exit.Exit.{Exit}
+use Rattle.eval.specs.declared.operand.Sought.{Sought}
 use Rattle.eval.specs.declared.operand.Loaded.{Loaded}
 use Rattle.eval.specs.declared.operand.Slot.{Slot}
 use Rattle.eval.specs.declared.comparison.Compared.{Compared}
-use Rattle.eval.proofs.OperandLaws.{load-constant, load-register, load-cell, load-absent, load-wild, resolve-constant, resolve-rsp, resolve-register, resolve-cell, resolve-absent, resolve-wild, cell-inside}
+use Rattle.eval.proofs.OperandLaws.{load-constant, load-register, load-cell, load-none, resolve-constant, resolve-rsp, resolve-register, resolve-cell, resolve-none, cell-inside}
 use Rattle.eval.proofs.InstructionLaws.{exit, ran-stood, load-at, slot-at, plus-none, two-unread, two-amount, two-unwritten, two-done, lea-unread, lea-unread-second, lea-unwritten, lea-done, mul-unread, mul-done, mulx-unread, mulx-unwritten, mulx-unresolved, mulx-done}
 use Rattle.eval.proofs.LaneLaws.{extract-unwritten, extract-done, inserts-unread, inserts-done}
 use Rattle.eval.proofs.ComparisonLaws.{stands-inside, first-unread, second-unread, compared}
@@ -53,10 +51,8 @@ use Rattle.eval.proofs.RunLaws.{code-refused, cells-refused}
 use Rattle.eval.proofs.CycleLaws.{code-frame, starts, has-length, block-inside, choice-inside, loop-inside, how-done, ins-ran, codes-past, Going, next-there, next-past, block-codes, block-ran, if-unread, Chosen, chosen-there, chosen-ran, Looping, loop-ran, loop-spent, loop-unread, loop-done, Round, round-ends, round-there, round-goes, round-stops}
 
 -- ---- an operand, of which a form was decoded, and the place next behind it
-abbrev Finds : List ℕ → List ℕ → List ℕ → List ℕ → ℕ → Target → Type 0
-Finds addresses tags regs bs at f =
-    (m : Maddr) → operand-at bs at ≡ OMem m →
-    (cell-in f ≡ find-cell addresses tags (eval-maddr m regs)) × (is-wild f ≡ wild (eval-maddr m regs))
+abbrev Finds : List ℕ → List ℕ → List ℕ → List ℕ → ℕ → ℕ → Sought → Type 0
+Finds addresses tags regs bs at absent f = (m : Maddr) → operand-at bs at ≡ OMem m → Seeks addresses tags regs m absent f
 
 module _ (addresses tags regs values bs : List ℕ) (at next : ℕ) (is-next : next ≡ behind bs at) (form : Form)
     (is : form ≡ form-of (operand-at bs at)) where
@@ -90,34 +86,33 @@ module _ (addresses tags regs values bs : List ℕ) (at next : ℕ) (is-next : n
             let q = register-is _ r (sym is ∙ register) in
             rw is-next (resolve-register _ _ _ _ _ _ fill flags xmms r q b rsp h (register-below bs at stands r q))
 
-    module _ (memory : form ≡ Memory) (f : Target) (found : Finds addresses tags regs bs at f) where
-      pub loads-cell : (i : ℕ) → f ≡ Cell i → Load (record { number = 0; word = getD values i 0; next = next })
-      loads-cell i e = rw is-next (load-cell _ _ _ _ _ _ fill flags xmms form is memory f found i e)
+    module _ (memory : form ≡ Memory) (f : Sought) where
+      module _ (found : Finds addresses tags regs bs at 31 f) where
+        pub loads-cell : f .number ≡ 0 → Load (record { number = 0; word = getD values (f .index) 0; next = next })
+        loads-cell e = rw is-next (load-cell _ _ _ _ _ _ fill flags xmms form is memory 31 f found (omega arith) e)
 
-      pub loads-absent : f ≡ Absent → (r : Loaded) → r ≡ no-word 31 next → Load r
-      loads-absent e r g = load-absent _ _ _ _ _ _ fill flags xmms form is memory f found e r (g ∙ ap (no-word 31) is-next)
+        pub loads-none : (f .number ≡ 0 → ⊥) → Load (record { number = f .number; word = 0; next = next })
+        loads-none e = rw is-next (load-none _ _ _ _ _ _ fill flags xmms form is memory 31 f found (omega arith) e refl)
 
-      pub loads-wild : f ≡ Wild → (r : Loaded) → r ≡ no-word 36 next → Load r
-      loads-wild e r g = load-wild _ _ _ _ _ _ fill flags xmms form is memory f found e r (g ∙ ap (no-word 36) is-next)
+      module _ (found : Finds addresses tags regs bs at 32 f) where
+        pub resolves-cell :
+            f .number ≡ 0 → Cells addresses tags values →
+            Resolve (record { how = 1; index = f .index; word = getD values (f .index) 0; next = next })
+        resolves-cell e cells = rw is-next (resolve-cell _ _ _ _ _ _ fill flags xmms form is memory 32 f found (omega arith) e cells)
 
-      pub resolves-cell :
-          (i : ℕ) → f ≡ Cell i → Cells addresses tags values →
-          Resolve (record { how = 1; index = i; word = getD values i 0; next = next })
-      resolves-cell i e cells = rw is-next (resolve-cell _ _ _ _ _ _ fill flags xmms form is memory f found i e cells)
-
-      pub no-cell : f ≡ Absent → (t : Slot) → t ≡ no-slot 32 next → Resolve t
-      no-cell e t g = resolve-absent _ _ _ _ _ _ fill flags xmms form is memory f found e t (g ∙ ap (no-slot 32) is-next)
-
-      pub no-address : f ≡ Wild → (t : Slot) → t ≡ no-slot 36 next → Resolve t
-      no-address e t g = resolve-wild _ _ _ _ _ _ fill flags xmms form is memory f found e t (g ∙ ap (no-slot 36) is-next)
+        pub no-cell : (f .number ≡ 0 → ⊥) → (t : Slot) → t ≡ no-slot (f .number) next → Resolve t
+        no-cell e t g =
+            resolve-none _ _ _ _ _ _ fill flags xmms form is memory 32 f found (omega arith) e refl t (g ∙ ap (no-slot (f .number)) is-next)
 
 -- f is what was found for a memory operand, in some registers
-pub record IsFound (addresses tags bs : List ℕ) (at : ℕ) (f : Target) : Type 0 where
+pub record IsFound (addresses tags bs : List ℕ) (at : ℕ) (f : Sought) : Type 0 where
   pub regs : List ℕ
-  pub found : Finds addresses tags regs bs at f
+  pub absent : ℕ
+  pub above : 1 < absent
+  pub found : Finds addresses tags regs bs at absent f
 
-pub is-found : (addresses tags regs bs : List ℕ) (at : ℕ) (f : Target) → Finds addresses tags regs bs at f → IsFound addresses tags bs at f
-is-found addresses tags regs bs at f h = record { regs = regs; found = h }
+pub is-found : (addresses tags regs bs : List ℕ) (at absent : ℕ) (f : Sought) → 1 < absent → Finds addresses tags regs bs at absent f → IsFound addresses tags bs at f
+is-found addresses tags regs bs at absent f l h = record { regs = regs; absent = absent; above = l; found = h }
 
 module _ (bs : List ℕ) (at : ℕ) (form : Form) (is : form ≡ form-of (operand-at bs at)) where
   pub register-inside : OperandBytes bs at → (r : Reg) → form ≡ Register r → r .number < 16
@@ -126,12 +121,12 @@ module _ (bs : List ℕ) (at : ℕ) (form : Form) (is : form ≡ form-of (operan
   pub is-memory : form ≡ Memory → form-of (operand-at bs at) ≡ Memory
   is-memory memory = sym is ∙ memory
 
-  module _ (addresses tags values : List ℕ) (cells : Cells addresses tags values) (memory : form ≡ Memory) (f : Target)
-      (w : IsFound addresses tags bs at f) (i : ℕ) (e : f ≡ Cell i) where
-    pub found-inside : i < length values
-    found-inside = cell-inside addresses tags (w .regs) values _ 0 0 0 [] form is memory f (w .found) i e cells
+  module _ (addresses tags values : List ℕ) (cells : Cells addresses tags values) (memory : form ≡ Memory) (f : Sought)
+      (w : IsFound addresses tags bs at f) (e : f .number ≡ 0) where
+    pub found-inside : f .index < length values
+    found-inside = cell-inside addresses tags (w .regs) values _ 0 0 0 [] form is memory (w .absent) f (w .found) (w .above) e cells
 
-    pub found-fits : length values * 8 < 2 ^ 63 → Fits w64 (i * 8)
+    pub found-fits : length values * 8 < 2 ^ 63 → Fits w64 (f .index * 8)
     found-fits room = omega (arith, found-inside)
 
 -- ---- what was loaded or resolved at a place, whatever the fill word, the flags and the xmms are

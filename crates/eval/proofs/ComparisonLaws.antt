@@ -15,7 +15,7 @@ use Rattle.eval.specs.Config.{Env, Config}
 use Rattle.eval.specs.Instructions.{valid-operand, eval-operand, valid-ocmp, ocmp-number, eval-ocmp}
 use Rattle.eval.specs.Promises.{Loads, comparison, Compares}
 use Rattle.eval.specs.declared.operand.Loaded.{Loaded}
-use Rattle.eval.proofs.InstructionLaws.{passes, fails, above-one, wild-or-above}
+use Rattle.eval.proofs.OperandLaws.{passes, fails, above-one, wild-or-above}
 
 -- one record stands at a place, so that it lies inside the bytes wherever it is said to end
 pub stands-inside :

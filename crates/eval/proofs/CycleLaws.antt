@@ -22,7 +22,8 @@ use Rattle.eval.specs.Running.{run-ocmp, rounds, run-code, run-codes}
 use Rattle.eval.specs.Promises.{how, Ran, RunsIns, Compares, ComparesAt, CodeAt, CodesAt, codes-from, Runs, RunsAll}
 use Rattle.eval.specs.declared.exit.Exit.{Exit}
 use Rattle.eval.specs.declared.comparison.Compared.{Compared}
-use Rattle.eval.proofs.InstructionLaws.{exit, check-fails, unread-above}
+use Rattle.eval.proofs.OperandLaws.{unread-above}
+use Rattle.eval.proofs.InstructionLaws.{exit, check-fails}
 
 pub code-frame : (bs : List ℕ) (at : ℕ) (c : CodeAt bs at) → Frame bs at (c .end)
 code-frame bs at c = frame (c .code) bs at (c .end) (c .spelled)

@@ -3,14 +3,14 @@
 use Prim.Native.Nat.{ℕ, _+_, _≤_, _<_}
 use mathlib.Core.Path.{_≡_, refl, sym, ap, _∙_}
 use mathlib.Core.Bool.{Bool, true, false, _&&_, cond}
-use mathlib.Core.List.{List, [], _∷_}
+use mathlib.Core.List.{List}
 use native.Mathlib.Nat.{add-zero}
 use native.Mathlib.Omega.{arith}
 use borrow.Author.Tests.{lt-ltb, le-ltb, leb-true, leb-false, ne-eqb}
 use lib.Dec.{ltb, leb}
 use lib.ListN.{getD, set}
 use Rattle.words.specs.Sums.{sum-mod, mul-div, mul-mod}
-use Rattle.machine.specs.Operands.{wild-operand, wild-or, unread-number}
+use Rattle.machine.specs.Operands.{wild-or}
 use Rattle.machine.specs.declared.Operand.{Operand}
 use Rattle.code.specs.declared.tree.Instruction.{Instruction}
 use Rattle.code.specs.declared.tree.Instruction.the-variants.{AddLea64, Mul64, Mulx64}
@@ -25,37 +25,7 @@ use Rattle.eval.specs.declared.exit.Exit.{Exit}
 use Rattle.eval.specs.declared.operand.Loaded.{Loaded}
 use Rattle.eval.specs.declared.operand.Slot.{Slot}
 use Rattle.eval.proofs.Shapes.{read-check, write-check, write}
-use Rattle.eval.proofs.OperandLaws.{valid-whatever}
-
--- ---- a check that answered 0 has passed, and any other number is its own
-pub passes : (b : Bool) (n m : ℕ) → n ≡ cond b 0 m → (m ≡ 0 → ⊥) → n ≡ 0 → b ≡ true
-passes true n m e z h = refl
-passes false n m e z h = absurd (z (sym e ∙ h))
-
-pub fails : (b : Bool) (n m : ℕ) → n ≡ cond b 0 m → (n ≡ 0 → ⊥) → (b ≡ false) × (n ≡ m)
-fails true n m e h = absurd (h e)
-fails false n m e h = (refl, e)
-
--- a number above 1 is not 0
-pub above-one : {n : ℕ} → 1 < n → n ≡ 0 → ⊥
-above-one h e = omega (arith, h, e)
-
--- the number of an operand's check is above 1
-pub wild-or-above : (n : ℕ) (o : Operand) (regs : List ℕ) → 1 < n → 1 < wild-or n o regs
-wild-or-above n o regs l = go (wild-operand o regs)
-  where
-    go : (b : Bool) → 1 < cond b 36 n
-    go true = omega arith
-    go false = l
-
-pub unread-above : (valid : Operand → Bool) (regs : List ℕ) (os : List Operand) → 1 < unread-number valid regs os
-unfolding unread-number
-unread-above valid regs [] = omega arith
-unread-above valid regs (o ∷ os) = go (valid o) (unread-above valid regs os)
-  where
-    go : (b : Bool) → 1 < unread-number valid regs os → 1 < cond b (unread-number valid regs os) (wild-or 31 o regs)
-    go true h = h
-    go false h = wild-or-above 31 o regs (omega arith)
+use Rattle.eval.proofs.OperandLaws.{passes, fails, above-one, wild-or-above, valid-whatever}
 
 -- an exit with a number and a place
 abbrev pub exit : ℕ → ℕ → Exit

@@ -21,7 +21,8 @@ use Rattle.eval.specs.Promises.{environment, held, Loads, Resolves, put-
 use Rattle.eval.specs.declared.operand.Loaded.{Loaded}
 use Rattle.eval.specs.declared.operand.Slot.{Slot}
 use Rattle.eval.proofs.Shapes.{read-check, write-xmm}
-use Rattle.eval.proofs.InstructionLaws.{above-one, exit, failed, finished, readable, unreadable, unwritable, wrote}
+use Rattle.eval.proofs.OperandLaws.{above-one}
+use Rattle.eval.proofs.InstructionLaws.{exit, failed, finished, readable, unreadable, unwritable, wrote}
 
 module _ (env : Env) (p : ℕ) (regs xmms values : List ℕ) (flags : ℕ) where
   abbrev s : Config

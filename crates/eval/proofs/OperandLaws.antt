@@ -2,15 +2,15 @@
 -- of the cells. Assumes nothing.
 use Prim.Native.Nat.{ℕ, _<_}
 use mathlib.Core.Path.{_≡_, refl, sym, ap, _∙_}
-use mathlib.Core.Bool.{Bool, true, false, cond}
-use mathlib.Core.List.{List}
+use mathlib.Core.Bool.{Bool, true, false, cond, false≢true}
+use mathlib.Core.List.{List, [], _∷_}
 use mathlib.Core.Option.{Option, none, some}
 use native.Mathlib.Omega.{arith}
 use lib.Dec.{eqb}
 use lib.ListN.{length, getD}
 use Rattle.machine.specs.Registers.{reg-at, Rsp}
-use Rattle.machine.specs.Operands.{eval-maddr, wild, wild-operand, wild-or}
-use Rattle.machine.specs.Cells.{find-cell, cell-in, is-wild}
+use Rattle.machine.specs.Operands.{eval-maddr, wild, wild-operand, wild-or, unread-number}
+use Rattle.machine.specs.Cells.{find-cell, cell-in, is-wild, is-cell}
 use Rattle.machine.specs.declared.reg.Reg.{Reg}
 use Rattle.machine.specs.declared.Target.{Target}
 use Rattle.machine.specs.declared.Target.the-variants.{Cell, Absent, Wild}
@@ -25,9 +25,40 @@ use Rattle.code.specs.declared.records.Form.the-variants.{Memory}
 use Rattle.code.proofs.Forms.{memory-is}
 use Rattle.eval.specs.Config.{Env, Config, with-values}
 use Rattle.eval.specs.Instructions.{cell-of, valid-operand, eval-operand, valid-dst-operand, update-operand}
-use Rattle.eval.specs.Promises.{environment, held, Cells, Loads, Resolves, no-word, no-slot}
+use Rattle.eval.specs.Promises.{environment, held, Cells, Seeks, Loads, Resolves, no-slot}
+use Rattle.eval.specs.declared.operand.Sought.{Sought}
 use Rattle.eval.specs.declared.operand.Loaded.{Loaded}
 use Rattle.eval.specs.declared.operand.Slot.{Slot}
+
+-- ---- a check that answered 0 has passed, and any other number is its own
+pub passes : (b : Bool) (n m : ℕ) → n ≡ cond b 0 m → (m ≡ 0 → ⊥) → n ≡ 0 → b ≡ true
+passes true n m e z h = refl
+passes false n m e z h = absurd (z (sym e ∙ h))
+
+pub fails : (b : Bool) (n m : ℕ) → n ≡ cond b 0 m → (n ≡ 0 → ⊥) → (b ≡ false) × (n ≡ m)
+fails true n m e h = absurd (h e)
+fails false n m e h = (refl, e)
+
+-- a number above 1 is not 0
+pub above-one : {n : ℕ} → 1 < n → n ≡ 0 → ⊥
+above-one h e = omega (arith, h, e)
+
+-- the number of an operand's check is above 1
+pub wild-or-above : (n : ℕ) (o : Operand) (regs : List ℕ) → 1 < n → 1 < wild-or n o regs
+wild-or-above n o regs l = go (wild-operand o regs)
+  where
+    go : (b : Bool) → 1 < cond b 36 n
+    go true = omega arith
+    go false = l
+
+pub unread-above : (valid : Operand → Bool) (regs : List ℕ) (os : List Operand) → 1 < unread-number valid regs os
+unfolding unread-number
+unread-above valid regs [] = omega arith
+unread-above valid regs (o ∷ os) = go (valid o) (unread-above valid regs os)
+  where
+    go : (b : Bool) → 1 < unread-number valid regs os → 1 < cond b (unread-number valid regs os) (wild-or 31 o regs)
+    go true h = h
+    go false h = wild-or-above 31 o regs (omega arith)
 
 -- whether a destination can be written does not hang on what the cells hold
 pub valid-whatever : (env : Env) (o : Operand) (s : Config) (values : List ℕ) → valid-dst-operand env o (with-values values s) ≡ valid-dst-operand env o s
@@ -93,10 +124,10 @@ module _ (addresses tags regs values : List ℕ) (o : Operand) (next : ℕ) (fil
             next = refl;
           }
 
-  -- ---- memory, by the form that was decoded and what it leads to
+  -- ---- memory, by the form that was decoded and what was found for it
   module _
-      (form : Form) (is : form ≡ form-of o) (memory : form ≡ Memory) (f : Target)
-      (found : (m : Maddr) → o ≡ OMem m → (cell-in f ≡ find-cell addresses tags (eval-maddr m regs)) × (is-wild f ≡ wild (eval-maddr m regs))) where
+      (form : Form) (is : form ≡ form-of o) (memory : form ≡ Memory) (absent : ℕ) (f : Sought)
+      (found : (m : Maddr) → o ≡ OMem m → Seeks addresses tags regs m absent f) where
     m : Maddr
     m = memory-is o (sym is ∙ memory) .0
 
@@ -104,23 +135,27 @@ module _ (addresses tags regs values : List ℕ) (o : Operand) (next : ℕ) (fil
     unfolding m
     q = memory-is o (sym is ∙ memory) .1
 
-    leads : {k : Option ℕ} → cell-in f ≡ k → find-cell addresses tags (eval-maddr m regs) ≡ k
-    leads e = sym (found m q .0) ∙ e
+    abbrev there : Option ℕ
+    there = find-cell addresses tags (eval-maddr m regs)
 
-    module _ (i : ℕ) (e : f ≡ Cell i) where
-      here : find-cell addresses tags (eval-maddr m regs) ≡ some i
-      here = leads (ap cell-in e)
+    module _ (above : 1 < absent) (e : f .number ≡ 0) where
+      here : there ≡ some (f .index)
+      here = go there refl (passes (is-cell there) (f .number) _ (found m q .number) (above-one (wild-or-above absent (OMem m) regs above)) e)
+        where
+          go : (k : Option ℕ) → there ≡ k → is-cell k ≡ true → k ≡ some (f .index)
+          go none h b = absurd (false≢true b)
+          go (some i) h b = ap some (sym (found m q .cell i h))
 
-      pub cell-inside : Cells addresses tags values → i < length values
-      cell-inside cells = omega (arith, find-hit addresses tags (eval-maddr m regs) i here .inside, cells .long)
+      pub cell-inside : Cells addresses tags values → f .index < length values
+      cell-inside cells = omega (arith, find-hit addresses tags (eval-maddr m regs) (f .index) here .inside, cells .long)
 
-      pub load-cell : Load (record { number = 0; word = getD values i 0; next = next })
+      pub load-cell : Load (record { number = 0; word = getD values (f .index) 0; next = next })
       unfolding valid-operand eval-operand cell-of
       load-cell = record { number = rw (q, here); word = λ _. rw (q, here); next = refl }
 
       pub resolve-cell :
           Cells addresses tags values →
-          Resolve (record { how = 1; index = i; word = getD values i 0; next = next })
+          Resolve (record { how = 1; index = f .index; word = getD values (f .index) 0; next = next })
       unfolding valid-dst-operand valid-operand eval-operand update-operand cell-of
       resolve-cell cells =
           record {
@@ -131,41 +166,41 @@ module _ (addresses tags regs values : List ℕ) (o : Operand) (next : ℕ) (fil
             next = refl;
           }
 
-    -- no cell: which number that is was told with it
-    module _ (b : Bool) (none-there : cell-in f ≡ none) (told : is-wild f ≡ b) where
-      nowhere : find-cell addresses tags (eval-maddr m regs) ≡ none
-      nowhere = leads none-there
+    module _ (above : 1 < absent) (e : f .number ≡ 0 → ⊥) where
+      nowhere : (is-cell there ≡ false) × (f .number ≡ wild-or absent o regs)
+      nowhere = let w = fails (is-cell there) (f .number) _ (found m q .number) e in (w .0, rw q (w .1))
 
-      number-told : (n : ℕ) → wild-or n o regs ≡ cond b 36 n
-      unfolding wild-operand
-      number-told n = rw (q, ← (found m q .1), told)
-
-      absent : valid-operand (environment addresses tags fill) o (held regs xmms flags values) ≡ false
+      unreadable : valid-operand (environment addresses tags fill) o (held regs xmms flags values) ≡ false
       unfolding valid-operand cell-of
-      absent = rw (q, nowhere)
+      unreadable = rw q (nowhere .0)
 
-      load-none : (n : ℕ) → n ≡ cond b 36 31 → 0 < n → (r : Loaded) → r ≡ no-word n next → Load r
-      load-none n is l r e =
-          rw e record {
-            number = rw absent (is ∙ sym (number-told 31));
-            word = λ h. absurd (omega (arith, h, l));
-            next = refl;
-          }
+      pub load-none : absent ≡ 31 → Load (record { number = f .number; word = 0; next = next })
+      load-none is = record { number = rw unreadable (nowhere .1 ∙ ap (λ n. wild-or n o regs) is); word = λ h. absurd (e h); next = refl }
 
-      resolve-none : (n : ℕ) → n ≡ cond b 36 32 → 1 < n → (t : Slot) → t ≡ no-slot n next → Resolve t
+      pub resolve-none : absent ≡ 32 → (t : Slot) → t ≡ no-slot (f .number) next → Resolve t
       unfolding valid-dst-operand
-      resolve-none n is l t e = no-destination n l (is ∙ sym (number-told 32)) t e (rw absent)
+      resolve-none is t g =
+          no-destination (f .number) (rw (nowhere .1) (wild-or-above absent o regs above)) (nowhere .1 ∙ ap (λ n. wild-or n o regs) is) t g (rw unreadable)
 
-    module _ (e : f ≡ Absent) where
-      pub load-absent : (r : Loaded) → r ≡ no-word 31 next → Load r
-      load-absent = load-none false (ap cell-in e) (ap is-wild e) 31 refl (omega arith)
+-- ---- a memory operand, by what it leads to
+module _ (addresses tags regs : List ℕ) (m : Maddr) (absent : ℕ) (f : Target)
+    (found : cell-in f ≡ find-cell addresses tags (eval-maddr m regs)) (told : is-wild f ≡ wild (eval-maddr m regs)) where
+  abbrev Seek : ℕ → ℕ → Type 0
+  Seek n i = Seeks addresses tags regs m absent (record { number = n; index = i })
 
-      pub resolve-absent : (t : Slot) → t ≡ no-slot 32 next → Resolve t
-      resolve-absent = resolve-none false (ap cell-in e) (ap is-wild e) 32 refl (omega arith)
+  pub seek-cell : (i : ℕ) → f ≡ Cell i → Seek 0 i
+  seek-cell i e =
+      let h = sym found ∙ ap cell-in e in
+      record { number = rw h; cell = λ j k. let z : some i ≡ some j = sym h ∙ k in cc }
 
-    module _ (e : f ≡ Wild) where
-      pub load-wild : (r : Loaded) → r ≡ no-word 36 next → Load r
-      load-wild = load-none true (ap cell-in e) (ap is-wild e) 36 refl (omega arith)
+  seek-none : (n : ℕ) → cell-in f ≡ none → n ≡ cond (is-wild f) 36 absent → Seek n 0
+  unfolding wild-operand
+  seek-none n e is =
+      let h = sym found ∙ e in
+      record { number = rw (h, ← told) is; cell = λ j k. let z : none ≡ some j = sym h ∙ k in cc }
 
-      pub resolve-wild : (t : Slot) → t ≡ no-slot 36 next → Resolve t
-      resolve-wild = resolve-none true (ap cell-in e) (ap is-wild e) 36 refl (omega arith)
+  pub seek-absent : f ≡ Absent → Seek absent 0
+  seek-absent e = seek-none absent (ap cell-in e) (rw e)
+
+  pub seek-wild : f ≡ Wild → Seek 36 0
+  seek-wild e = seek-none 36 (ap cell-in e) (rw e)

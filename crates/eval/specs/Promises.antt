@@ -4,13 +4,16 @@ use Prim.Native.Nat.{ℕ, _+_, _-_, _≤_, _<_}
 use mathlib.Core.Path.{_≡_}
 use mathlib.Core.Bool.{Bool, true, false, not, cond}
 use mathlib.Core.List.{List, [], _∷_}
+use mathlib.Core.Option.{some}
 use lib.Dec.{eqb, ltb, leb}
 use lib.ListN.{length, getD, set}
 use denote.Ref.{RefT, now}
 use denote.Triple.Both.{Both}
-use Rattle.machine.specs.Operands.{wild-or}
-use Rattle.machine.specs.Cells.{Searchable}
+use Rattle.machine.specs.Operands.{eval-maddr, wild-or}
+use Rattle.machine.specs.Cells.{Searchable, find-cell, is-cell}
+use Rattle.machine.specs.declared.Maddr.{Maddr}
 use Rattle.machine.specs.declared.Operand.{Operand}
+use Rattle.machine.specs.declared.Operand.the-variants.{OMem}
 use Rattle.code.specs.declared.tree.Ocmp.{Ocmp}
 use Rattle.code.specs.Tree.{Code, Codes}
 use Rattle.code.specs.Records.{is-ins, is-ocmp, byte-at, ins-at, ocmp-at}
@@ -20,6 +23,7 @@ use Rattle.eval.specs.Config as Config
 use Rattle.eval.specs.Instructions.{valid-operand, eval-operand, valid-dst-operand, update-operand, valid-ocmp, ocmp-number, eval-ocmp, run-ins}
 use Rattle.eval.specs.Running.{run-code, run-codes}
 use Rattle.eval.specs.declared.exit.Exit.{Exit}
+use Rattle.eval.specs.declared.operand.Sought.{Sought}
 use Rattle.eval.specs.declared.operand.Loaded.{Loaded}
 use Rattle.eval.specs.declared.operand.Slot.{Slot}
 use Rattle.eval.specs.declared.comparison.Compared.{Compared}
@@ -40,15 +44,16 @@ pub record Cells (addresses tags values : List ℕ) : Type 0 where
   pub long : length values ≡ length addresses
 
 -- ---- operands
+-- what a Sought says of a memory operand: the number of the check that fails, which is `absent` where no 64-bit cell is there, or 0; and its cell
+pub record Seeks (addresses tags regs : List ℕ) (m : Maddr) (absent : ℕ) (r : Sought) : Type 0 where
+  pub number : r .number ≡ cond (is-cell (find-cell addresses tags (eval-maddr m regs))) 0 (wild-or absent (OMem m) regs)
+  pub cell : (i : ℕ) → find-cell addresses tags (eval-maddr m regs) ≡ some i → r .index ≡ i
+
 -- what a Loaded says of a source: the number of the check that fails, or 0; its word; and the place behind it
 pub record Loads (env : Env) (s : Config) (o : Operand) (end : ℕ) (r : Loaded) : Type 0 where
   pub number : r .number ≡ cond (valid-operand env o s) 0 (wild-or 31 o (s .regs))
   pub word : r .number ≡ 0 → r .word ≡ eval-operand env o s
   pub next : r .next ≡ end
-
--- no source, with the number of its check, and the place behind it
-abbrev pub no-word : ℕ → ℕ → Loaded
-no-word number next = record { number = number; word = 0; next = next }
 
 -- no destination, with the number of its check, and the place behind it
 abbrev pub no-slot : ℕ → ℕ → Slot

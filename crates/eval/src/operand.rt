@@ -5,13 +5,12 @@ ghost use Prim.Native.Nat.{ℕ, _<_};
 ghost use lib.ListN.{length};
 ghost use Rattle.machine.specs.declared.Maddr.{Maddr};
 ghost use Rattle.machine.specs.declared.Operand.the-variants.{OMem};
-ghost use Rattle.machine.specs.Operands.{eval-maddr, wild};
-ghost use Rattle.machine.specs.Cells.{Searchable, find-cell, cell-in, is-wild};
+ghost use Rattle.machine.specs.Cells.{Searchable};
 ghost use Rattle.code.specs.Records.{operand-at, behind};
 ghost use Rattle.code.specs.Spells.{OperandBytes};
 ghost use Rattle.code.specs.Forms.{form-of};
 ghost use Rattle.code.specs.declared.records.Form.the-variants.{Memory};
-ghost use Rattle.eval.specs.Promises.{environment, held, Cells, Loads, Resolves, InBounds, no-word, no-slot, put-regs, put-values};
+ghost use Rattle.eval.specs.Promises.{environment, held, Cells, Seeks, Loads, Resolves, InBounds, no-slot, put-regs, put-values};
 use code::Form;
 use code::form_at;
 use code::memory_at;
@@ -35,31 +34,35 @@ pub struct Slot {
     pub next: usize,
 }
 
-// The cell of the memory operand at a place. It stands apart, so that operands that are no memory are
-// read in place.
-fn cell_at(code: &[u8], at: usize, regs: &[u64; 16], addresses: &[u64], tags: &[u8]) -> Target
+// The cell of a memory operand: 0 or the number of the check that fails, and which cell.
+pub struct Sought {
+    pub number: u8,
+    pub index: usize,
+}
+
+// The cell of the memory operand at a place, where `absent` is the number of its check if no 64-bit cell is there. It stands apart, so that operands
+// that are no memory are read in place.
+fn cell_at(code: &[u8], at: usize, regs: &[u64; 16], addresses: &[u64], tags: &[u8], absent: u8) -> Sought
     requires { ⌜ OperandBytes (now code) at ⌝ }
     requires { ⌜ form-of (operand-at (now code) at) ≡ Memory ⌝ }
     requires { ⌜ Searchable (now addresses) (now tags) ⌝ }
     ensures { λ r. ⌜
         ((m : Maddr) →
         operand-at (now (code .entry)) at ≡ OMem m →
-        (cell-in r ≡ find-cell (now (addresses .entry)) (now (tags .entry)) (eval-maddr m (now (regs .entry))))
-        × (is-wild r ≡ wild (eval-maddr m (now (regs .entry)))))
+        Seeks (now (addresses .entry)) (now (tags .entry)) (now (regs .entry)) m absent r)
         ⌝ }
 {
     let m = memory_at(code, at);
-    cell_of(m, regs, addresses, tags)
-}
-
-// A source that cannot be read.
-fn unread(number: u8, next: usize) -> Loaded
-    ensures { λ r. ⌜ r ≡ no-word number next ⌝ }
-{
-    Loaded {
-        number,
-        word: 0,
-        next,
+    match cell_of(m, regs, addresses, tags) {
+        Target::Cell(index) => Sought { number: 0, index },
+        Target::Absent => Sought {
+            number: absent,
+            index: 0,
+        },
+        Target::Wild => Sought {
+            number: 36,
+            index: 0,
+        },
     }
 }
 
@@ -96,15 +99,22 @@ pub fn load(
                 next,
             }
         }
-        Form::Memory => match cell_at(code, at, regs, addresses, tags) {
-            Target::Cell(index) => Loaded {
+        Form::Memory => {
+            let cell = cell_at(code, at, regs, addresses, tags, 31);
+            if cell.number != 0 {
+                return Loaded {
+                    number: cell.number,
+                    word: 0,
+                    next,
+                };
+            }
+            let index = cell.index;
+            Loaded {
                 number: 0,
                 word: values[index],
                 next,
-            },
-            Target::Absent => unread(31, next),
-            Target::Wild => unread(36, next),
-        },
+            }
+        }
     }
 }
 
@@ -153,16 +163,19 @@ pub fn resolve(
                 next,
             }
         }
-        Form::Memory => match cell_at(code, at, regs, addresses, tags) {
-            Target::Cell(index) => Slot {
+        Form::Memory => {
+            let cell = cell_at(code, at, regs, addresses, tags, 32);
+            if cell.number != 0 {
+                return nowhere(cell.number, next);
+            }
+            let index = cell.index;
+            Slot {
                 how: 1,
                 index,
                 word: values[index],
                 next,
-            },
-            Target::Absent => nowhere(32, next),
-            Target::Wild => nowhere(36, next),
-        },
+            }
+        }
     }
 }
 
