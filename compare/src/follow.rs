@@ -1,8 +1,8 @@
 //! What an evaluation is followed with: the settings it goes by, the log of
 //! its checks, and what is counted on the way.
 
-use crate::state::{eval_operand, State};
-use crate::tree::{Operand, INSTRUCTION_KINDS};
+use crate::state::{eval_operand, Judged, Located, State};
+use crate::tree::INSTRUCTION_KINDS;
 
 #[derive(Clone, Copy, Debug, PartialEq, Eq)]
 pub enum Event {
@@ -27,6 +27,15 @@ impl Log {
             self.before_first = Some(before.clone());
         }
         self.bad.push(event);
+    }
+
+    /// Keeps a check of the record at `place`, and tells whether it passed.
+    pub fn check(&mut self, judged: Judged, place: usize, before: &State) -> bool {
+        match judged {
+            Ok(()) => self.passed += 1,
+            Err(number) => self.note(Event::Failed(number, place), before),
+        }
+        judged.is_ok()
     }
 }
 
@@ -94,7 +103,7 @@ impl Follow {
         }
     }
 
-    pub fn operand(&self, o: &Operand, s: &State) -> u64 {
+    pub fn operand(&self, o: Located, s: &State) -> u64 {
         eval_operand(o, s, self.settings.off)
     }
 

@@ -23,6 +23,7 @@ pub fn job_bytes(seed: u64, index: u64) -> Vec<u8> {
         23..=25 => legal(&mut rng, &[10, 30, 60, 100]).to_bytes(),
         26 | 27 => damaged(&mut rng, true, false).to_bytes(),
         28 => lengths_off(&mut rng).to_bytes(),
+        21 => missing(&mut rng, turn).to_bytes(),
         22 | 29 | 33 => settled(nest::fragment(&mut rng)).to_bytes(),
         30 | 31 => settled(sweep::job(&mut rng, index)).to_bytes(),
         32 => cells_at_edges(&mut rng, turn).to_bytes(),
@@ -100,11 +101,19 @@ fn endless(rng: &mut Rng) -> Job {
 
 /// Code that runs for a while and then meets one chosen fault.
 fn faulting(rng: &mut Rng, turn: usize) -> Job {
+    around(rng, |scene| Code::unplaced(Node::Ins(fault(scene, turn))))
+}
+
+fn missing(rng: &mut Rng, turn: usize) -> Job {
+    around(rng, |scene| scene.miss(turn))
+}
+
+/// Sound code, then what is to be met, then some more.
+fn around(rng: &mut Rng, met: impl Fn(&mut Scene) -> Code) -> Job {
     let mut scene = Scene::new(fork(rng), 0);
     let size = rng.below(10);
     let mut codes = scene.codes(size, 3);
-    let bad = fault(&mut scene, turn);
-    codes.push(Code::unplaced(Node::Ins(bad)));
+    codes.push(met(&mut scene));
     codes.extend(scene.codes(3, 1));
     with_fuel(rng, scene, &block(codes))
 }

@@ -2,7 +2,7 @@
 //! brought back with a remainder, as the source does. Popcnt64, Lzcnt64 and
 //! Tzcnt64, which it does not have, go by request 2026-02 in its manner.
 
-use crate::follow::{Event, Follow};
+use crate::follow::Follow;
 use crate::state::*;
 use crate::tree::Instruction::*;
 use crate::tree::*;
@@ -22,36 +22,38 @@ struct Step<'a> {
 
 pub fn eval_ins(ins: &Instruction, place: usize, s: State, f: &mut Follow) -> State {
     f.met[number(ins) - 1] += 1;
-    let now = s.clone();
+    let (now, regs) = (s.clone(), s.regs);
     let mut step = Step { f, place, s, now };
+    // The registers that the instruction met: only Mulx64 writes one before its last check.
+    let at = |o: Operand| locate(o, &regs);
     match *ins {
-        Mov64(dst, src) => step.mov64(&dst, &src),
-        Add64(dst, src) => step.add_with(&dst, &src, |_| false, update_cf),
-        AddLea64(dst, src1, src2) => step.add_lea64(&dst, &src1, &src2),
-        AddCarry64(dst, src) => step.add_carry64(&dst, &src),
-        Adcx64(dst, src) => step.add_with(&dst, &src, cf, update_cf),
-        Adox64(dst, src) => step.add_with(&dst, &src, overflow, update_of),
-        Sub64(dst, src) => step.two_words(&dst, &src, |a, b| a + POW2_64 - b),
-        Mul64(src) => step.mul64(&src),
-        Mulx64(dst_hi, dst_lo, src) => step.mulx64(&dst_hi, &dst_lo, &src),
-        IMul64(dst, src) => step.two_words(&dst, &src, |a, b| a * b),
-        Xor64(dst, src) => step.xor64(&dst, &src),
-        And64(dst, src) => step.two_words(&dst, &src, |a, b| a & b),
-        Shr64(dst, amt) => step.shift64(&dst, &amt, ishr64),
-        Shl64(dst, amt) => step.shift64(&dst, &amt, ishl64),
+        Mov64(dst, src) => step.mov64(at(dst), at(src)),
+        Add64(dst, src) => step.add_with(at(dst), at(src), |_| false, update_cf),
+        AddLea64(dst, src1, src2) => step.add_lea64(at(dst), at(src1), at(src2)),
+        AddCarry64(dst, src) => step.add_carry64(at(dst), at(src)),
+        Adcx64(dst, src) => step.add_with(at(dst), at(src), cf, update_cf),
+        Adox64(dst, src) => step.add_with(at(dst), at(src), overflow, update_of),
+        Sub64(dst, src) => step.two_words(at(dst), at(src), |a, b| a + POW2_64 - b),
+        Mul64(src) => step.mul64(at(src)),
+        Mulx64(dst_hi, dst_lo, src) => step.mulx64(dst_hi, at(dst_lo), at(src)),
+        IMul64(dst, src) => step.two_words(at(dst), at(src), |a, b| a * b),
+        Xor64(dst, src) => step.xor64(at(dst), at(src)),
+        And64(dst, src) => step.two_words(at(dst), at(src), |a, b| a & b),
+        Shr64(dst, amt) => step.shift64(at(dst), at(amt), ishr64),
+        Shl64(dst, amt) => step.shift64(at(dst), at(amt), ishl64),
         Paddd(dst, src) => step.paddd(dst, src),
         Pxor(dst, src) => step.two_quads(dst, src, |a, b| a ^ b),
         Pslld(dst, amt) => step.shift32(dst, amt, ishl32),
         Psrld(dst, amt) => step.shift32(dst, amt, ishr32),
         Pshufd(dst, src, permutation) => step.pshufd(dst, src, permutation),
         Pcmpeqd(dst, src) => step.two_quads(dst, src, eq_result),
-        Pextrq(dst, src, index) => step.pextrq(&dst, src, index),
-        Pinsrd(dst, src, index) => step.pinsrd(dst, &src, index),
-        Pinsrq(dst, src, index) => step.pinsrq(dst, &src, index),
+        Pextrq(dst, src, index) => step.pextrq(at(dst), src, index),
+        Pinsrd(dst, src, index) => step.pinsrd(dst, at(src), index),
+        Pinsrq(dst, src, index) => step.pinsrq(dst, at(src), index),
         Vpslldq(dst, src, count) => step.vpslldq(dst, src, count),
-        Popcnt64(dst, src) => step.popcnt64(&dst, &src),
-        Lzcnt64(dst, src) => step.zeros64(&dst, &src, zeros_from_the_top),
-        Tzcnt64(dst, src) => step.zeros64(&dst, &src, zeros_from_the_bottom),
+        Popcnt64(dst, src) => step.popcnt64(at(dst), at(src)),
+        Lzcnt64(dst, src) => step.zeros64(at(dst), at(src), zeros_from_the_top),
+        Tzcnt64(dst, src) => step.zeros64(at(dst), at(src), zeros_from_the_bottom),
     }
     step.now
 }
@@ -92,34 +94,26 @@ pub fn number(ins: &Instruction) -> usize {
 // Checks and updates.
 impl Step<'_> {
     /// A check that fails is logged with the state the instruction met.
-    fn check(&mut self, valid: bool, number: u8) {
-        if valid {
-            self.f.log.passed += 1;
-        } else {
-            self.f.log.note(Event::Failed(number, self.place), &self.s);
-            self.now.ok = false;
-        }
+    fn check(&mut self, judged: Judged) {
+        self.now.ok &= self.f.log.check(judged, self.place, &self.s);
     }
 
-    fn check_source(&mut self, src: &Operand) {
-        let valid = valid_operand(src, &self.now);
-        self.check(valid, 31);
+    fn check_source(&mut self, src: Located) {
+        self.check(valid_operand(src, &self.now));
     }
 
     /// One check in the source; its number tells which half of it failed.
-    fn check_shift(&mut self, amt: &Operand) {
-        let readable = valid_operand(amt, &self.now);
-        let valid = readable && self.f.operand(amt, &self.now) < 64;
-        self.check(valid, if readable { 33 } else { 31 });
+    fn check_shift(&mut self, amt: Located) {
+        let in_width = demand(self.f.operand(amt, &self.now) < 64, 33);
+        self.check(valid_operand(amt, &self.now).and(in_width));
     }
 
-    fn update_preserving_flags(&mut self, dst: &Operand, value: u64) {
-        let valid = valid_dst_operand(dst, &self.now);
-        self.check(valid, 32);
+    fn update_preserving_flags(&mut self, dst: Located, value: u64) {
+        self.check(valid_dst_operand(dst, &self.now));
         update_operand(dst, value, &mut self.now);
     }
 
-    fn update(&mut self, dst: &Operand, value: u64) {
+    fn update(&mut self, dst: Located, value: u64) {
         self.update_preserving_flags(dst, value);
         self.now.flags = self.f.settings.fill;
     }
@@ -132,7 +126,7 @@ impl Step<'_> {
         self.now.xmms[usize::from(dst)] = value;
     }
 
-    fn wide(&self, o: &Operand) -> u128 {
+    fn wide(&self, o: Located) -> u128 {
         u128::from(self.f.operand(o, &self.s))
     }
 
@@ -147,7 +141,7 @@ impl Step<'_> {
 
 // General instructions.
 impl Step<'_> {
-    fn mov64(&mut self, dst: &Operand, src: &Operand) {
+    fn mov64(&mut self, dst: Located, src: Located) {
         self.check_source(src);
         self.update_preserving_flags(dst, low(self.wide(src)));
     }
@@ -156,8 +150,8 @@ impl Step<'_> {
     /// flag written, both over the old flags.
     fn add_with(
         &mut self,
-        dst: &Operand,
-        src: &Operand,
+        dst: Located,
+        src: Located,
         carry: fn(u64) -> bool,
         set: fn(u64, bool) -> u64,
     ) {
@@ -168,13 +162,13 @@ impl Step<'_> {
         self.now.flags = set(self.s.flags, sum >= POW2_64);
     }
 
-    fn add_lea64(&mut self, dst: &Operand, src1: &Operand, src2: &Operand) {
+    fn add_lea64(&mut self, dst: Located, src1: Located, src2: Located) {
         self.check_source(src1);
         self.check_source(src2);
         self.update_preserving_flags(dst, low(self.wide(src1) + self.wide(src2)));
     }
 
-    fn add_carry64(&mut self, dst: &Operand, src: &Operand) {
+    fn add_carry64(&mut self, dst: Located, src: Located) {
         self.check_source(src);
         let old_carry = if cf(self.s.flags) { 1 } else { 0 };
         let sum = self.wide(dst) + self.wide(src) + old_carry;
@@ -183,17 +177,17 @@ impl Step<'_> {
         self.now.flags = update_cf(self.s.flags, sum >= POW2_64);
     }
 
-    fn two_words(&mut self, dst: &Operand, src: &Operand, work: fn(u128, u128) -> u128) {
+    fn two_words(&mut self, dst: Located, src: Located, work: fn(u128, u128) -> u128) {
         self.check_source(src);
         self.update(dst, low(work(self.wide(dst), self.wide(src))));
     }
 
-    fn xor64(&mut self, dst: &Operand, src: &Operand) {
+    fn xor64(&mut self, dst: Located, src: Located) {
         self.two_words(dst, src, |a, b| a ^ b);
         self.clear_cf_and_of();
     }
 
-    fn mul64(&mut self, src: &Operand) {
+    fn mul64(&mut self, src: Located) {
         self.check_source(src);
         let product = self.reg(RAX) * self.wide(src);
         self.now.regs[usize::from(RAX)] = low(product);
@@ -201,33 +195,36 @@ impl Step<'_> {
         self.now.flags = self.f.settings.fill;
     }
 
-    fn mulx64(&mut self, dst_hi: &Operand, dst_lo: &Operand, src: &Operand) {
+    /// The high destination is found after the low half is written, which may have
+    /// gone to a register of its address.
+    fn mulx64(&mut self, dst_hi: Operand, dst_lo: Located, src: Located) {
         self.check_source(src);
         let product = self.reg(RDX) * self.wide(src);
         self.update_preserving_flags(dst_lo, low(product));
+        let dst_hi = locate(dst_hi, &self.now.regs);
         self.update_preserving_flags(dst_hi, low(product / POW2_64));
     }
 
-    fn shift64(&mut self, dst: &Operand, amt: &Operand, shift: fn(u64, u64) -> u64) {
+    fn shift64(&mut self, dst: Located, amt: Located, shift: fn(u64, u64) -> u64) {
         self.check_shift(amt);
         let (value, amount) = (self.wide(dst), self.wide(amt));
         self.update(dst, shift(low(value), low(amount)));
     }
 
-    fn popcnt64(&mut self, dst: &Operand, src: &Operand) {
+    fn popcnt64(&mut self, dst: Located, src: Located) {
         self.count64(dst, src, ones);
         self.clear_cf_and_of();
     }
 
     /// Lzcnt64 and Tzcnt64. The source is the one that the instruction met,
     /// also where the count has gone to the same place.
-    fn zeros64(&mut self, dst: &Operand, src: &Operand, zeros: fn(u64) -> u64) {
+    fn zeros64(&mut self, dst: Located, src: Located, zeros: fn(u64) -> u64) {
         self.count64(dst, src, zeros);
         self.now.flags = update_cf(self.now.flags, self.wide(src) == 0);
     }
 
     /// The destination is written and not read.
-    fn count64(&mut self, dst: &Operand, src: &Operand, count: fn(u64) -> u64) {
+    fn count64(&mut self, dst: Located, src: Located, count: fn(u64) -> u64) {
         self.check_source(src);
         self.update(dst, count(low(self.wide(src))));
     }
@@ -254,7 +251,7 @@ impl Step<'_> {
     }
 
     fn shift32(&mut self, dst: Xmm, amt: u8, shift: fn(u32, u8) -> u32) {
-        self.check(amt < 32, 34);
+        self.check(demand(amt < 32, 34));
         self.update_xmm(dst, self.quad(dst).map(|word| shift(word, amt)));
     }
 
@@ -270,7 +267,7 @@ impl Step<'_> {
         self.update_xmm(dst, permuted);
     }
 
-    fn pextrq(&mut self, dst: &Operand, src: Xmm, index: u8) {
+    fn pextrq(&mut self, dst: Located, src: Xmm, index: u8) {
         let [lo0, lo1, hi2, hi3] = self.quad(src).map(u64::from);
         let (lo, hi) = match index % 2 {
             0 => (lo0, lo1),
@@ -279,14 +276,14 @@ impl Step<'_> {
         self.update_preserving_flags(dst, lo + hi * POW2_32);
     }
 
-    fn pinsrd(&mut self, dst: Xmm, src: &Operand, index: u8) {
+    fn pinsrd(&mut self, dst: Xmm, src: Located, index: u8) {
         self.check_source(src);
         let mut q = self.quad(dst);
         q[usize::from(index % 4)] = (low(self.wide(src)) % POW2_32) as u32;
         self.update_xmm(dst, q);
     }
 
-    fn pinsrq(&mut self, dst: Xmm, src: &Operand, index: u8) {
+    fn pinsrq(&mut self, dst: Xmm, src: Located, index: u8) {
         self.check_source(src);
         let value = low(self.wide(src));
         let (lo, hi) = ((value % POW2_32) as u32, (value / POW2_32) as u32);
@@ -299,7 +296,7 @@ impl Step<'_> {
     }
 
     fn vpslldq(&mut self, dst: Xmm, src: Xmm, count: u8) {
-        self.check(count == 4, 35);
+        self.check(demand(count == 4, 35));
         let [lo0, lo1, hi2, _] = self.quad(src);
         self.update_xmm(dst, [0, lo0, lo1, hi2]);
     }

@@ -1,10 +1,11 @@
-//! Popcnt64, Lzcnt64 and Tzcnt64, which document 01 has no examples of.
+//! Popcnt64, Lzcnt64 and Tzcnt64, which document 01 has no examples of, and the
+//! numbers of operands that fail their checks.
 
 use super::*;
 use crate::build::{at, at_reg, number, reg};
 use crate::cells::Cell;
 use crate::count_table::{flags, words};
-use crate::follow::{Settings, OFF_MEM64};
+use crate::follow::{Event, Settings, OFF_MEM64};
 
 const RBX: Reg = 1;
 const PLACE: usize = 5;
@@ -137,4 +138,126 @@ fn failed_checks_and_what_follows_them() {
         let told = done(count(reg(RAX), number(OFF_MEM64)), fill, &s);
         assert_eq!(end.regs, told.regs);
     }
+}
+
+/// Memory that is there, without a cell, and below and above the range, where
+/// Rax is 77 and Rdx 2^50.
+const FINE: Operand = Operand::Mem(Maddr::Const(ADDRESS));
+const ABSENT: Operand = Operand::Mem(Maddr::Const(ADDRESS + 1));
+const BELOW: Operand = Operand::Mem(Maddr::Reg(RAX, -78));
+const ABOVE: Operand = Operand::Mem(Maddr::Index(RAX, 0x7fff, RDX, i64::MAX));
+
+/// The numbers of all the checks that fail, as the source runs on.
+fn numbers(ins: Instruction) -> Vec<u8> {
+    let mut s = holding(7);
+    s.regs[usize::from(RDX)] = 1 << 50;
+    numbers_from(ins, &s)
+}
+
+fn numbers_from(ins: Instruction, s: &State) -> Vec<u8> {
+    let number = |event| match event {
+        Event::Failed(number, PLACE) => number,
+        other => panic!("{other:?}"),
+    };
+    let (_, bad) = evaluated(ins, 0, s);
+    bad.into_iter().map(number).collect()
+}
+
+/// All that have a destination and a source or an amount.
+fn twos() -> impl Iterator<Item = OfTwo> {
+    TWOS.into_iter().chain([Shr64 as OfTwo, Shl64])
+}
+
+#[test]
+fn wild_addresses_in_every_role() {
+    let to = reg(RAX);
+    for wild in [BELOW, ABOVE] {
+        for two in twos() {
+            assert_eq!(numbers(two(to, wild)), [36], "{:?}", two(to, wild));
+            assert_eq!(numbers(two(wild, FINE)), [36], "{:?}", two(wild, FINE));
+        }
+        let others = [
+            AddLea64(to, wild, FINE),
+            AddLea64(to, FINE, wild),
+            AddLea64(wild, FINE, FINE),
+            Mul64(wild),
+            Mulx64(to, to, wild),
+            Mulx64(FINE, wild, FINE),
+            Mulx64(wild, FINE, FINE),
+            Pextrq(wild, 1, 0),
+            Pinsrd(1, wild, 0),
+            Pinsrq(1, wild, 0),
+        ];
+        for ins in others {
+            assert_eq!(numbers(ins), [36], "{ins:?}");
+        }
+    }
+}
+
+/// Sources from left to right, then the destination, each with its own number.
+#[test]
+fn every_operand_has_its_own_number() {
+    let table: [(Operand, Operand, &[u8]); 11] = [
+        (FINE, ABSENT, &[31]),
+        (ABSENT, FINE, &[32]),
+        (ABSENT, ABSENT, &[31, 32]),
+        (ABSENT, BELOW, &[36, 32]),
+        (ABOVE, ABSENT, &[31, 36]),
+        (ABOVE, BELOW, &[36, 36]),
+        (reg(RSP), FINE, &[32]),
+        (reg(RSP), ABOVE, &[36, 32]),
+        (number(1), ABOVE, &[36, 32]),
+        (reg(RSP), ABSENT, &[31, 32]),
+        (number(1), ABSENT, &[31, 32]),
+    ];
+    for (dst, src, expected) in table {
+        for two in twos() {
+            assert_eq!(numbers(two(dst, src)), expected, "{:?}", two(dst, src));
+        }
+        let lea = AddLea64(dst, FINE, src);
+        assert_eq!(numbers(lea), expected, "{lea:?}");
+    }
+    let lea = |a, b| numbers(AddLea64(reg(RSP), a, b));
+    assert_eq!(lea(ABSENT, BELOW), [31, 36, 32]);
+    assert_eq!(lea(BELOW, ABSENT), [36, 31, 32]);
+    assert_eq!(lea(ABOVE, BELOW), [36, 36, 32]);
+}
+
+/// An amount is judged as an operand first, and 64 or more only if readable.
+#[test]
+fn shift_amounts_are_read_before_they_are_too_large() {
+    for shift in [Shr64, Shl64] {
+        for (amount, first) in [(BELOW, 36), (ABSENT, 31), (number(64), 33)] {
+            let with = |dst| numbers(shift(dst, amount));
+            assert_eq!(with(reg(RAX)), [first]);
+            assert_eq!(with(ABSENT), [first, 32]);
+            assert_eq!(with(ABOVE), [first, 36]);
+            assert_eq!(with(reg(RSP)), [first, 32]);
+            assert_eq!(with(number(1)), [first, 32]);
+        }
+        assert_eq!(numbers(shift(ABOVE, number(63))), [36]);
+    }
+}
+
+/// Rdx times 1 is written to Rax, and the high half, 0, to 16 behind Rax.
+#[test]
+fn the_high_half_is_judged_after_the_low_write() {
+    let mulx = |rax: u64, rdx: u64| {
+        let mut s = holding(7);
+        (s.regs[usize::from(RAX)], s.regs[usize::from(RDX)]) = (rax, rdx);
+        numbers_from(Mulx64(at_reg(RAX, -16), reg(RAX), number(1)), &s)
+    };
+    let (home, beside) = (ADDRESS + 16, ADDRESS + 17);
+    assert_eq!(mulx(home, home), []);
+    assert_eq!(mulx(home, 15), [36], "wild by the low write");
+    assert_eq!(mulx(15, home), [], "wild before it");
+    assert_eq!(mulx(15, beside), [32], "wild before, without a cell after");
+    assert_eq!(mulx(beside, 15), [36], "the other way");
+    assert_eq!(mulx(15, 15), [36]);
+    assert_eq!(numbers(Mulx64(ABSENT, BELOW, FINE)), [36, 32]);
+    assert_eq!(numbers(Mulx64(BELOW, ABSENT, FINE)), [32, 36]);
+    assert_eq!(numbers(Mulx64(BELOW, reg(RSP), ABSENT)), [31, 32, 36]);
+    // The failed store left an entry in the source's map, which has no range.
+    assert_eq!(numbers(Mulx64(BELOW, BELOW, FINE)), [36]);
+    assert_eq!(numbers(Mulx64(ABSENT, ABSENT, FINE)), [32]);
 }

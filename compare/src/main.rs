@@ -1,5 +1,5 @@
 //! An evaluator and a builder written apart from the port, from document 01,
-//! requests 2026-01 and 2026-02 and the F* text alone, and their comparison
+//! requests 2026-01 to 2026-03 and the F* text alone, and their comparison
 //! with it.
 
 // Calls of the linked port are the only ones that Rust cannot check.
@@ -22,6 +22,7 @@ mod generate_code;
 mod instructions;
 mod job;
 mod large;
+mod misses;
 mod nest;
 mod operands;
 mod reader;

@@ -1,18 +1,23 @@
 //! Operands for generated code.
 
+use crate::cells::Cell;
 use crate::scene::Scene;
 use crate::tree::*;
 
 const TOP: i128 = 1 << 64;
 
 impl Scene {
+    /// A cell's address, where there are cells.
+    fn anchor(&mut self) -> u64 {
+        if self.cells.is_empty() {
+            return self.rng.edge_word();
+        }
+        self.cells[self.rng.below(self.cells.len())].address
+    }
+
     /// Memory at, beside and beyond the cells; seldom a 64-bit cell.
     pub fn wild_memory(&mut self) -> Operand {
-        let anchor = if self.cells.is_empty() {
-            i128::from(self.rng.edge_word())
-        } else {
-            i128::from(self.cells[self.rng.below(self.cells.len())].address)
-        };
+        let anchor = i128::from(self.anchor());
         let target = match self.rng.below(8) {
             0 => anchor + TOP,
             1 => anchor - TOP,
@@ -39,6 +44,40 @@ impl Scene {
             1 => Maddr::Reg(a, offset),
             _ => Maddr::Index(a, scale, b, offset),
         })
+    }
+
+    /// Memory out of the 64-bit range, beyond an end of it or a whole 2^64 off
+    /// a cell.
+    pub fn outside_memory(&mut self) -> Operand {
+        for _ in 0..4 {
+            let (anchor, by) = (self.anchor(), self.rng.edge_word());
+            let (anchor, by) = (i128::from(anchor), i128::from(by));
+            let near = [-1, -8, TOP, TOP + 8, anchor + TOP, anchor - TOP];
+            let target = match self.rng.below(4) {
+                0 => self.rng.pick(&[-1 - by, TOP + by]),
+                _ => self.rng.pick(&near),
+            };
+            if let Some(m) = self.reach(target) {
+                return Operand::Mem(m);
+            }
+        }
+        // A register less itself is 0, whatever it holds.
+        let (r, below) = (self.pointer(), self.rng.below(16) as i64);
+        Operand::Mem(Maddr::Index(r, -1, r, -1 - below))
+    }
+
+    /// Memory in the 64-bit range without a 64-bit cell.
+    pub fn absent_memory(&mut self) -> Operand {
+        let anchor = self.anchor();
+        let beside = [0, 1, 4, 7, u64::MAX].map(|by| anchor.wrapping_add(by));
+        let target = match self.rng.below(6) {
+            0 => u64::MAX,
+            _ => self.rng.pick(&beside),
+        };
+        // Cells do not overlap, so behind the start of one no other starts.
+        let held = |c: &Cell| c.tag == 64 && c.address == target;
+        let by = i128::from(self.cells.iter().any(held));
+        Operand::Mem(self.address_of(i128::from(target) + by))
     }
 
     fn cell_operand(&mut self, address: u64) -> Operand {

@@ -121,16 +121,8 @@ impl Scene {
 impl Scene {
     /// An address operand that means `target`, where a form can reach it.
     pub fn address_of(&mut self, target: i128) -> Maddr {
-        for _ in 0..6 {
-            let form = self.rng.below(3);
-            let found = match form {
-                0 => u64::try_from(target).ok().map(Maddr::Const),
-                1 => self.register_form(target),
-                _ => self.index_form(target),
-            };
-            if let Some(m) = found {
-                return m;
-            }
+        if let Some(m) = self.reach(target) {
+            return m;
         }
         match u64::try_from(target) {
             Ok(n) => Maddr::Const(n),
@@ -138,7 +130,23 @@ impl Scene {
         }
     }
 
-    fn pointer(&mut self) -> Reg {
+    /// The same, but none where a few tries did not reach it.
+    pub fn reach(&mut self, target: i128) -> Option<Maddr> {
+        for _ in 0..6 {
+            let form = self.rng.below(3);
+            let found = match form {
+                0 => u64::try_from(target).ok().map(Maddr::Const),
+                1 => self.register_form(target),
+                _ => self.index_form(target),
+            };
+            if found.is_some() {
+                return found;
+            }
+        }
+        None
+    }
+
+    pub fn pointer(&mut self) -> Reg {
         let all = self.pointers.len() + self.amounts.len();
         let n = self.rng.below(all);
         if n < self.pointers.len() {

@@ -1,5 +1,6 @@
 //! The examples of document 01 against this evaluator. The expected values
-//! are typed from there; start values that it leaves open are 0.
+//! are typed from there, P11's fault from request 2026-03; start values that
+//! are left open are 0.
 
 use crate::answer::render;
 use crate::build::*;
@@ -78,7 +79,7 @@ fn more_kernels() -> Vec<Example> {
     let differs = Ocmp::unplaced(Relation::Ne, A, number(0));
     let less = Box::new(Code::unplaced(Node::Ins(Sub64(A, number(1)))));
     let p14 = of_code(Code::unplaced(Node::While(differs, less))).reg(RAX, 3);
-    let p11_text = "fault 31 at 0\nflags 0\nRax 18446744073709551615\ncell 0 64 7\n";
+    let p11_text = "fault 36 at 0\nflags 0\nRax 18446744073709551615\ncell 0 64 7\n";
     let p13_text = "done\nflags 0\nRax 17179869187\nxmm 0 1 2 3 4\n";
     vec![
         ("P10 0", p10.clone().fuel(0), "spent at 0\nflags 0\n"),

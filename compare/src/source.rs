@@ -63,14 +63,12 @@ fn eval_while(
 
 fn run_ocmp(mut s: State, c: &Ocmp, f: &mut Follow) -> Result<(State, bool), Stop> {
     f.step()?;
-    if valid_operand(&c.left, &s) && valid_operand(&c.right, &s) {
-        f.log.passed += 1;
-    } else {
-        f.log.note(Event::Failed(31, c.place), &s);
-        s.ok = false;
-    }
+    let [left, right] = [c.left, c.right].map(|o| locate(o, &s.regs));
+    // One check in the source; its number is that of the operand which fails first.
+    let judged = valid_operand(left, &s).and_then(|()| valid_operand(right, &s));
+    s.ok &= f.log.check(judged, c.place, &s);
     f.may_go_on()?;
-    let b = holds(c.relation, f.operand(&c.left, &s), f.operand(&c.right, &s));
+    let b = holds(c.relation, f.operand(left, &s), f.operand(right, &s));
     s.flags = f.settings.fill;
     Ok((s, b))
 }

@@ -111,3 +111,75 @@ fn a_fault_in_the_second_half_of_mulx_shows_the_start() {
     assert_eq!(end.cells(&[cell])[0].value, 0);
     assert_eq!(f.log.before_first.unwrap().cells(&[cell]), [cell]);
 }
+
+/// Rax is 0, so these leave the range below 0 and above 2^64-1.
+const WILD: [Operand; 2] = [
+    Operand::Mem(Maddr::Reg(RAX, -1)),
+    Operand::Mem(Maddr::Index(RAX, 2, RDX, 0)),
+];
+
+/// The bad events of a comparison at place 9 over Rdx 2^63 and a cell at 8,
+/// in an IfElse and in a While around nothing.
+fn compared(relation: Relation, left: Operand, right: Operand) -> [Vec<Event>; 2] {
+    let condition = Ocmp {
+        place: 9,
+        ..Ocmp::unplaced(relation, left, right)
+    };
+    let nothing = || Box::new(block(Vec::new()));
+    let chosen = Node::IfElse(condition.clone(), nothing(), nothing());
+    let looped = Node::While(condition, nothing());
+    [chosen, looped].map(|node| {
+        let cell = Cell {
+            address: 8,
+            tag: 64,
+            value: 7,
+        };
+        let mut s = state(&[cell]);
+        s.regs[usize::from(RDX)] = 1 << 63;
+        let settings = Settings {
+            mode: Mode::StopsAtFirst,
+            ..Settings::new(0)
+        };
+        let mut f = Follow::new(settings);
+        let _ = eval_code(&Code::unplaced(node), 1, s, &mut f);
+        f.log.bad
+    })
+}
+
+/// One check over two operands: the first that fails names it.
+#[test]
+fn a_comparison_is_judged_by_its_first_operand_first() {
+    let fine = Operand::Mem(Maddr::Const(8));
+    for wild in WILD {
+        let table = [
+            (fine, NOWHERE, 31),
+            (fine, wild, 36),
+            (NOWHERE, fine, 31),
+            (NOWHERE, NOWHERE, 31),
+            (NOWHERE, wild, 31),
+            (wild, fine, 36),
+            (wild, NOWHERE, 36),
+            (wild, wild, 36),
+            (ONE, wild, 36),
+            (A, NOWHERE, 31),
+        ];
+        for (left, right, number) in table {
+            let expected = vec![Event::Failed(number, 9)];
+            for relation in RELATIONS {
+                let bad = compared(relation, left, right);
+                assert_eq!(bad, [expected.clone(), expected.clone()]);
+            }
+        }
+    }
+    let [chosen, _] = compared(Relation::Eq, fine, ONE);
+    assert_eq!(chosen, []);
+}
+
+#[test]
+fn fuel_is_tested_before_a_wild_condition() {
+    let condition = Ocmp::unplaced(Relation::Eq, WILD[0], ONE);
+    let code = while_loop(7, condition, block(Vec::new()));
+    assert_eq!(followed(&code, 0, Mode::RunsOn).0, [Event::Starved(7)]);
+    let fault = Event::Failed(36, 0);
+    assert_eq!(followed(&code, 1, Mode::RunsOn).0, [fault]);
+}

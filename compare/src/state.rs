@@ -112,9 +112,9 @@ pub fn store_mem64(address: i128, value: u64, mem: &mut Rc<Memory>) {
     Rc::make_mut(mem).insert(address, Entry::Mem64(value));
 }
 
-pub fn eval_maddr(m: &Maddr, s: &State) -> i128 {
-    let reg = |r: Reg| i128::from(s.regs[usize::from(r)]);
-    match *m {
+fn eval_maddr(m: Maddr, regs: &[u64; 16]) -> i128 {
+    let reg = |r: Reg| i128::from(regs[usize::from(r)]);
+    match m {
         Maddr::Const(n) => i128::from(n),
         Maddr::Reg(r, offset) => reg(r) + i128::from(offset),
         Maddr::Index(base, scale, index, offset) => {
@@ -123,38 +123,95 @@ pub fn eval_maddr(m: &Maddr, s: &State) -> i128 {
     }
 }
 
-pub fn eval_operand(o: &Operand, s: &State, off: u64) -> u64 {
+/// An operand with its address worked out, once for all that check, read or
+/// write it.
+#[derive(Clone, Copy, Debug, PartialEq, Eq)]
+pub enum Located {
+    Const(u64),
+    Reg(Reg),
+    /// Memory at the exact address.
+    Mem(i128),
+}
+
+pub fn locate(o: Operand, regs: &[u64; 16]) -> Located {
     match o {
-        Operand::Const(n) => *n,
-        Operand::Reg(r) => s.regs[usize::from(*r)],
-        Operand::Mem(m) => load_mem64(eval_maddr(m, s), &s.mem, off),
+        Operand::Const(n) => Located::Const(n),
+        Operand::Reg(r) => Located::Reg(r),
+        Operand::Mem(m) => Located::Mem(eval_maddr(m, regs)),
     }
 }
 
-pub fn valid_operand(o: &Operand, s: &State) -> bool {
+/// What those who read or write an operand are told of it.
+#[derive(Clone, Copy, Debug, PartialEq, Eq)]
+pub enum Found {
+    /// A constant, a register or a 64-bit cell.
+    Word,
+    /// The address is one of 64 bits, without a 64-bit cell there.
+    NoCell,
+    /// The exact address is below 0 or above 2^64-1.
+    OutOfRange,
+}
+
+/// The map is asked first: where the source runs on after a failed store, an
+/// address out of range has the entry that was stored, and counts as valid.
+pub fn look(o: Located, s: &State) -> Found {
     match o {
-        Operand::Const(_) | Operand::Reg(_) => true,
-        Operand::Mem(m) => valid_mem64(eval_maddr(m, s), &s.mem),
+        Located::Mem(address) if !valid_mem64(address, &s.mem) => match u64::try_from(address) {
+            Ok(_) => Found::NoCell,
+            Err(_) => Found::OutOfRange,
+        },
+        _ => Found::Word,
     }
 }
 
-fn valid_dst(o: &Operand) -> bool {
-    !matches!(o, Operand::Const(_) | Operand::Reg(RSP))
+/// How a check ends; a failed one has the number of its fault.
+pub type Judged = Result<(), u8>;
+
+pub fn demand(holds: bool, number: u8) -> Judged {
+    if holds {
+        Ok(())
+    } else {
+        Err(number)
+    }
 }
 
-pub fn valid_dst_operand(o: &Operand, s: &State) -> bool {
-    valid_operand(o, s) && valid_dst(o)
+impl Found {
+    /// Where the address is in range, the operand's role has the number.
+    fn judged(self, no_cell: u8) -> Judged {
+        match self {
+            Found::Word => Ok(()),
+            Found::NoCell => Err(no_cell),
+            Found::OutOfRange => Err(36),
+        }
+    }
+}
+
+pub fn valid_operand(o: Located, s: &State) -> Judged {
+    look(o, s).judged(31)
+}
+
+fn valid_dst(o: Located) -> Judged {
+    demand(!matches!(o, Located::Const(_) | Located::Reg(RSP)), 32)
+}
+
+pub fn valid_dst_operand(o: Located, s: &State) -> Judged {
+    look(o, s).judged(32).and(valid_dst(o))
+}
+
+pub fn eval_operand(o: Located, s: &State, off: u64) -> u64 {
+    match o {
+        Located::Const(n) => n,
+        Located::Reg(r) => s.regs[usize::from(r)],
+        Located::Mem(address) => load_mem64(address, &s.mem, off),
+    }
 }
 
 /// The source's primed update: the flags stay.
-pub fn update_operand(o: &Operand, value: u64, s: &mut State) {
+pub fn update_operand(o: Located, value: u64, s: &mut State) {
     match o {
-        Operand::Const(_) => s.ok = false,
-        Operand::Reg(r) => s.regs[usize::from(*r)] = value,
-        Operand::Mem(m) => {
-            let address = eval_maddr(m, s);
-            store_mem64(address, value, &mut s.mem);
-        }
+        Located::Const(_) => s.ok = false,
+        Located::Reg(r) => s.regs[usize::from(r)] = value,
+        Located::Mem(address) => store_mem64(address, value, &mut s.mem),
     }
 }
 
@@ -181,3 +238,7 @@ pub fn update_of(flags: u64, new_of: bool) -> u64 {
         _ => flags,
     }
 }
+
+#[cfg(test)]
+#[path = "state_tests.rs"]
+mod tests;

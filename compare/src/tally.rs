@@ -6,7 +6,7 @@ use std::collections::BTreeMap;
 
 /// Answers that every run of some length has to meet.
 const REFUSALS: [u8; 12] = [1, 2, 3, 4, 5, 6, 12, 13, 14, 15, 41, 42];
-const FAULTS: [u8; 5] = [31, 32, 33, 34, 35];
+const FAULTS: [u8; 6] = [31, 32, 33, 34, 35, 36];
 
 #[derive(Default)]
 pub struct Tally {

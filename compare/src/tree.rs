@@ -77,6 +77,23 @@ pub const COUNTS: [OfTwo; 3] = [
     Instruction::Tzcnt64,
 ];
 
+/// All that have a destination and a source, but for the shifts, whose second
+/// operand has a limit.
+pub const TWOS: [OfTwo; 12] = [
+    Instruction::Mov64,
+    Instruction::Add64,
+    Instruction::AddCarry64,
+    Instruction::Adcx64,
+    Instruction::Adox64,
+    Instruction::Sub64,
+    Instruction::IMul64,
+    Instruction::Xor64,
+    Instruction::And64,
+    Instruction::Popcnt64,
+    Instruction::Lzcnt64,
+    Instruction::Tzcnt64,
+];
+
 #[derive(Clone, Copy, Debug, PartialEq, Eq)]
 pub enum Relation {
     Eq,

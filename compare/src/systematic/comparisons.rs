@@ -11,13 +11,13 @@ use crate::tree::*;
 /// Less by unsigned but greater by signed order; equal; greater by unsigned.
 const ORDERS: [(u64, u64); 3] = [((1 << 63) - 1, 1 << 63), (TOP, TOP), (TOP, 0)];
 
-fn chosen(condition: Ocmp) -> Code {
+pub fn chosen(condition: Ocmp) -> Code {
     let told = |n| ins(Mov64(reg(OTHER), number(n)));
     if_else(condition, told(1), told(2))
 }
 
 /// A loop whose body makes its condition false.
-fn once(condition: Ocmp) -> Code {
+pub fn once(condition: Ocmp) -> Code {
     let (left, right) = match condition.relation {
         Relation::Eq | Relation::Ge | Relation::Gt => (0, 1),
         Relation::Ne => (1, 1),

@@ -102,7 +102,7 @@ fn meetings(count: OfTwo) -> Vec<Job> {
     jobs
 }
 
-/// 32, and 31 ahead of it, each behind a count that stays done.
+/// 32, and 31 or 36 ahead of it, each behind a count that stays done.
 fn faults(count: OfTwo) -> Vec<Job> {
     let bad = [reg(RSP), number(1), BARE[0]];
     let sources = [reg(SMALL); 3].into_iter().chain(BARE);

@@ -1,5 +1,5 @@
-//! Every fault at every kind of place, the order of the checks, and the two
-//! destinations of Mulx64.
+//! The faults 31 to 35 at every kind of place, the order of the checks, and the
+//! two destinations of Mulx64. 36 is in `wild.rs`.
 
 use super::stage::*;
 use crate::build::*;
@@ -24,7 +24,7 @@ fn step() -> Code {
 
 /// The code first, behind others, in a Block, in either part of an IfElse, in
 /// a loop's first and second round, and behind a loop.
-fn places(bad: Code) -> Vec<Code> {
+pub fn places(bad: Code) -> Vec<Code> {
     let always = compare(Eq, reg(LEFT), reg(LEFT));
     let never = compare(Ne, reg(LEFT), reg(LEFT));
     let left = |n| compare(Ne, reg(LEFT), number(n));

@@ -12,6 +12,7 @@ mod lanes;
 mod refusals;
 mod roles;
 mod stage;
+mod wild;
 mod words;
 
 use crate::answer::render;
@@ -33,6 +34,7 @@ fn jobs() -> Vec<Vec<u8>> {
     let mut bytes: Vec<Vec<u8>> = jobs.iter().map(Job::to_bytes).collect();
     bytes.extend(refusals::jobs());
     bytes.extend(counts::jobs().iter().map(Job::to_bytes));
+    bytes.extend(wild::jobs().iter().map(Job::to_bytes));
     // Groups meet, so some jobs come twice.
     let mut met = BTreeSet::new();
     bytes.retain(|job| met.insert(job.clone()));

@@ -9,14 +9,14 @@ use crate::tree::*;
 use Role::{Destination, Source};
 
 #[derive(Clone, Copy, PartialEq)]
-enum Role {
+pub enum Role {
     Destination,
     Source,
 }
 
-struct Shape {
+pub struct Shape {
     build: fn(&[Operand]) -> Instruction,
-    roles: &'static [Role],
+    pub roles: &'static [Role],
 }
 
 const TWO: &[Role] = &[Destination, Source];
@@ -25,7 +25,7 @@ fn shape(build: fn(&[Operand]) -> Instruction, roles: &'static [Role]) -> Shape 
     Shape { build, roles }
 }
 
-fn shapes() -> Vec<Shape> {
+pub fn shapes() -> Vec<Shape> {
     vec![
         shape(|o| Mov64(o[0], o[1]), TWO),
         shape(|o| Add64(o[0], o[1]), TWO),
@@ -67,8 +67,8 @@ pub fn kinds(behind: i64) -> [Operand; 5] {
     ]
 }
 
-/// Memory with no 64-bit cell there: nothing listed, a narrow cell, below 0,
-/// above 2^64-1.
+/// Memory with no 64-bit cell there: nothing listed, a narrow cell, and, the
+/// last two, an address below 0 and one above 2^64-1.
 pub const BARE: [Operand; 6] = [
     Operand::Mem(Maddr::Const(BESIDE)),
     Operand::Mem(Maddr::Const(4112)),
@@ -86,12 +86,12 @@ fn usual(role: Role, position: usize) -> Operand {
 }
 
 /// The shape with its usual operands but for one.
-fn with(shape: &Shape, position: usize, operand: Operand) -> Job {
+pub fn with(shape: &Shape, position: usize, operand: Operand) -> Code {
     let mut operands: Vec<Operand> = (0..shape.roles.len())
         .map(|i| usual(shape.roles[i], i))
         .collect();
     operands[position] = operand;
-    stage(ins((shape.build)(&operands)))
+    ins((shape.build)(&operands))
 }
 
 pub fn jobs() -> Vec<Job> {
@@ -104,7 +104,7 @@ pub fn jobs() -> Vec<Job> {
             if role == Destination {
                 tried.push(reg(RSP));
             }
-            jobs.extend(tried.into_iter().map(|o| with(shape, position, o)));
+            jobs.extend(tried.into_iter().map(|o| stage(with(shape, position, o))));
         }
     }
     jobs
