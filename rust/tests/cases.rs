@@ -1,4 +1,4 @@
-//! Cases of document 01 and of request 2026-02 through the wrapper.
+//! Cases of document 01 and of requests 2026-02 and 2026-03 through the wrapper.
 
 use pokchrei::{check_cells, check_code, job, run};
 use pokchrei::{Answer, Cells, Refusal, Setting, State, JOB_ROOM};
@@ -71,6 +71,46 @@ fn p12_rsp_takes_nothing() {
         place: 0,
     };
     assert_eq!((answer, state.regs[7], state.flags), (fault, 0, 5));
+}
+
+/// Mov64 between a register and MReg Rax with this offset, over one 64-bit cell at 0.
+fn at_rax(store: bool, rax: u64, offset: i64) -> (Answer, [u64; 1], u64) {
+    let memory = [&[0x43, 0][..], &offset.to_le_bytes()].concat();
+    let register = [0x41, 1];
+    let code = match store {
+        true => [&[0x01][..], &memory, &register].concat(),
+        false => [&[0x01][..], &register, &memory].concat(),
+    };
+    let mut state = State::default();
+    (state.regs[0], state.regs[1]) = (rax, 5);
+    let mut values = [6];
+    let cells = Cells {
+        addresses: &[0],
+        tags: &[64],
+        values: &mut values,
+    };
+    let answer = run(&code, cells, &mut state, Setting::default());
+    (answer, values, state.regs[1])
+}
+
+#[test]
+fn p11_and_the_ends_of_the_range() {
+    let fault = |number| Answer::Fault { number, place: 0 };
+    // Rax, the offset, and what a source and a destination there are; the cell is at 0.
+    let table = [
+        (u64::MAX, 1, Some((36, 36))),
+        (u64::MAX, 0, Some((31, 32))),
+        (u64::MAX, -7, Some((31, 32))),
+        (8, -8, None),
+        (8, -9, Some((36, 36))),
+        (1, 0, Some((31, 32))),
+    ];
+    for (rax, offset, expected) in table {
+        let read = expected.map_or((Answer::Done, [6], 6), |(n, _)| (fault(n), [6], 5));
+        let written = expected.map_or((Answer::Done, [5], 5), |(_, n)| (fault(n), [6], 5));
+        assert_eq!(at_rax(false, rax, offset), read, "{rax} {offset}");
+        assert_eq!(at_rax(true, rax, offset), written, "{rax} {offset}");
+    }
 }
 
 /// A source, and what Popcnt64, Lzcnt64 and Tzcnt64 make of it.

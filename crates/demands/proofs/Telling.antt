@@ -309,8 +309,11 @@ module _ (env : Env) where
     unfolding run-ocmp choose
     ocmp-faults q c f g s e =
         ⊎-elim
-        (λ w. inl (sym (w .1), subst⁻¹ (λ (x : Config). FirstUnread env x (ocmp-layout c .operands) n) (w .2)
-        (subst⁻¹ (λ m. FirstUnread env s (ocmp-layout c .operands) m) (w .3) (ocmp-unread s c (w .0)))))
+        (λ w. inl (
+          sym (w .1),
+          subst⁻¹ (λ (x : Config). FirstUnread env x (ocmp-layout c .operands) n) (w .2)
+              (subst⁻¹ (λ m. FirstUnread env s (ocmp-layout c .operands) m) (w .3) (ocmp-unread s c (w .0))),
+        ))
         (λ w. inr (go (eval-ocmp env c s) (w .1)))
         (check-faults q s (valid-ocmp env c s) _ _ e)
       where

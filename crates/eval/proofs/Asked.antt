@@ -111,8 +111,12 @@ pub record IsFound (addresses tags bs : List ℕ) (at : ℕ) (f : Sought) : Type
   pub above : 1 < absent
   pub found : Finds addresses tags regs bs at absent f
 
-pub is-found : (addresses tags regs bs : List ℕ) (at absent : ℕ) (f : Sought) → 1 < absent → Finds addresses tags regs bs at absent f → IsFound addresses tags bs at f
-is-found addresses tags regs bs at absent f l h = record { regs = regs; absent = absent; above = l; found = h }
+module _ (addresses tags regs bs : List ℕ) (at : ℕ) (f : Sought) where
+  pub found-source : Finds addresses tags regs bs at 31 f → IsFound addresses tags bs at f
+  found-source h = record { regs = regs; absent = 31; above = omega arith; found = h }
+
+  pub found-destination : Finds addresses tags regs bs at 32 f → IsFound addresses tags bs at f
+  found-destination h = record { regs = regs; absent = 32; above = omega arith; found = h }
 
 module _ (bs : List ℕ) (at : ℕ) (form : Form) (is : form ≡ form-of (operand-at bs at)) where
   pub register-inside : OperandBytes bs at → (r : Reg) → form ≡ Register r → r .number < 16

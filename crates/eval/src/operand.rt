@@ -42,7 +42,14 @@ pub struct Sought {
 
 // The cell of the memory operand at a place, where `absent` is the number of its check if no 64-bit cell is there. It stands apart, so that operands
 // that are no memory are read in place.
-fn cell_at(code: &[u8], at: usize, regs: &[u64; 16], addresses: &[u64], tags: &[u8], absent: u8) -> Sought
+fn cell_at(
+    code: &[u8],
+    at: usize,
+    regs: &[u64; 16],
+    addresses: &[u64],
+    tags: &[u8],
+    absent: u8,
+) -> Sought
     requires { ⌜ OperandBytes (now code) at ⌝ }
     requires { ⌜ form-of (operand-at (now code) at) ≡ Memory ⌝ }
     requires { ⌜ Searchable (now addresses) (now tags) ⌝ }

@@ -35,7 +35,10 @@ fn check_searches() {
     tell(b"searches, the end", searches::tops(none_yet()));
     tell(b"searches, no cells", searches::empties(none_yet()));
     tell(b"cells of operands", searches::operands(none_yet()));
-    tell(b"cells of indexed operands", searches::indexed_operands(none_yet()));
+    tell(
+        b"cells of indexed operands",
+        searches::indexed_operands(none_yet()),
+    );
 }
 
 fn main() {

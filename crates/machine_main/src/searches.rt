@@ -193,16 +193,40 @@ pub fn operands(t: Tally) -> Tally {
 
 // The same by an index: sums that leave the range and come back, and a multiple of 2^64 beside a cell.
 pub fn indexed_operands(t: Tally) -> Tally {
-    let t = operand(t, Maddr::MIndex(Reg::RAX, 8, Reg::RDX, -24), Target::Cell(2));
-    let t = operand(t, Maddr::MIndex(Reg::RDX, -1, Reg::RAX, 997), Target::Cell(0));
+    let t = operand(
+        t,
+        Maddr::MIndex(Reg::RAX, 8, Reg::RDX, -24),
+        Target::Cell(2),
+    );
+    let t = operand(
+        t,
+        Maddr::MIndex(Reg::RDX, -1, Reg::RAX, 997),
+        Target::Cell(0),
+    );
     let t = operand(t, Maddr::MIndex(Reg::RDX, -1, Reg::RAX, 996), Target::Wild);
     let t = operand(t, Maddr::MIndex(Reg::RDX, -1, Reg::RAX, 989), Target::Wild);
-    let t = operand(t, Maddr::MIndex(Reg::RAX, 1, Reg::R15, -1000), Target::Absent);
-    let t = operand(t, Maddr::MIndex(Reg::RAX, 1, Reg::R15, -1007), Target::Cell(4));
+    let t = operand(
+        t,
+        Maddr::MIndex(Reg::RAX, 1, Reg::R15, -1000),
+        Target::Absent,
+    );
+    let t = operand(
+        t,
+        Maddr::MIndex(Reg::RAX, 1, Reg::R15, -1007),
+        Target::Cell(4),
+    );
     let t = operand(t, Maddr::MIndex(Reg::RAX, 1, Reg::R15, -999), Target::Wild);
     let t = operand(t, Maddr::MIndex(Reg::RAX, 1, Reg::R15, 1), Target::Wild);
-    let t = operand(t, Maddr::MIndex(Reg::R15, -1, Reg::R15, 992), Target::Cell(1));
-    let t = operand(t, Maddr::MIndex(Reg::R15, 32767, Reg::R15, 32768), Target::Wild);
+    let t = operand(
+        t,
+        Maddr::MIndex(Reg::R15, -1, Reg::R15, 992),
+        Target::Cell(1),
+    );
+    let t = operand(
+        t,
+        Maddr::MIndex(Reg::R15, 32767, Reg::R15, 32768),
+        Target::Wild,
+    );
     t
 }
 

@@ -164,9 +164,11 @@ module _ (env : Env) where
     unfolding note-ocmp check Source.check Source._>>=_
     ocmp-passes c s fits h e =
         rw (valid-ocmp-is env load-mem64 loads int-to-nat64 ints c s h ∙ e, ocmp-number-is env load-mem64 loads int-to-nat64 ints c s h)
-        (ap (λ b. ((state-of env (with-flags (env .fill) s), b), (Run.ocmp-number env c s, true) ∷ [])) (eval-ocmp-is env load-mem64 loads int-to-nat64 ints c s fits h e))
+        (ap (λ b. ((state-of env (with-flags (env .fill) s), b), (Run.ocmp-number env c s, true) ∷ []))
+        (eval-ocmp-is env load-mem64 loads int-to-nat64 ints c s fits h e))
 
-    ocmp-fails : (c : Ocmp) (s : Config) → Held env s → Run.valid-ocmp env c s ≡ false → (noted s c .0 .0 .ok ≡ false) × (noted s c .1 ≡ (Run.ocmp-number env c s, false) ∷ [])
+    ocmp-fails : (c : Ocmp) (s : Config) → Held env s → Run.valid-ocmp env c s ≡ false
+        → (noted s c .0 .0 .ok ≡ false) × (noted s c .1 ≡ (Run.ocmp-number env c s, false) ∷ [])
     unfolding note-ocmp check Source.check Source._>>=_
     ocmp-fails c s h e =
         rw (valid-ocmp-is env load-mem64 loads int-to-nat64 ints c s h ∙ e, ocmp-number-is env load-mem64 loads int-to-nat64 ints c s h) (refl, refl)

@@ -152,7 +152,8 @@ module _ (env : Env) where
   -- ---- writes
   -- a destination is written, and flags are kept
   preserve-gate : (dst : Operand) (v w : ℕ) (s t : Config) → Held env s → Run.update-operand env dst w s ≡ t
-      → (Run.valid-dst-operand env dst s ≡ true → v ≡ w) → Gate (update-operand-preserve-flags dst v) s t (Run.valid-dst-operand env dst s) (wild-or 32 dst (s .regs))
+      → (Run.valid-dst-operand env dst s ≡ true → v ≡ w)
+      → Gate (update-operand-preserve-flags dst v) s t (Run.valid-dst-operand env dst s) (wild-or 32 dst (s .regs))
   unfolding update-operand-preserve-flags
   preserve-gate dst v w s t h e same =
       put-gate (unwritten dst) (Source.valid-dst-operand dst) (Source.update-operand-preserve-flags′ dst v) s t _ h

@@ -138,7 +138,8 @@ module _ (env : Env) where
   unfolding run-ocmp check choose way stores-of with-stores
   traced-way q c f g l m s F G = go (valid-ocmp env c s) (eval-ocmp env c s)
     where
-      go : (a b : Bool) → Traced (s .values) (way a b l m (with-flags (env .fill) s)) (check a (ocmp-number env c s) q s (choose b f g (with-flags (env .fill) s)))
+      go : (a b : Bool)
+          → Traced (s .values) (way a b l m (with-flags (env .fill) s)) (check a (ocmp-number env c s) q s (choose b f g (with-flags (env .fill) s)))
       go true true = F (with-flags (env .fill) s)
       go true false = G (with-flags (env .fill) s)
       go false b = record { judged = tt; made = refl }

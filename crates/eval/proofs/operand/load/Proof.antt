@@ -1,7 +1,6 @@
 -- What is decoded says which operand it is: its word is the constant, the register's or the cell's. Assumes nothing.
-use native.Mathlib.Omega.{arith}
 use borrow.Author.Needs.{needs}
-use Rattle.eval.proofs.Asked.{register-inside, is-memory, is-found, found-inside, found-fits, loads-constant, loads-register, loads-cell, loads-none}
+use Rattle.eval.proofs.Asked.{register-inside, is-memory, found-source, found-inside, found-fits, loads-constant, loads-register, loads-cell, loads-none}
 use Rattle.eval.proofs.operand.load.Statement.{statement}
 use Rattle.eval.proofs.operand.load.Tie as tie
 
@@ -17,8 +16,8 @@ load-spec =
     (λ c. search needs) (λ c. search needs) (λ c. search register-inside)
     (λ c. search needs) (λ c κs. search is-memory)
     (λ c. search loads-none)
-    (λ c. let cell = c .before .before .cell-at in let found = is-found _ _ _ _ _ 31 (cell .result) (omega arith) (cell .ensures) in search found-fits)
-    (λ c. let cell = c .before .before .before .cell-at in let found = is-found _ _ _ _ _ 31 (cell .result) (omega arith) (cell .ensures) in search found-inside)
+    (λ c. let cell = c .before .before .cell-at in let found = found-source _ _ _ _ _ (cell .result) (cell .ensures) in search found-fits)
+    (λ c. let cell = c .before .before .before .cell-at in let found = found-source _ _ _ _ _ (cell .result) (cell .ensures) in search found-inside)
     (λ c. search loads-constant)
     (λ c. search loads-register)
     (λ c. search loads-cell))

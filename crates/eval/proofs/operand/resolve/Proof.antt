@@ -1,8 +1,7 @@
 -- What is decoded says which operand it is: a constant and Rsp are no destination, and memory is one where its cell is found. Assumes
 -- nothing.
-use native.Mathlib.Omega.{arith}
 use borrow.Author.Needs.{needs}
-use Rattle.eval.proofs.Asked.{register-inside, is-memory, is-found, found-inside, found-fits, no-constant, no-rsp, resolves-register, resolves-cell, no-cell}
+use Rattle.eval.proofs.Asked.{register-inside, is-memory, found-destination, found-inside, found-fits, no-constant, no-rsp, resolves-register, resolves-cell, no-cell}
 use Rattle.eval.proofs.operand.resolve.Statement.{statement}
 use Rattle.eval.proofs.operand.resolve.Tie as tie
 
@@ -18,8 +17,8 @@ resolve-spec =
     (λ c. search needs) (λ c. search needs) (λ c. search register-inside)
     (λ c. search needs) (λ c κs. search is-memory)
     (λ c κs. search needs) (λ c. search no-cell)
-    (λ c. let cell = c .before .before .cell-at in let found = is-found _ _ _ _ _ 32 (cell .result) (omega arith) (cell .ensures) in search found-fits)
-    (λ c. let cell = c .before .before .before .cell-at in let found = is-found _ _ _ _ _ 32 (cell .result) (omega arith) (cell .ensures) in search found-inside)
+    (λ c. let cell = c .before .before .cell-at in let found = found-destination _ _ _ _ _ (cell .result) (cell .ensures) in search found-fits)
+    (λ c. let cell = c .before .before .before .cell-at in let found = found-destination _ _ _ _ _ (cell .result) (cell .ensures) in search found-inside)
     (λ c. search no-constant)
     (λ c. search resolves-register)
     (λ c. search resolves-cell))
