@@ -6,7 +6,7 @@ use mathlib.Core.Bool.{Bool, true, false}
 use mathlib.Core.Option.{Option, none, some}
 use native.Mathlib.Nat.{add-zero, mul-le-mul}
 use native.Mathlib.Omega.{arith}
-use borrow.Author.Tests.{ltb-true, ltb-false, lt-ltb, le-ltb}
+use borrow.Author.Tests.{ltb-true, ltb-false, lt-ltb, le-ltb, lt-leb, le-leb}
 use lib.Dec.{ltb}
 use lib.IntN.{ℤ, pos, negsuc, subℕ, negℤ, natAbs, _+ℤ_}
 use lib.Signed.{ltZ, mag}
@@ -19,7 +19,7 @@ use Rattle.words.specs.Sums.{Subtracted}
 use Rattle.words.proofs.BitLaws.{bit-lt}
 use Rattle.words.proofs.SumLaws.{sub-mod-lt, subtracted-number}
 use Rattle.machine.specs.Registers.{reg-at}
-use Rattle.machine.specs.Operands.{in-range, exact, eval-maddr}
+use Rattle.machine.specs.Operands.{in-range, wild, exact, eval-maddr}
 use Rattle.machine.specs.declared.reg.Reg.{Reg}
 use Rattle.machine.specs.declared.Maddr.{Maddr}
 use Rattle.machine.specs.declared.Maddr.the-variants.{MConst, MReg, MIndex}
@@ -28,16 +28,16 @@ use Rattle.machine.specs.declared.wide.Wide.{Wide}
 
 -- ---- whether a difference is a word
 inside : (n m w : ℕ) → n ≡ m + w → w < 2 ^ 64 → in-range (subℕ n m) ≡ some w
-unfolding in-range
-inside n m w e h = let d : n - m ≡ w = omega arith in rw (le-ltb n m (omega arith), d, lt-ltb w (2 ^ 64) h)
+unfolding in-range wild
+inside n m w e h = let d : n - m ≡ w = omega arith in rw (le-ltb n m (omega arith), d, lt-leb (2 ^ 64) w h)
 
 under : (n m : ℕ) → n < m → in-range (subℕ n m) ≡ none
-unfolding in-range
+unfolding in-range wild
 under n m h = rw (lt-ltb n m h)
 
 above : (n m : ℕ) → m + 2 ^ 64 ≤ n → in-range (subℕ n m) ≡ none
-unfolding in-range
-above n m h = rw (le-ltb n m (omega arith), le-ltb (n - m) (2 ^ 64) (omega arith))
+unfolding in-range wild
+above n m h = rw (le-ltb n m (omega arith), le-leb (2 ^ 64) (n - m) (omega arith))
 
 -- ---- sums as differences
 sub-eq : (a b c d : ℕ) → a + d ≡ c + b → subℕ a b ≡ subℕ c d
@@ -186,8 +186,8 @@ gathered word z u d m n e p q x = e ∙ ap₂ (λ (a b : ℕ). in-range (subℕ 
 -- ---- the three memory operands
 module _ (m : Maddr) (regs : List ℕ) (word : Option ℕ) where
   pub at-const : (n : ℕ) → m ≡ MConst n → n < 2 ^ 64 → some n ≡ in-range (eval-maddr m regs)
-  unfolding eval-maddr in-range
-  at-const n e h = rw (e, lt-ltb n (2 ^ 64) h)
+  unfolding eval-maddr in-range wild
+  at-const n e h = rw (e, lt-leb (2 ^ 64) n h)
 
   pub at-register : (r : Reg) (o : ℤ) → m ≡ MReg r o → SFits w64 o
       → word ≡ in-range (pos (reg-at regs r) +ℤ toZ w64 (ofZ w64 o)) → word ≡ in-range (eval-maddr m regs)

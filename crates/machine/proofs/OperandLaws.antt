@@ -6,8 +6,8 @@ use mathlib.Core.Bool.{Bool, true, false, not, cond}
 use mathlib.Core.List.{List}
 use mathlib.Core.Option.{Option, none, some}
 use native.Mathlib.Omega.{arith}
-use borrow.Author.Tests.{lt-ltb, ltb-true, ltb-false, le-leb, lt-leb}
-use lib.Dec.{eqb, ltb}
+use borrow.Author.Tests.{leb-true}
+use lib.Dec.{eqb}
 use lib.IntN.{ℤ, pos, negsuc}
 use lib.ListN.{getD}
 use Rattle.machine.specs.Registers.{Rsp}
@@ -36,48 +36,36 @@ unfolding valid-dst
 memory-dst m = refl
 
 -- ---- an exact address and its word
-pub in-range-some : (z : ℤ) (w : ℕ) → in-range z ≡ some w → z ≡ pos w
+pub in-range-some : (z : ℤ) (w : ℕ) → in-range z ≡ some w → (z ≡ pos w) × (wild z ≡ false)
 unfolding in-range
-in-range-some (pos n) w e = go (ltb n (2 ^ 64)) e
+in-range-some (pos n) w e = go (wild (pos n)) refl e
   where
-    go : (b : Bool) → cond b (some n) none ≡ some w → pos n ≡ pos w
-    go true h = cc
-    go false h = absurd (let x : _≡_ {A = ℕ} 0 1 = cc in omega arith)
+    go : (b : Bool) → wild (pos n) ≡ b → cond b none (some n) ≡ some w → (pos n ≡ pos w) × (wild (pos n) ≡ false)
+    go true h f = absurd (let x : _≡_ {A = ℕ} 0 1 = cc in omega arith)
+    go false h f = (cc, h)
 in-range-some (negsuc n) w e = absurd (let x : _≡_ {A = ℕ} 0 1 = cc in omega arith)
 
-pub in-range-none : (z : ℤ) (a : ℕ) → in-range z ≡ none → a < 2 ^ 64 → pos a ≡ z → ⊥
-unfolding in-range
-in-range-none z a e l p =
-    let f : in-range (pos a) ≡ none = ap in-range p ∙ e in
-    let g : in-range (pos a) ≡ some a = rw (lt-ltb a (2 ^ 64) l) in
-    let x : _≡_ {A = ℕ} 0 1 = cc in
-    omega arith
-
-pub wild-inside : (z : ℤ) (w : ℕ) → in-range z ≡ some w → wild z ≡ false
+pub in-range-none : (z : ℤ) → in-range z ≡ none → wild z ≡ true
 unfolding in-range wild
-wild-inside (pos n) w e = go (ltb n (2 ^ 64)) refl e
+in-range-none (pos n) e = go (wild (pos n)) refl e
   where
-    go : (b : Bool) → ltb n (2 ^ 64) ≡ b → cond b (some n) none ≡ some w → wild (pos n) ≡ false
-    go true h _ = lt-leb (2 ^ 64) n (ltb-true n (2 ^ 64) h)
-    go false h g = absurd (let x : _≡_ {A = ℕ} 0 1 = cc in omega arith)
-wild-inside (negsuc n) w e = absurd (let x : _≡_ {A = ℕ} 0 1 = cc in omega arith)
+    go : (b : Bool) → wild (pos n) ≡ b → cond b none (some n) ≡ none → wild (pos n) ≡ true
+    go true h f = h
+    go false h f = absurd (let x : _≡_ {A = ℕ} 0 1 = cc in omega arith)
+in-range-none (negsuc n) e = refl
 
-pub wild-outside : (z : ℤ) → in-range z ≡ none → wild z ≡ true
-unfolding in-range wild
-wild-outside (pos n) e = go (ltb n (2 ^ 64)) refl e
-  where
-    go : (b : Bool) → ltb n (2 ^ 64) ≡ b → cond b (some n) none ≡ none → wild (pos n) ≡ true
-    go true h g = absurd (let x : _≡_ {A = ℕ} 0 1 = cc in omega arith)
-    go false h _ = le-leb (2 ^ 64) n (ltb-false n (2 ^ 64) h)
-wild-outside (negsuc n) e = refl
+-- no word is wild
+pub word-tame : (z : ℤ) (a : ℕ) → wild z ≡ true → a < 2 ^ 64 → pos a ≡ z → ⊥
+unfolding wild
+word-tame z a e l p = let f : wild (pos a) ≡ true = ap wild p ∙ e in omega (arith, l, leb-true (2 ^ 64) a f)
 
 -- ---- the cell at an exact address
 module _ (xs ts : List ℕ) (z : ℤ) where
   pub find-inside : (w : ℕ) → in-range z ≡ some w → find-cell xs ts z ≡ find-cell xs ts (pos w)
-  find-inside w e = ap (find-cell xs ts) (in-range-some z w e)
+  find-inside w e = ap (find-cell xs ts) (in-range-some z w e .0)
 
-  pub find-outside : in-range z ≡ none → ((k : ℕ) → getD xs k 0 < 2 ^ 64) → find-cell xs ts z ≡ none
-  find-outside e small = find-none xs ts z (λ k h p. in-range-none z (getD xs k 0) e (small k) p)
+  pub find-outside : wild z ≡ true → ((k : ℕ) → getD xs k 0 < 2 ^ 64) → find-cell xs ts z ≡ none
+  find-outside e small = find-none xs ts z (λ k h p. word-tame z (getD xs k 0) e (small k) p)
 
   -- what a memory operand leads to: what was found at its word, and nothing where it has none
   abbrev LeadsTo : Target → Type 0
@@ -88,10 +76,10 @@ module _ (xs ts : List ℕ) (z : ℤ) where
     at-word h = sym h ∙ found ∙ sym (find-inside w e)
 
     pub leads-to-cell : (i : ℕ) → f ≡ At i → LeadsTo (Cell i)
-    leads-to-cell i h = (at-word (ap index-of h), sym (wild-inside z w e))
+    leads-to-cell i h = (at-word (ap index-of h), sym (in-range-some z w e .1))
 
     pub leads-to-none : f ≡ Nothing → LeadsTo Absent
-    leads-to-none h = (at-word (ap index-of h), sym (wild-inside z w e))
+    leads-to-none h = (at-word (ap index-of h), sym (in-range-some z w e .1))
 
   pub leads-outside : in-range z ≡ none → ((k : ℕ) → getD xs k 0 < 2 ^ 64) → LeadsTo Wild
-  leads-outside e small = (sym (find-outside e small), sym (wild-outside z e))
+  leads-outside e small = let w = in-range-none z e in (sym (find-outside w small), sym w)

@@ -3,7 +3,7 @@ use Prim.Native.Nat.{ℕ, _^_, _<_}
 use mathlib.Core.Bool.{Bool, true, false, not, cond}
 use mathlib.Core.List.{List, [], _∷_}
 use mathlib.Core.Option.{Option, none, some}
-use lib.Dec.{eqb, ltb, leb}
+use lib.Dec.{eqb, leb}
 use lib.IntN.{ℤ, pos, negsuc, _+ℤ_, _*ℤ_}
 use Rattle.machine.specs.Registers.{reg-at, Rsp}
 use Rattle.machine.specs.declared.Maddr.{Maddr}
@@ -29,9 +29,14 @@ eval-maddr (MConst n) regs = pos n
 eval-maddr (MReg r offset) regs = pos (reg-at regs r) +ℤ offset
 eval-maddr (MIndex base scale index offset) regs = exact (reg-at regs base) scale (reg-at regs index) offset
 
--- the word of an exact address, where it is neither below 0 nor above 2^64 - 1
+-- whether an exact address is below 0 or above 2^64 - 1
+unfoldable pub wild : ℤ → Bool
+wild (pos n) = leb (2 ^ 64) n
+wild (negsuc n) = true
+
+-- the word of an exact address that is not wild
 unfoldable pub in-range : ℤ → Option ℕ
-in-range (pos n) = cond (ltb n (2 ^ 64)) (some n) none
+in-range (pos n) = cond (wild (pos n)) none (some n)
 in-range (negsuc n) = none
 
 -- what an Address says
@@ -39,18 +44,13 @@ abbrev pub word-of : Address → Option ℕ
 word-of (Inside w) = some w
 word-of Outside = none
 
--- whether an exact address is below 0 or above 2^64 - 1
-unfoldable pub wild : ℤ → Bool
-wild (pos n) = leb (2 ^ 64) n
-wild (negsuc n) = true
-
--- whether an operand is memory at such an address
+-- whether an operand is memory at a wild address
 unfoldable pub wild-operand : Operand → List ℕ → Bool
 wild-operand (OConst n) regs = false
 wild-operand (OReg r) regs = false
 wild-operand (OMem m) regs = wild (eval-maddr m regs)
 
--- 36: a memory operand's exact address is below 0 or above 2^64 - 1. It stands in place of the number that the check has for any other operand
+-- the number of an operand's check: 36 where it is memory at a wild address, and n otherwise
 abbrev pub wild-or : ℕ → Operand → List ℕ → ℕ
 wild-or n o regs = cond (wild-operand o regs) 36 n
 
