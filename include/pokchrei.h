@@ -22,22 +22,23 @@ extern "C" {
 /* How a run ended. */
 enum pokchrei_kind {
     POKCHREI_DONE = 0,   /* after the last code */
-    POKCHREI_FAULT = 1,  /* a check failed: its number (31 to 36), and the place of the instruction or comparison */
+    POKCHREI_FAULT = 1,  /* a check failed: its number (a pokchrei_fault), and the place of the instruction or comparison */
     POKCHREI_SPENT = 2,  /* a While was met without fuel: its place */
     POKCHREI_REFUSED = 3 /* code (1 to 6) or cells (11 to 15) were not accepted: number, and place or index */
 };
 
 /*
- * The number of a Fault: the first check that failed. Sources are judged from left to right, then what is read or
- * given (33 to 35), then destinations.
+ * The number of a Fault: that of the first check that failed. Sources are judged from left to right, then amounts and
+ * counts (33 to 35), then destinations; Mulx64's high one with the registers as the low half would leave them.
  */
-enum pokchrei_check {
+enum pokchrei_fault {
     POKCHREI_UNREADABLE = 31,     /* no 64-bit cell at the address of a source, a shift amount or a compared operand */
     POKCHREI_UNWRITABLE = 32,     /* a destination that is a constant or Rsp, or no 64-bit cell at its address */
     POKCHREI_SHIFT_TOO_FAR = 33,  /* Shr64 or Shl64 by 64 or more */
     POKCHREI_LANES_TOO_FAR = 34,  /* Pslld or Psrld by 32 or more */
     POKCHREI_NOT_BY_4 = 35,       /* VPSLLDQ by another count than 4 */
-    POKCHREI_WILD_ADDRESS = 36    /* in place of 31 or 32: the exact address is below 0 or above 2^64 - 1 */
+    POKCHREI_WILD_ADDRESS = 36    /* in place of 31 or 32: base + scale * index + offset, not taken modulo 2^64, is below
+                                     0 or above 2^64 - 1 */
 };
 
 /* The registers in state order, which is not the processor's. */

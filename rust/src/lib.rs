@@ -25,14 +25,16 @@ pub struct Refusal {
 pub enum Answer {
     /// After the last code.
     Done,
-    /// A check failed: the number of the first that did, and the place of its instruction or comparison.
+    /// A check failed: the number of the first that did, and the place of its instruction or comparison. Sources are
+    /// judged from left to right, then 33 to 35, then destinations; Mulx64's high one with the registers as the low
+    /// half would leave them.
     ///
     /// - 31: a source, a shift amount or an operand of a comparison has no 64-bit cell at its address
     /// - 32: a destination is a constant or Rsp, or has no 64-bit cell at its address
     /// - 33: Shr64 or Shl64 by 64 or more
     /// - 34: Pslld or Psrld by 32 or more
     /// - 35: VPSLLDQ by another count than 4
-    /// - 36: in place of 31 or 32, the exact address is below 0 or above 2^64 - 1
+    /// - 36: in place of 31 or 32, base + scale * index + offset, not taken modulo 2^64, is below 0 or above 2^64 - 1
     Fault { number: u8, place: usize },
     /// A While at this place was met without fuel.
     Spent { place: usize },

@@ -1,16 +1,15 @@
 -- A check that fails has one reason, and a reason makes its check fail: said once of an operand, and then of sources, rules and destinations in a row, of
 -- a comparison, and of a whole run by its tree. Assumes nothing.
-use Prim.Native.Nat.{ℕ, zero, suc, _+_, _/_, _^_, _≤_}
+use Prim.Native.Nat.{ℕ, zero, suc, _^_}
 use mathlib.Core.Path.{_≡_, refl, sym, _∙_, ap, subst, subst⁻¹}
 use mathlib.Core.Bool.{Bool, true, false, not, _&&_, cond, false≢true}
-use mathlib.Core.List.{List, [], _∷_}
+use mathlib.Core.List.{List, [], _∷_, _++_, map, reverse}
 use mathlib.Core.Logic.{_⊎_, inl, inr, ⊎-elim}
 use mathlib.Core.Option.{Option, none, some}
 use native.Mathlib.Omega.{arith}
 use borrow.Author.Tests.{leb-true, le-leb, eqb-true}
 use lib.Dec.{eqb}
 use lib.IntN.{ℤ, pos, negsuc}
-use lib.ListN.{getD}
 use Rattle.machine.specs.Registers.{Rsp, reg}
 use Rattle.machine.specs.Operands.{eval-maddr, wild, wild-operand, wild-or, unread-number, valid-dst}
 use Rattle.machine.specs.Cells.{Verdict, accepted, check-cells, find-cell, is-cell}
@@ -18,18 +17,19 @@ use Rattle.machine.specs.Cells.{refused as cells-refused}
 use Rattle.machine.specs.declared.Maddr.{Maddr}
 use Rattle.machine.specs.declared.Operand.{Operand}
 use Rattle.machine.specs.declared.Operand.the-variants.{OConst, OReg, OMem}
-use Rattle.machine.proofs.FindLaws.{find-hit}
-use Rattle.machine.proofs.Accepting.{cells-within}
+use Rattle.machine.proofs.OperandLaws.{find-wild}
 use Rattle.code.specs.declared.tree.Instruction.{Instruction}
 use Rattle.code.specs.declared.tree.Ocmp.{Ocmp}
 use Rattle.code.specs.declared.tree.Ocmp.the-variants.{OEq, ONe, OLe, OGe, OLt, OGt}
-use Rattle.code.specs.Layout.{ocmp-layout}
+use Rattle.code.specs.Layout.{layout, ocmp-layout}
+use Rattle.code.proofs.Layouts.{every-ins}
 use Rattle.code.specs.Tree.{Code, Ins, Block, IfElse, While, Codes, ⟨⟩, _∷ᶜ_}
 use Rattle.code.specs.Reader.{Read, got, trouble, parse}
 use Rattle.eval.specs.Config.{Env, Config, with-flags, Outcome, done, fault, spent, refused, End, ends, continue, and-then, check, choose}
 use Rattle.eval.specs.Instructions.{cell-of, valid-operand, valid-dst-operand, update-operand, readable, ruled, written, act, run-ins, valid-ocmp, ocmp-number, eval-ocmp}
 use Rattle.eval.specs.Running.{run-ocmp, rounds, run-code, run-codes, run-checked, run-read, run-of}
-use Rattle.demands.specs.Telling.{OutOfRange, Wild, Absent, Unread, wild as is-wild, absent, Unwritten, wild-dst, absent-dst, constant, rsp, AllRead, FirstUnread, AllHold, FirstBroken, FirstUnwritten, Fails, FailsAt, FailsIn, Tells, Telling}
+use Rattle.source.proofs.OperandLaws.{both}
+use Rattle.demands.specs.Telling.{OutOfRange, Wild, Absent, Unread, wild-src, absent-src, Unwritten, wild-dst, absent-dst, constant, rsp, AllRead, FirstUnread, AllHold, FirstBroken, FirstUnwritten, Fails, FailsAt, FailsIn, rule-numbers, AcceptedCells, Telling}
 
 -- ---- exact addresses
 wild-is : (z : ℤ) → wild z ≡ true → OutOfRange z
@@ -84,7 +84,7 @@ module _ (env : Env) where
         go : (b : Bool) → wild (eval-maddr m (s .regs)) ≡ b → n ≡ cond b 36 k → Misses (OMem m) k n
         go true w is = inl (is, record { memory = m; is-memory = refl; out = wild-is _ w })
         go false w is =
-            inr (is, record { memory = m; is-memory = refl; in-range = λ out. not-both (is-out _ out) w; no-cell = e })
+            inr (is, record { memory = m; is-memory = refl; not-out = λ out. not-both (is-out _ out) w; no-cell = e })
 
     -- an operand that cannot be read
     unreadable : (o : Operand) (k n : ℕ) → valid-operand env o s ≡ false → n ≡ wild-or k o (s .regs) → Misses o k n
@@ -99,7 +99,7 @@ module _ (env : Env) where
 
     unread-why : (o : Operand) (n : ℕ) → valid-operand env o s ≡ false → n ≡ wild-or 31 o (s .regs) → Unread env o s n
     unread-why o n e is =
-        ⊎-elim (λ (w : (n ≡ 36) × Wild o s). is-wild (w .0) (w .1)) (λ w. absent (w .0) (w .1)) (unreadable o 31 n e is)
+        ⊎-elim (λ (w : (n ≡ 36) × Wild o s). wild-src (w .0) (w .1)) (λ w. absent-src (w .0) (w .1)) (unreadable o 31 n e is)
 
     unwritten-why : (o : Operand) (n : ℕ) → valid-dst-operand env o s ≡ false → n ≡ wild-or 32 o (s .regs) → Unwritten env o s n
     unfolding valid-dst-operand valid-operand valid-dst wild-operand
@@ -116,20 +116,9 @@ module _ (env : Env) where
         go false h f = ⊎-elim (λ (w : (n ≡ 36) × Wild (OMem m) s). wild-dst (w .0) (w .1)) (λ w. absent-dst (w .0) (w .1)) (unreadable (OMem m) 32 n h is)
 
     -- the other way, over accepted cells
-    module _ (values : List ℕ) (cells : check-cells (env .addresses) (env .tags) values ≡ accepted) where
+    module _ (cells : AcceptedCells env) where
       no-cell-out : (z : ℤ) → OutOfRange z → find-cell (env .addresses) (env .tags) z ≡ none
-      no-cell-out z out = go (find-cell (env .addresses) (env .tags) z) refl
-        where
-          within : (z : ℤ) (a : ℕ) → pos a ≡ z → a + 8 ≤ 2 ^ 64 → OutOfRange z → ⊥
-          within z a e h out = omega (arith, h, subst⁻¹ OutOfRange e out)
-
-          go : (k : Option ℕ) → find-cell (env .addresses) (env .tags) z ≡ k → k ≡ none
-          go none e = refl
-          go (some i) e =
-              let hit = find-hit (env .addresses) (env .tags) z i e in
-              let end = cells-within (env .addresses) (env .tags) values cells i (hit .inside) in
-              absurd (within z (getD (env .addresses) i 0) (hit .address)
-              (subst (λ t. getD (env .addresses) i 0 + t / 8 ≤ 2 ^ 64) (hit .tag) end) out)
+      no-cell-out z out = find-wild (env .addresses) (env .tags) z (cells .0) (cells .1) (is-out z out)
 
       wild-fails : (o : Operand) → Wild o s → (valid-operand env o s ≡ false) × (wild-operand o (s .regs) ≡ true)
       unfolding valid-operand wild-operand cell-of
@@ -140,12 +129,12 @@ module _ (env : Env) where
       absent-fails o w = rw (w .is-memory, w .no-cell) (refl, go (wild (eval-maddr (w .memory) (s .regs))) refl)
         where
           go : (b : Bool) → wild (eval-maddr (w .memory) (s .regs)) ≡ b → b ≡ false
-          go true e = absurd (w .in-range (wild-is _ e))
+          go true e = absurd (w .not-out (wild-is _ e))
           go false e = refl
 
       unread-fails : (o : Operand) (n : ℕ) → Unread env o s n → (valid-operand env o s ≡ false) × (wild-or 31 o (s .regs) ≡ n)
-      unread-fails o n (is-wild e w) = let f = wild-fails o w in (f .0, rw (f .1) (sym e))
-      unread-fails o n (absent e w) = let f = absent-fails o w in (f .0, rw (f .1) (sym e))
+      unread-fails o n (wild-src e w) = let f = wild-fails o w in (f .0, rw (f .1) (sym e))
+      unread-fails o n (absent-src e w) = let f = absent-fails o w in (f .0, rw (f .1) (sym e))
 
       unwritten-fails : (o : Operand) (n : ℕ) → Unwritten env o s n → (valid-dst-operand env o s ≡ false) × (wild-or 32 o (s .regs) ≡ n)
       unfolding valid-dst-operand valid-operand valid-dst wild-operand
@@ -196,11 +185,11 @@ module _ (env : Env) where
           (ruled-faults (a .rules) _ (w .1)))
           (readable-faults (a .sources) _ e)
 
-    module _ (values : List ℕ) (cells : check-cells (env .addresses) (env .tags) values ≡ accepted) (n : ℕ) where
+    module _ (cells : AcceptedCells env) (n : ℕ) where
       readable-fails : (os : List Operand) (k : End) → FirstUnread env s os n → readable env p os s k ≡ ends (fault n p) s
       unfolding check
       readable-fails [] k h = absurd h
-      readable-fails (o ∷ os) k (inl h) = let w = unread-fails s values cells o n h in rw (w .0, w .1)
+      readable-fails (o ∷ os) k (inl h) = let w = unread-fails s cells o n h in rw (w .0, w .1)
       readable-fails (o ∷ os) k (inr h) = rw (h .0) (readable-fails os k (h .1))
 
       readable-passes : (os : List Operand) (k : End) → AllRead env s os → readable env p os s k ≡ k
@@ -222,7 +211,7 @@ module _ (env : Env) where
       written-fails : (ws : List (Operand × ℕ)) (k : Config → End) (u : Config) → FirstUnwritten env u ws n → written env p ws s k u ≡ ends (fault n p) s
       unfolding check
       written-fails [] k u h = absurd h
-      written-fails (w ∷ ws) k u (inl h) = let x = unwritten-fails u values cells (w .0) n h in rw (x .0, x .1)
+      written-fails (w ∷ ws) k u (inl h) = let x = unwritten-fails u cells (w .0) n h in rw (x .0, x .1)
       written-fails (w ∷ ws) k u (inr h) = rw (h .0) (written-fails ws k (update-operand env (w .0) (w .1) u) (h .1))
 
       pub ins-fails : (i : Instruction) → Fails env i s n → run-ins env p i s ≡ ends (fault n p) s
@@ -270,12 +259,12 @@ module _ (env : Env) where
         let w = pair c in
         rw (w .operands) (two-unread (w .one) (w .other) (sym (w .valid) ∙ e))
 
-    module _ (values : List ℕ) (cells : check-cells (env .addresses) (env .tags) values ≡ accepted) where
+    module _ (cells : AcceptedCells env) where
       two-fail : (a b : Operand) (n : ℕ) → FirstUnread env s (a ∷ b ∷ []) n
           → (valid-operand env a s && valid-operand env b s ≡ false) × (number-of (a ∷ b ∷ []) ≡ n)
       unfolding unread-number
-      two-fail a b n (inl h) = let w = unread-fails s values cells a n h in rw (w .0) (refl, w .1)
-      two-fail a b n (inr (e, inl h)) = let w = unread-fails s values cells b n h in rw (e, w .0) (refl, w .1)
+      two-fail a b n (inl h) = let w = unread-fails s cells a n h in rw (w .0) (refl, w .1)
+      two-fail a b n (inr (e, inl h)) = let w = unread-fails s cells b n h in rw (e, w .0) (refl, w .1)
       two-fail a b n (inr (e, inr h)) = absurd (h .1)
 
       pub ocmp-fails : (c : Ocmp) (q n : ℕ) (f g : Config → End) → FirstUnread env s (ocmp-layout c .operands) n
@@ -285,6 +274,16 @@ module _ (env : Env) where
           let w = pair c in
           let x = two-fail (w .one) (w .other) n (subst (λ os. FirstUnread env s os n) (w .operands) h) in
           rw (w .valid, x .0, w .operands, x .1)
+
+    pub ocmp-either : (c : Ocmp) → AllRead env s (ocmp-layout c .operands) ⊎ ((n : ℕ) × FirstUnread env s (ocmp-layout c .operands) n)
+    ocmp-either c = go (valid-ocmp env c s) refl
+      where
+        all-read : (a b : Operand) → valid-operand env a s && valid-operand env b s ≡ true → AllRead env s (a ∷ b ∷ [])
+        all-read a b e = let w = both _ _ e in (w .0, (w .1, tt))
+
+        go : (v : Bool) → valid-ocmp env c s ≡ v → AllRead env s (ocmp-layout c .operands) ⊎ ((n : ℕ) × FirstUnread env s (ocmp-layout c .operands) n)
+        go true e = let w = pair c in inl (rw (w .operands) (all-read (w .one) (w .other) (sym (w .valid) ∙ e)))
+        go false e = inr (ocmp-number env c s, ocmp-unread c e)
 
     pub ocmp-passes : (c : Ocmp) (q : ℕ) (f g : Config → End) → AllRead env s (ocmp-layout c .operands)
         → run-ocmp env q c f g s ≡ choose (eval-ocmp env c s) f g (with-flags (env .fill) s)
@@ -377,13 +376,26 @@ module _ (env : Env) where
         read (got c next) is e = (c, next, is, checked (check-cells (env .addresses) (env .tags) (s .values)) c e)
         read (trouble m q) is e = absurd (is-fault e)
 
+-- what each instruction judges and by which rules, of the table of acts
+judged-all : (env : Env) (s : Config) (i : Instruction) → layout i .operands ≡ reverse (map (λ w. w .0) (act env i s .words)) ++ act env i s .sources
+unfolding act
+judged-all env s i =
+    every-ins (λ i. layout i .operands) (λ i. reverse (map (λ w. w .0) (act env i s .words)) ++ act env i s .sources) (λ bytes os. refl) i
+
+rules-all : (env : Env) (s : Config) (i : Instruction) → map (λ c. c .1) (act env i s .rules) ≡ rule-numbers (layout i .kind)
+unfolding act
+rules-all env s i = every-ins (λ i. map (λ c. c .1) (act env i s .rules)) (λ i. rule-numbers (layout i .kind)) (λ bytes os. refl) i
+
 pub telling : Telling
 unfolding cell-of
-telling env values cells = record {
-  faults = λ i p q n s t. ins-faults env p s i;
-  fails = λ i p n s. ins-fails env p s values cells n i;
-  unread = λ c q n f g s. ocmp-fails env s values cells c q n f g;
-  compares = λ c q f g s. ocmp-passes env s c q f g;
-  told = λ code fuel p n s t. run-faults env n p t code fuel s;
-  no-cell = λ m s. no-cell-out env s values cells (eval-maddr m (s .regs));
+telling = record {
+  judged = λ env i s. judged-all env s i;
+  numbers = λ env i s. rules-all env s i;
+  faults = λ env i p q n s t. ins-faults env p s i;
+  fails = λ env cells i p n s. ins-fails env p s cells n i;
+  either = λ env c s. ocmp-either env s c;
+  compare-fails = λ env cells c q n f g s. ocmp-fails env s cells c q n f g;
+  compares = λ env c q f g s. ocmp-passes env s c q f g;
+  told = λ code env fuel p n s t. run-faults env n p t code fuel s;
+  out-no-cell = λ env cells m s. no-cell-out env s cells (eval-maddr m (s .regs));
 }

@@ -1,10 +1,10 @@
 -- The claims of request 2026-03, in one record: `Telling`. From the number of a Fault, the code at its place and the state that it hands back, the reason
--- follows; and from the reason the number. Sources are judged left to right, then amounts and immediates, then destinations. That the source fails
--- its first check there with this number is the second demand's.
+-- follows; and from the reason the number. Sources are judged from left to right, then amounts and immediates, then destinations. That the source
+-- fails its first check there with this number is the second demand's.
 use Prim.Native.Nat.{ℕ, _^_, _≤_}
 use mathlib.Core.Path.{_≡_}
 use mathlib.Core.Bool.{Bool, true, false}
-use mathlib.Core.List.{List, [], _∷_}
+use mathlib.Core.List.{List, [], _∷_, _++_, map, reverse}
 use mathlib.Core.Logic.{_⊎_}
 use mathlib.Core.Option.{none}
 use lib.IntN.{ℤ, pos, negsuc}
@@ -16,7 +16,8 @@ use Rattle.machine.specs.declared.Operand.{Operand}
 use Rattle.machine.specs.declared.Operand.the-variants.{OConst, OReg, OMem}
 use Rattle.code.specs.declared.tree.Instruction.{Instruction}
 use Rattle.code.specs.declared.tree.Ocmp.{Ocmp}
-use Rattle.code.specs.Layout.{ocmp-layout}
+use Rattle.code.specs.Families.{at-kind}
+use Rattle.code.specs.Layout.{layout, ocmp-layout}
 use Rattle.code.specs.Tree.{Code, Ins, Block, IfElse, While, Codes, ⟨⟩, _∷ᶜ_}
 use Rattle.code.specs.Reader.{got, parse}
 use Rattle.eval.specs.Config.{Env, Config, with-flags, End, ends, fault, choose}
@@ -49,13 +50,13 @@ module _ (env : Env) where
   pub record Absent (o : Operand) (s : Config) : Type 0 where
     pub memory : Maddr
     pub is-memory : o ≡ OMem memory
-    pub in-range : OutOfRange (eval-maddr memory (s .regs)) → ⊥
+    pub not-out : OutOfRange (eval-maddr memory (s .regs)) → ⊥
     pub no-cell : cell-of env memory s ≡ none
 
   -- what a source, a shift amount or an operand of a comparison fails by, with its number
   pub data Unread (o : Operand) (s : Config) (n : ℕ) : Type 0 where
-    wild : n ≡ 36 → Wild o s → Unread o s n
-    absent : n ≡ 31 → Absent o s → Unread o s n
+    wild-src : n ≡ 36 → Wild o s → Unread o s n
+    absent-src : n ≡ 31 → Absent o s → Unread o s n
 
   -- what a destination fails by
   pub data Unwritten (o : Operand) (s : Config) (n : ℕ) : Type 0 where
@@ -100,22 +101,36 @@ module _ (env : Env) where
     FailsIn ⟨⟩ p t n = ⊥
     FailsIn (c ∷ᶜ cs) p t n = FailsAt c p t n ⊎ FailsIn cs p t n
 
-  -- ---- the claims, of accepted cells
-  pub record Tells : Type 0 where
-    -- an instruction faults exactly where it fails, with that number, and nothing is written
-    pub faults : (i : Instruction) (p q n : ℕ) (s t : Config) → run-ins env p i s ≡ ends (fault n q) t → (q ≡ p) × (t ≡ s) × Fails i s n
-    pub fails : (i : Instruction) (p n : ℕ) (s : Config) → Fails i s n → run-ins env p i s ≡ ends (fault n p) s
-    -- a comparison's first operand is judged first, and one whose operands can be read takes its way
-    pub unread : (c : Ocmp) (q n : ℕ) (f g : Config → End) (s : Config) → FirstUnread s (ocmp-layout c .operands) n
-        → run-ocmp env q c f g s ≡ ends (fault n q) s
-    pub compares : (c : Ocmp) (q : ℕ) (f g : Config → End) (s : Config) → AllRead s (ocmp-layout c .operands)
-        → run-ocmp env q c f g s ≡ choose (eval-ocmp env c s) f g (with-flags (env .fill) s)
-    -- a run that faults: what stands at the place fails so in the state that is handed back
-    pub told : (code : List ℕ) (fuel p n : ℕ) (s t : Config) → run-of code env fuel s ≡ ends (fault n p) t
-        → (c : Code) × (next : ℕ) × (parse code ≡ got c next) × FailsAt c p t n
-    -- what is out of range has no cell, so 36 stands only where 31 or 32 stood
-    pub no-cell : (m : Maddr) (s : Config) → OutOfRange (eval-maddr m (s .regs)) → cell-of env m s ≡ none
+-- the numbers of the rules of each kind: 33 of Shr64 and Shl64, 34 of Pslld and Psrld, 35 of VPSLLDQ
+abbrev pub rule-numbers : ℕ → List ℕ
+rule-numbers k =
+    at-kind k 0x0d (33 ∷ []) (at-kind k 0x0e (33 ∷ []) (at-kind k 0x11 (34 ∷ []) (at-kind k 0x12 (34 ∷ []) (at-kind k 0x18 (35 ∷ []) []))))
 
--- they hold of every accepted list of cells
-abbrev pub Telling : Type 0
-Telling = (env : Env) (values : List ℕ) → check-cells (env .addresses) (env .tags) values ≡ accepted → Tells env
+-- cells that are accepted, whatever they hold
+abbrev pub AcceptedCells : Env → Type 0
+AcceptedCells env = (values : List ℕ) × (check-cells (env .addresses) (env .tags) values ≡ accepted)
+
+-- ---- the claims
+pub record Telling : Type 0 where
+  -- every operand in an instruction's record is judged once: its sources as they stand there, its destinations from the last to the first
+  pub judged : (env : Env) (i : Instruction) (s : Config)
+      → layout i .operands ≡ reverse (map (λ w. w .0) (act env i s .words)) ++ act env i s .sources
+  -- no other check of an instruction has 31, 32 or 36
+  pub numbers : (env : Env) (i : Instruction) (s : Config) → map (λ c. c .1) (act env i s .rules) ≡ rule-numbers (layout i .kind)
+  -- an instruction that faults fails with that number where it stands, and has written nothing
+  pub faults : (env : Env) (i : Instruction) (p q n : ℕ) (s t : Config) → run-ins env p i s ≡ ends (fault n q) t
+      → (q ≡ p) × (t ≡ s) × Fails env i s n
+  -- and one that fails faults
+  pub fails : (env : Env) → AcceptedCells env → (i : Instruction) (p n : ℕ) (s : Config) → Fails env i s n → run-ins env p i s ≡ ends (fault n p) s
+  -- of a comparison the first operand that cannot be read decides; where both can be read, it takes its way
+  pub either : (env : Env) (c : Ocmp) (s : Config)
+      → AllRead env s (ocmp-layout c .operands) ⊎ ((n : ℕ) × FirstUnread env s (ocmp-layout c .operands) n)
+  pub compare-fails : (env : Env) → AcceptedCells env → (c : Ocmp) (q n : ℕ) (f g : Config → End) (s : Config)
+      → FirstUnread env s (ocmp-layout c .operands) n → run-ocmp env q c f g s ≡ ends (fault n q) s
+  pub compares : (env : Env) (c : Ocmp) (q : ℕ) (f g : Config → End) (s : Config) → AllRead env s (ocmp-layout c .operands)
+      → run-ocmp env q c f g s ≡ choose (eval-ocmp env c s) f g (with-flags (env .fill) s)
+  -- a run that faults: what stands at the place fails so in the state that is handed back
+  pub told : (code : List ℕ) (env : Env) (fuel p n : ℕ) (s t : Config) → run-of code env fuel s ≡ ends (fault n p) t
+      → (c : Code) × (next : ℕ) × (parse code ≡ got c next) × FailsAt env c p t n
+  -- out of range there is no cell
+  pub out-no-cell : (env : Env) → AcceptedCells env → (m : Maddr) (s : Config) → OutOfRange (eval-maddr m (s .regs)) → cell-of env m s ≡ none

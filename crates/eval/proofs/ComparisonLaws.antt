@@ -7,6 +7,7 @@ use native.Mathlib.Omega.{arith}
 use lib.ListN.{length}
 use Rattle.machine.specs.Operands.{wild-or, unread-number}
 use Rattle.machine.specs.declared.Operand.{Operand}
+use Rattle.machine.proofs.OperandLaws.{wild-or-above, unread-here, unread-later}
 use Rattle.code.specs.Records.{is-ocmp, byte-at, behind, operand-at, ocmp-at}
 use Rattle.code.specs.Spells.{Stands}
 use Rattle.code.proofs.KindLaws.{each, _▹_}
@@ -15,7 +16,7 @@ use Rattle.eval.specs.Config.{Env, Config}
 use Rattle.eval.specs.Instructions.{valid-operand, eval-operand, valid-ocmp, ocmp-number, eval-ocmp}
 use Rattle.eval.specs.Promises.{Loads, comparison, Compares}
 use Rattle.eval.specs.declared.operand.Loaded.{Loaded}
-use Rattle.eval.proofs.OperandLaws.{passes, fails, above-one, wild-or-above}
+use Rattle.eval.proofs.OperandLaws.{passes, fails, above-one}
 
 -- one record stands at a place, so that it lies inside the bytes wherever it is said to end
 pub stands-inside :
@@ -30,12 +31,16 @@ module _ (env : Env) (s : Config) (bs : List ℕ) (at e : ℕ) (stands : Stands 
   abbrev other : Operand
   other = operand-at bs (behind bs (at + 1))
 
+  -- which operands can be read
+  abbrev valid : Operand → Bool
+  valid o = valid-operand env o s
+
   -- what is said of the kind k
   abbrev Said : ℕ → Type 0
   Said k =
       byte-at bs at ≡ k →
       (valid-ocmp env (ocmp-at bs at) s ≡ valid-operand env one s && valid-operand env other s)
-      × (ocmp-number env (ocmp-at bs at) s ≡ unread-number (λ o. valid-operand env o s) (s .regs) (one ∷ other ∷ []))
+      × (ocmp-number env (ocmp-at bs at) s ≡ unread-number valid (s .regs) (one ∷ other ∷ []))
       × (eval-ocmp env (ocmp-at bs at) s ≡ comparison k (eval-operand env one s) (eval-operand env other s))
 
   said : Said (byte-at bs at)
@@ -56,11 +61,10 @@ module _ (env : Env) (s : Config) (bs : List ℕ) (at e : ℕ) (stands : Stands 
   pub first-unread :
       (a : Loaded) → Loads env s one (behind bs (at + 1)) a → (a .number ≡ 0 → ⊥) →
       Compares env s (ocmp-at bs at) e (record { how = a .number; next = a .next })
-  unfolding unread-number
   first-unread a la h =
       let w = fails (valid-operand env one s) (a .number) _ (la .number) h in
       record {
-        how = rw (said refl .0, said refl .1, w .0) (w .1);
+        how = rw (said refl .0, said refl .1, unread-here valid (s .regs) one (other ∷ []) (w .0), w .0) (w .1);
         next = λ l. absurd (omega (arith, l, w .1, wild-or-above 31 one (s .regs) (omega arith)));
       }
 
@@ -76,11 +80,11 @@ module _ (env : Env) (s : Config) (bs : List ℕ) (at e : ℕ) (stands : Stands 
     one-read = passes (valid-operand env one s) (a .number) _ (la .number) (above-one (wild-or-above 31 one (s .regs) (omega arith))) x
 
     pub second-unread : (b .number ≡ 0 → ⊥) → Compares env s (ocmp-at bs at) e (record { how = b .number; next = b .next })
-    unfolding unread-number
     second-unread h =
         let w = fails (valid-operand env other s) (b .number) _ (second .number) h in
+        let number = unread-later valid (s .regs) one (other ∷ []) one-read ∙ unread-here valid (s .regs) other [] (w .0) in
         record {
-          how = rw (said refl .0, said refl .1, one-read, w .0) (w .1);
+          how = rw (said refl .0, said refl .1, number, one-read, w .0) (w .1);
           next = λ _. ends-there;
         }
 

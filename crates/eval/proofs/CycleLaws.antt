@@ -9,6 +9,7 @@ use native.Mathlib.Numerals.{sub-one}
 use borrow.Author.Tests.{eq-eqb, ne-eqb, eqb-true}
 use lib.Dec.{eqb}
 use lib.ListN.{length}
+use Rattle.machine.proofs.OperandLaws.{unread-above}
 use Rattle.code.specs.declared.tree.Ocmp.{Ocmp}
 use Rattle.code.specs.Layout.{ocmp-layout}
 use Rattle.code.specs.Tree.{Code, Codes, ⟨⟩, _∷ᶜ_}
@@ -22,7 +23,6 @@ use Rattle.eval.specs.Running.{run-ocmp, rounds, run-code, run-codes}
 use Rattle.eval.specs.Promises.{how, Ran, RunsIns, Compares, ComparesAt, CodeAt, CodesAt, codes-from, Runs, RunsAll}
 use Rattle.eval.specs.declared.exit.Exit.{Exit}
 use Rattle.eval.specs.declared.comparison.Compared.{Compared}
-use Rattle.eval.proofs.OperandLaws.{unread-above}
 use Rattle.eval.proofs.InstructionLaws.{exit, check-fails}
 
 pub code-frame : (bs : List ℕ) (at : ℕ) (c : CodeAt bs at) → Frame bs at (c .end)

@@ -12,6 +12,7 @@ use lib.ListN.{getD, set}
 use Rattle.words.specs.Sums.{sum-mod, mul-div, mul-mod}
 use Rattle.machine.specs.Operands.{wild-or}
 use Rattle.machine.specs.declared.Operand.{Operand}
+use Rattle.machine.proofs.OperandLaws.{wild-or-above}
 use Rattle.code.specs.declared.tree.Instruction.{Instruction}
 use Rattle.code.specs.declared.tree.Instruction.the-variants.{AddLea64, Mul64, Mulx64}
 use Rattle.code.specs.Records.{operand-at, behind}
@@ -25,7 +26,7 @@ use Rattle.eval.specs.declared.exit.Exit.{Exit}
 use Rattle.eval.specs.declared.operand.Loaded.{Loaded}
 use Rattle.eval.specs.declared.operand.Slot.{Slot}
 use Rattle.eval.proofs.Shapes.{read-check, write-check, write}
-use Rattle.eval.proofs.OperandLaws.{passes, fails, above-one, wild-or-above, valid-whatever}
+use Rattle.eval.proofs.OperandLaws.{passes, fails, above-one, valid-whatever}
 
 -- an exit with a number and a place
 abbrev pub exit : ℕ → ℕ → Exit
@@ -48,12 +49,12 @@ finished e b q p t h z = record { ends = sym h; next = λ _. z }
 
 -- a check of a source or of a destination, by what was found
 module _ (env : Env) (s : Config) (p : ℕ) (o : Operand) (n : ℕ) (r : Loaded) (loads : Loads env s o n r) (k : End) where
-  pub readable : r .number ≡ 0 → read-check env p o s k ≡ k
+  pub read-passes : r .number ≡ 0 → read-check env p o s k ≡ k
   unfolding check
-  readable h = rw (passes (valid-operand env o s) (r .number) _ (loads .number) (above-one (wild-or-above 31 o (s .regs) (omega arith))) h)
+  read-passes h = rw (passes (valid-operand env o s) (r .number) _ (loads .number) (above-one (wild-or-above 31 o (s .regs) (omega arith))) h)
 
-  pub unreadable : (r .number ≡ 0 → ⊥) → read-check env p o s k ≡ ends (how (exit (r .number) p)) s
-  unreadable h =
+  pub read-fails : (r .number ≡ 0 → ⊥) → read-check env p o s k ≡ ends (how (exit (r .number) p)) s
+  read-fails h =
       let w = fails (valid-operand env o s) (r .number) _ (loads .number) h in
       check-fails _ _ (r .number) p s k (w .0) (w .1) (rw (w .1) (wild-or-above 31 o (s .regs) (omega arith)))
 
@@ -122,14 +123,14 @@ module _ (addresses tags regs xmms values : List ℕ) (fill flags p : ℕ) where
     Two x u = Ran (run-ins env p (two-ins k dst src) s) n x u
 
     pub two-unread : (r .number ≡ 0 → ⊥) → Two (exit (r .number) p) s
-    two-unread h = failed _ n (r .number) p s (shape env p dst src s k is ∙ unreadable env s p src n r loads _ h) h
+    two-unread h = failed _ n (r .number) p s (shape env p dst src s k is ∙ read-fails env s p src n r loads _ h) h
 
     module _ (found : r .number ≡ 0) where
       pub two-amount : (checks-amount k && leb 64 (r .word)) ≡ true → Two (exit 33 p) s
       two-amount h =
           failed _ n 33 p s
           (shape env p dst src s k is
-          ∙ readable env s p src n r loads _ found
+          ∙ read-passes env s p src n r loads _ found
           ∙ amount-fails env p dst src s k (r .word) _ (loads .word found) h)
           (λ e. omega arith)
 
@@ -137,7 +138,7 @@ module _ (addresses tags regs xmms values : List ℕ) (fill flags p : ℕ) where
         two-passes : run-ins env p (two-ins k dst src) s ≡ two-write env p dst src s k
         two-passes =
             shape env p dst src s k is
-            ∙ readable env s p src n r loads _ found
+            ∙ read-passes env s p src n r loads _ found
             ∙ amount-passes env p dst src s k (r .word) _ (loads .word found) amount
 
         pub two-unwritten : 1 < t .how → Two (exit (t .how) p) s
@@ -169,18 +170,18 @@ module _ (addresses tags regs xmms values : List ℕ) (fill flags p : ℕ) where
     lea-shape = refl
 
     pub lea-unread : (q .number ≡ 0 → ⊥) → Lea (exit (q .number) p) s
-    lea-unread h = failed _ n (q .number) p s (lea-shape ∙ unreadable env s p one m q first _ h) h
+    lea-unread h = failed _ n (q .number) p s (lea-shape ∙ read-fails env s p one m q first _ h) h
 
     module _ (there : q .number ≡ 0) where
       pub lea-unread-second : (r .number ≡ 0 → ⊥) → Lea (exit (r .number) p) s
       lea-unread-second h =
-          failed _ n (r .number) p s (lea-shape ∙ readable env s p one m q first _ there ∙ unreadable env s p two n r second _ h) h
+          failed _ n (r .number) p s (lea-shape ∙ read-passes env s p one m q first _ there ∙ read-fails env s p two n r second _ h) h
 
       module _ (found : r .number ≡ 0) where
         lea-passes :
             run-ins env p (AddLea64 dst one two) s
             ≡ write env p dst (sum-mod 64 (eval-operand env one s + eval-operand env two s)) flags s
-        lea-passes = lea-shape ∙ readable env s p one m q first _ there ∙ readable env s p two n r second _ found
+        lea-passes = lea-shape ∙ read-passes env s p one m q first _ there ∙ read-passes env s p two n r second _ found
 
         pub lea-unwritten : 1 < t .how → Lea (exit (t .how) p) s
         lea-unwritten h = failed _ n (t .how) p s (lea-passes ∙ unwritable env s p dst l t resolves h _) (above-one h)
@@ -212,14 +213,14 @@ module _ (addresses tags regs xmms values : List ℕ) (fill flags p : ℕ) where
     mul-shape = refl
 
     pub mul-unread : (r .number ≡ 0 → ⊥) → Mul (exit (r .number) p) s
-    mul-unread h = failed _ n (r .number) p s (mul-shape ∙ unreadable env s p src n r loads _ h) h
+    mul-unread h = failed _ n (r .number) p s (mul-shape ∙ read-fails env s p src n r loads _ h) h
 
     pub mul-done :
         r .number ≡ 0 →
         (lo hi : ℕ) → lo ≡ mul-mod 64 (getD regs 0 0) (r .word) → hi ≡ mul-div 64 (getD regs 0 0) (r .word) →
         Mul (exit 0 (r .next)) (held (set (set regs 0 lo) 3 hi) xmms fill values)
     mul-done h lo hi a b =
-        finished _ n (r .next) p _ (rw (a, b, loads .word h) (mul-shape ∙ readable env s p src n r loads _ h)) (loads .next)
+        finished _ n (r .next) p _ (rw (a, b, loads .word h) (mul-shape ∙ read-passes env s p src n r loads _ h)) (loads .next)
 
   -- ---- Mulx64
   module _ (dst-hi dst-lo src : Operand) (m n : ℕ) (t : Slot) (r : Loaded)
@@ -241,13 +242,13 @@ module _ (addresses tags regs xmms values : List ℕ) (fill flags p : ℕ) where
     mulx-shape = refl
 
     pub mulx-unread : (r .number ≡ 0 → ⊥) → Mulx (exit (r .number) p) s
-    mulx-unread h = failed _ n (r .number) p s (mulx-shape ∙ unreadable env s p src n r loads _ h) h
+    mulx-unread h = failed _ n (r .number) p s (mulx-shape ∙ read-fails env s p src n r loads _ h) h
 
     module _ (found : r .number ≡ 0) where
       pub mulx-unwritten : 1 < t .how → Mulx (exit (t .how) p) s
       mulx-unwritten h =
           failed _ n (t .how) p s
-          (mulx-shape ∙ readable env s p src n r loads _ found ∙ unwritable env s p dst-lo m t resolves h _) (above-one h)
+          (mulx-shape ∙ read-passes env s p src n r loads _ found ∙ unwritable env s p dst-lo m t resolves h _) (above-one h)
 
       module _ (valid : t .how ≤ 1) (lo hi : ℕ) (is-lo : lo ≡ mul-mod 64 (getD regs 3 0) (r .word))
           (is-hi : hi ≡ mul-div 64 (getD regs 3 0) (r .word)) (regs′ values′ : List ℕ)
@@ -264,7 +265,7 @@ module _ (addresses tags regs xmms values : List ℕ) (fill flags p : ℕ) where
               (ends done (with-flags flags (update-operand env dst-hi hi (held regs′ xmms flags values′))))
           mulx-passes =
               mulx-shape
-              ∙ readable env s p src n r loads _ found
+              ∙ read-passes env s p src n r loads _ found
               ∙ writable env s p dst-lo m t resolves valid _
               ∙ rw (after-low, valid-whatever env dst-hi (held regs′ xmms flags values) values′, is-hi, loads .word found)
 

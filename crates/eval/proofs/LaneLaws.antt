@@ -22,7 +22,7 @@ use Rattle.eval.specs.declared.operand.Loaded.{Loaded}
 use Rattle.eval.specs.declared.operand.Slot.{Slot}
 use Rattle.eval.proofs.Shapes.{read-check, write-xmm}
 use Rattle.eval.proofs.OperandLaws.{above-one}
-use Rattle.eval.proofs.InstructionLaws.{exit, failed, finished, readable, unreadable, unwritable, wrote}
+use Rattle.eval.proofs.InstructionLaws.{exit, failed, finished, read-passes, read-fails, unwritable, wrote}
 
 module _ (env : Env) (p : ℕ) (regs xmms values : List ℕ) (flags : ℕ) where
   abbrev s : Config
@@ -139,7 +139,7 @@ module _ (addresses tags regs xmms values : List ℕ) (fill flags p : ℕ) where
     inserts-shape = by-inserts-ins InsertsShape dst src index refl refl k is
 
     pub inserts-unread : (r .number ≡ 0 → ⊥) → Ran (run-ins env p (inserts-ins k dst src index) now-s) n (exit (r .number) p) now-s
-    inserts-unread h = failed _ n (r .number) p now-s (inserts-shape ∙ unreadable env now-s p src n r loads _ h) h
+    inserts-unread h = failed _ n (r .number) p now-s (inserts-shape ∙ read-fails env now-s p src n r loads _ h) h
 
     pub inserts-done :
         r .number ≡ 0 →
@@ -150,4 +150,4 @@ module _ (addresses tags regs xmms values : List ℕ) (fill flags p : ℕ) where
         Ran (run-ins env p (inserts-ins k dst src index) now-s) n (exit 0 (r .next)) (held regs xmms′ flags values)
     inserts-done h x q xmms′ a b c =
         finished _ n (r .next) p _
-        (rw (c, b, a, loads .word h) (inserts-shape ∙ readable env now-s p src n r loads _ h)) (loads .next)
+        (rw (c, b, a, loads .word h) (inserts-shape ∙ read-passes env now-s p src n r loads _ h)) (loads .next)

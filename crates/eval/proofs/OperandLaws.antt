@@ -3,14 +3,14 @@
 use Prim.Native.Nat.{ℕ, _<_}
 use mathlib.Core.Path.{_≡_, refl, sym, ap, _∙_}
 use mathlib.Core.Bool.{Bool, true, false, cond, false≢true}
-use mathlib.Core.List.{List, [], _∷_}
+use mathlib.Core.List.{List}
 use mathlib.Core.Option.{Option, none, some}
 use native.Mathlib.Omega.{arith}
 use lib.Dec.{eqb}
 use lib.ListN.{length, getD}
 use Rattle.machine.specs.Registers.{reg-at, Rsp}
-use Rattle.machine.specs.Operands.{eval-maddr, wild, wild-operand, wild-or, unread-number}
-use Rattle.machine.specs.Cells.{find-cell, cell-in, is-wild, is-cell}
+use Rattle.machine.specs.Operands.{eval-maddr, wild, wild-or}
+use Rattle.machine.specs.Cells.{find-cell, is-cell, leads, led-to}
 use Rattle.machine.specs.declared.reg.Reg.{Reg}
 use Rattle.machine.specs.declared.Target.{Target}
 use Rattle.machine.specs.declared.Target.the-variants.{Cell, Absent, Wild}
@@ -18,7 +18,7 @@ use Rattle.machine.specs.declared.Maddr.{Maddr}
 use Rattle.machine.specs.declared.Operand.{Operand}
 use Rattle.machine.specs.declared.Operand.the-variants.{OConst, OReg, OMem}
 use Rattle.machine.proofs.FindLaws.{find-hit}
-use Rattle.machine.proofs.OperandLaws.{constant-no-dst, register-dst, memory-dst}
+use Rattle.machine.proofs.OperandLaws.{constant-no-dst, register-dst, memory-dst, constant-tame, register-tame, memory-wild, wild-or-above}
 use Rattle.code.specs.Forms.{form-of}
 use Rattle.code.specs.declared.records.Form.{Form}
 use Rattle.code.specs.declared.records.Form.the-variants.{Memory}
@@ -42,23 +42,6 @@ fails false n m e h = (refl, e)
 -- a number above 1 is not 0
 pub above-one : {n : ℕ} → 1 < n → n ≡ 0 → ⊥
 above-one h e = omega (arith, h, e)
-
--- the number of an operand's check is above 1
-pub wild-or-above : (n : ℕ) (o : Operand) (regs : List ℕ) → 1 < n → 1 < wild-or n o regs
-wild-or-above n o regs l = go (wild-operand o regs)
-  where
-    go : (b : Bool) → 1 < cond b 36 n
-    go true = omega arith
-    go false = l
-
-pub unread-above : (valid : Operand → Bool) (regs : List ℕ) (os : List Operand) → 1 < unread-number valid regs os
-unfolding unread-number
-unread-above valid regs [] = omega arith
-unread-above valid regs (o ∷ os) = go (valid o) (unread-above valid regs os)
-  where
-    go : (b : Bool) → 1 < unread-number valid regs os → 1 < cond b (unread-number valid regs os) (wild-or 31 o regs)
-    go true h = h
-    go false h = wild-or-above 31 o regs (omega arith)
 
 -- whether a destination can be written does not hang on what the cells hold
 pub valid-whatever : (env : Env) (o : Operand) (s : Config) (values : List ℕ) → valid-dst-operand env o (with-values values s) ≡ valid-dst-operand env o s
@@ -94,8 +77,8 @@ module _ (addresses tags regs values : List ℕ) (o : Operand) (next : ℕ) (fil
   load-constant n q = record { number = rw q; word = λ _. rw q; next = refl }
 
   pub resolve-constant : (n : ℕ) → o ≡ OConst n → (t : Slot) → t ≡ no-slot 32 next → Resolve t
-  unfolding valid-dst-operand valid-operand wild-operand
-  resolve-constant n q t e = no-destination 32 (omega arith) (rw q) t e (rw (q, constant-no-dst n))
+  unfolding valid-dst-operand valid-operand
+  resolve-constant n q t e = no-destination 32 (omega arith) (rw (q, constant-tame n regs)) t e (rw (q, constant-no-dst n))
 
   -- ---- a register
   module _ (r : Reg) (q : o ≡ OReg r) where
@@ -105,10 +88,10 @@ module _ (addresses tags regs values : List ℕ) (o : Operand) (next : ℕ) (fil
 
     module _ (b : Bool) (is : b ≡ eqb (r .number) (Rsp .number)) where
       pub resolve-rsp : b ≡ true → (t : Slot) → t ≡ no-slot 32 next → Resolve t
-      unfolding valid-dst-operand valid-operand wild-operand
+      unfolding valid-dst-operand valid-operand
       resolve-rsp h t e =
           let p : eqb (r .number) 7 ≡ true = sym is ∙ h in
-          no-destination 32 (omega arith) (rw q) t e (rw (q, register-dst r, p))
+          no-destination 32 (omega arith) (rw (q, register-tame r regs)) t e (rw (q, register-dst r, p))
 
       pub resolve-register :
           b ≡ false → r .number < 16 →
@@ -183,24 +166,23 @@ module _ (addresses tags regs values : List ℕ) (o : Operand) (next : ℕ) (fil
           no-destination (f .number) (rw (nowhere .1) (wild-or-above absent o regs above)) (nowhere .1 ∙ ap (λ n. wild-or n o regs) is) t g (rw unreadable)
 
 -- ---- a memory operand, by what it leads to
-module _ (addresses tags regs : List ℕ) (m : Maddr) (absent : ℕ) (f : Target)
-    (found : cell-in f ≡ find-cell addresses tags (eval-maddr m regs)) (told : is-wild f ≡ wild (eval-maddr m regs)) where
+module _ (addresses tags regs : List ℕ) (m : Maddr) (absent : ℕ) (f : Target) (found : led-to f ≡ leads addresses tags (eval-maddr m regs)) where
   abbrev Seek : ℕ → ℕ → Type 0
   Seek n i = Seeks addresses tags regs m absent (record { number = n; index = i })
 
   pub seek-cell : (i : ℕ) → f ≡ Cell i → Seek 0 i
   seek-cell i e =
-      let h = sym found ∙ ap cell-in e in
+      let h : find-cell addresses tags (eval-maddr m regs) ≡ some i = ap (λ p. p .0) (sym found ∙ ap led-to e) in
       record { number = rw h; cell = λ j k. let z : some i ≡ some j = sym h ∙ k in cc }
 
-  seek-none : (n : ℕ) → cell-in f ≡ none → n ≡ cond (is-wild f) 36 absent → Seek n 0
-  unfolding wild-operand
-  seek-none n e is =
-      let h = sym found ∙ e in
-      record { number = rw (h, ← told) is; cell = λ j k. let z : none ≡ some j = sym h ∙ k in cc }
+  seek-none : (n : ℕ) (b : Bool) → led-to f ≡ (none, b) → n ≡ cond b 36 absent → Seek n 0
+  seek-none n b e is =
+      let h : find-cell addresses tags (eval-maddr m regs) ≡ none = ap (λ p. p .0) (sym found ∙ e) in
+      let w : wild (eval-maddr m regs) ≡ b = ap (λ p. p .1) (sym found ∙ e) in
+      record { number = rw (h, memory-wild m regs, w) is; cell = λ j k. let z : none ≡ some j = sym h ∙ k in cc }
 
   pub seek-absent : f ≡ Absent → Seek absent 0
-  seek-absent e = seek-none absent (ap cell-in e) (rw e)
+  seek-absent e = seek-none absent false (ap led-to e) refl
 
   pub seek-wild : f ≡ Wild → Seek 36 0
-  seek-wild e = seek-none 36 (ap cell-in e) (rw e)
+  seek-wild e = seek-none 36 true (ap led-to e) refl

@@ -44,7 +44,8 @@ pub record Cells (addresses tags values : List ℕ) : Type 0 where
   pub long : length values ≡ length addresses
 
 -- ---- operands
--- what a Sought says of a memory operand: the number of the check that fails, which is `absent` where no 64-bit cell is there, or 0; and its cell
+-- what a Sought says of a memory operand: 0, or the number of the check that fails, 36 where the exact address is wild and `absent` where merely no
+-- 64-bit cell is there; and its cell
 pub record Seeks (addresses tags regs : List ℕ) (m : Maddr) (absent : ℕ) (r : Sought) : Type 0 where
   pub number : r .number ≡ cond (is-cell (find-cell addresses tags (eval-maddr m regs))) 0 (wild-or absent (OMem m) regs)
   pub cell : (i : ℕ) → find-cell addresses tags (eval-maddr m regs) ≡ some i → r .index ≡ i

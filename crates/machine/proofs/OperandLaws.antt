@@ -1,9 +1,9 @@
--- Operands: which are destinations, and the cell that a memory operand names. Addresses of cells are words, so an exact address that is
--- no word is none of them.
+-- Operands: which are destinations, the cell that a memory operand names, and the numbers of their checks. Addresses of cells are words, so an
+-- exact address that is no word is none of them.
 use Prim.Native.Nat.{ℕ, _^_, _<_}
 use mathlib.Core.Path.{_≡_, refl, sym, ap, _∙_}
 use mathlib.Core.Bool.{Bool, true, false, not, cond}
-use mathlib.Core.List.{List}
+use mathlib.Core.List.{List, [], _∷_}
 use mathlib.Core.Option.{Option, none, some}
 use native.Mathlib.Omega.{arith}
 use borrow.Author.Tests.{leb-true}
@@ -11,16 +11,18 @@ use lib.Dec.{eqb}
 use lib.IntN.{ℤ, pos, negsuc}
 use lib.ListN.{getD}
 use Rattle.machine.specs.Registers.{Rsp}
-use Rattle.machine.specs.Operands.{in-range, wild, valid-dst}
-use Rattle.machine.specs.Cells.{find-cell, index-of, cell-in, is-wild}
+use Rattle.machine.specs.Operands.{eval-maddr, in-range, wild, wild-operand, wild-or, unread-number, valid-dst}
+use Rattle.machine.specs.Cells.{accepted, check-cells, find-cell, index-of, leads, led-to}
 use Rattle.machine.specs.declared.reg.Reg.{Reg}
 use Rattle.machine.specs.declared.Found.{Found}
 use Rattle.machine.specs.declared.Found.the-variants.{At, Nothing}
 use Rattle.machine.specs.declared.Target.{Target}
 use Rattle.machine.specs.declared.Target.the-variants.{Cell, Absent, Wild}
 use Rattle.machine.specs.declared.Maddr.{Maddr}
+use Rattle.machine.specs.declared.Operand.{Operand}
 use Rattle.machine.specs.declared.Operand.the-variants.{OConst, OReg, OMem}
-use Rattle.machine.proofs.FindLaws.{find-none}
+use Rattle.machine.proofs.FindLaws.{find-none, find-hit}
+use Rattle.machine.proofs.Accepting.{cells-within}
 
 -- ---- destinations
 pub constant-no-dst : (n : ℕ) → valid-dst (OConst n) ≡ false
@@ -69,17 +71,66 @@ module _ (xs ts : List ℕ) (z : ℤ) where
 
   -- what a memory operand leads to: what was found at its word, and nothing where it has none
   abbrev LeadsTo : Target → Type 0
-  LeadsTo r = (cell-in r ≡ find-cell xs ts z) × (is-wild r ≡ wild z)
+  LeadsTo r = led-to r ≡ leads xs ts z
 
   module _ (w : ℕ) (e : in-range z ≡ some w) (f : Found) (found : index-of f ≡ find-cell xs ts (pos w)) where
-    at-word : {k : Option ℕ} → index-of f ≡ k → k ≡ find-cell xs ts z
-    at-word h = sym h ∙ found ∙ sym (find-inside w e)
+    at-word : leads xs ts z ≡ (index-of f, false)
+    at-word = rw (in-range-some z w e .1, find-inside w e, found)
 
     pub leads-to-cell : (i : ℕ) → f ≡ At i → LeadsTo (Cell i)
-    leads-to-cell i h = (at-word (ap index-of h), sym (in-range-some z w e .1))
+    leads-to-cell i h = rw (at-word, h)
 
     pub leads-to-none : f ≡ Nothing → LeadsTo Absent
-    leads-to-none h = (at-word (ap index-of h), sym (in-range-some z w e .1))
+    leads-to-none h = rw (at-word, h)
 
   pub leads-outside : in-range z ≡ none → ((k : ℕ) → getD xs k 0 < 2 ^ 64) → LeadsTo Wild
-  leads-outside e small = let w = in-range-none z e in (sym (find-outside w small), sym w)
+  leads-outside e small = let w = in-range-none z e in rw (w, find-outside w small)
+
+  -- accepted cells end at 2^64 at the latest, so none of 64 bits is at a wild address
+  pub find-wild : (vs : List ℕ) → check-cells xs ts vs ≡ accepted → wild z ≡ true → find-cell xs ts z ≡ none
+  find-wild vs cells e = go (find-cell xs ts z) refl
+    where
+      go : (k : Option ℕ) → find-cell xs ts z ≡ k → k ≡ none
+      go none h = refl
+      go (some i) h =
+          let hit = find-hit xs ts z i h in
+          let end = cells-within xs ts vs cells i (hit .inside) in
+          absurd (word-tame z (getD xs i 0) e (omega (arith, rw (hit .tag) at end)) (hit .address))
+
+-- ---- wild operands, and the numbers of their checks
+pub constant-tame : (n : ℕ) (regs : List ℕ) → wild-operand (OConst n) regs ≡ false
+unfolding wild-operand
+constant-tame n regs = refl
+
+pub register-tame : (r : Reg) (regs : List ℕ) → wild-operand (OReg r) regs ≡ false
+unfolding wild-operand
+register-tame r regs = refl
+
+pub memory-wild : (m : Maddr) (regs : List ℕ) → wild-operand (OMem m) regs ≡ wild (eval-maddr m regs)
+unfolding wild-operand
+memory-wild m regs = refl
+
+pub wild-or-above : (n : ℕ) (o : Operand) (regs : List ℕ) → 1 < n → 1 < wild-or n o regs
+wild-or-above n o regs l = go (wild-operand o regs)
+  where
+    go : (b : Bool) → 1 < cond b 36 n
+    go true = omega arith
+    go false = l
+
+module _ (valid : Operand → Bool) (regs : List ℕ) (o : Operand) (os : List Operand) where
+  pub unread-here : valid o ≡ false → unread-number valid regs (o ∷ os) ≡ wild-or 31 o regs
+  unfolding unread-number
+  unread-here e = rw e
+
+  pub unread-later : valid o ≡ true → unread-number valid regs (o ∷ os) ≡ unread-number valid regs os
+  unfolding unread-number
+  unread-later e = rw e
+
+pub unread-above : (valid : Operand → Bool) (regs : List ℕ) (os : List Operand) → 1 < unread-number valid regs os
+unfolding unread-number
+unread-above valid regs [] = omega arith
+unread-above valid regs (o ∷ os) = go (valid o) (unread-above valid regs os)
+  where
+    go : (b : Bool) → 1 < unread-number valid regs os → 1 < cond b (unread-number valid regs os) (wild-or 31 o regs)
+    go true h = h
+    go false h = wild-or-above 31 o regs (omega arith)

@@ -7,6 +7,7 @@ use mathlib.Core.Option.{Option, none, some}
 use lib.Dec.{eqb, ltb, leb}
 use lib.IntN.{ℤ, pos, negsuc}
 use lib.ListN.{length, getD, set}
+use Rattle.machine.specs.Operands.{wild}
 use Rattle.machine.specs.declared.Checked.{Checked}
 use Rattle.machine.specs.declared.Checked.the-variants.{Accepted, Refused}
 use Rattle.machine.specs.declared.Found.{Found}
@@ -90,17 +91,15 @@ abbrev pub index-of : Found → Option ℕ
 index-of (At i) = some i
 index-of Nothing = none
 
--- the cell that a Target names
-abbrev pub cell-in : Target → Option ℕ
-cell-in (Cell i) = some i
-cell-in Absent = none
-cell-in Wild = none
+-- what an exact address leads to: the index of the 64-bit cell there, and whether the address is wild
+abbrev pub leads : List ℕ → List ℕ → ℤ → Option ℕ × Bool
+leads xs ts z = (find-cell xs ts z, wild z)
 
--- whether a Target says that the exact address is below 0 or above 2^64 - 1
-abbrev pub is-wild : Target → Bool
-is-wild (Cell i) = false
-is-wild Absent = false
-is-wild Wild = true
+-- what a Target says of that
+abbrev pub led-to : Target → Option ℕ × Bool
+led-to (Cell i) = (some i, false)
+led-to Absent = (none, false)
+led-to Wild = (none, true)
 
 -- the value of the cell at an index, 0 where there is none
 abbrev pub cell-value : List ℕ → Option ℕ → ℕ

@@ -54,7 +54,7 @@ wild-operand (OMem m) regs = wild (eval-maddr m regs)
 abbrev pub wild-or : ℕ → Operand → List ℕ → ℕ
 wild-or n o regs = cond (wild-operand o regs) 36 n
 
--- the number of a check of sources that are judged left to right: that of the first which cannot be read
+-- the number of a check of sources that are judged from left to right: that of the first which cannot be read; 31 where none fails
 unfoldable pub unread-number : (Operand → Bool) → List ℕ → List Operand → ℕ
 unread-number valid regs [] = 31
 unread-number valid regs (o ∷ os) = cond (valid o) (unread-number valid regs os) (wild-or 31 o regs)

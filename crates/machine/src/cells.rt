@@ -16,9 +16,9 @@ ghost use mathlib.Core.Bool.{cond};
 ghost use Prim.Native.Nat.{ℕ, _+_, _-_, _/_, _^_, _<_};
 ghost use lib.IntN.{pos};
 ghost use lib.ListN.{length, getD};
-ghost use Rattle.machine.specs.Operands.{NamesRegisters, eval-maddr, wild};
+ghost use Rattle.machine.specs.Operands.{NamesRegisters, eval-maddr};
 ghost use Rattle.machine.specs.Wide.{number};
-ghost use Rattle.machine.specs.Cells.{verdict, check-cells, check-from, cell-rule, is-tag, SameLengths, Ascending, Part, Searchable, index-of, find-cell, cell-in, is-wild};
+ghost use Rattle.machine.specs.Cells.{verdict, check-cells, check-from, cell-rule, is-tag, SameLengths, Ascending, Part, Searchable, index-of, find-cell, leads, led-to};
 
 // The largest value of a cell with this tag; 0 where it is no tag.
 fn largest(tag: u8) -> u64
@@ -163,8 +163,7 @@ pub fn find_cell(addresses: &[u64], tags: &[u8], address: u64) -> Found
 pub fn cell_of(m: Maddr, regs: &[u64; 16], addresses: &[u64], tags: &[u8]) -> Target
     requires { ⌜ NamesRegisters m ⌝ }
     requires { ⌜ Searchable (now addresses) (now tags) ⌝ }
-    ensures { λ r. ⌜ cell-in r ≡ find-cell (now (addresses .entry)) (now (tags .entry)) (eval-maddr m (now (regs .entry))) ⌝ }
-    ensures { λ r. ⌜ is-wild r ≡ wild (eval-maddr m (now (regs .entry))) ⌝ }
+    ensures { λ r. ⌜ led-to r ≡ leads (now (addresses .entry)) (now (tags .entry)) (eval-maddr m (now (regs .entry))) ⌝ }
 {
     match operand_address(m, regs) {
         Address::Inside(word) => match find_cell(addresses, tags, word) {

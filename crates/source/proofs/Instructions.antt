@@ -29,7 +29,7 @@ use Rattle.eval.specs.Instructions as Run
 use Rattle.eval.proofs.Shapes.{read-check, amount-check, write, write-xmm, flags-kept, halves-kept}
 use Rattle.source.specs.Source as Source
 use Rattle.source.specs.Source.{State, St, put}
-use Rattle.source.specs.Log.{Note, Noted, _>>=_, _>>_, quiet, get, check, check-imm, unread, unwritten, amount, update-operand-preserve-flags, update-operand, note-ins}
+use Rattle.source.specs.Log.{Note, Noted, _>>=_, _>>_, quiet, get, check, check-imm, source-number, dst-number, amount, update-operand-preserve-flags, update-operand, note-ins}
 use Rattle.source.specs.Correspondence.{IntToNat64, state-of}
 use Rattle.source.proofs.OperandLaws.{Held, valid-operand-is, valid-dst-is, dst-read, update-is, update-held, eval-operand-is}
 
@@ -156,7 +156,7 @@ module _ (env : Env) where
       → Gate (update-operand-preserve-flags dst v) s t (Run.valid-dst-operand env dst s) (wild-or 32 dst (s .regs))
   unfolding update-operand-preserve-flags
   preserve-gate dst v w s t h e same =
-      put-gate (unwritten dst) (Source.valid-dst-operand dst) (Source.update-operand-preserve-flags′ dst v) s t _ h
+      put-gate (dst-number dst) (Source.valid-dst-operand dst) (Source.update-operand-preserve-flags′ dst v) s t _ h
       (subst (λ (x : Config). Held env x) e (update-held env dst w s h))
       (valid-dst-is env dst s h)
       (λ g. ap (λ x. Source.update-operand-preserve-flags′ dst x (state-of env s)) (same g) ∙ update-is env dst w s h g ∙ ap (state-of env) e)
@@ -169,7 +169,7 @@ module _ (env : Env) where
     unfolding update-operand Source.update-operand′
     update-gate dst i v w s h same =
         let put : ℕ → State = λ x. Source.update-operand-preserve-flags′ dst x (state-of env s) in
-        put-gate (unwritten dst) (Source.valid-dst-operand dst) (Source.update-operand′ load-mem64 int-to-nat64 (env .fill) dst i v) s _ _ h
+        put-gate (dst-number dst) (Source.valid-dst-operand dst) (Source.update-operand′ load-mem64 int-to-nat64 (env .fill) dst i v) s _ _ h
         (update-held env dst w s h)
         (valid-dst-is env dst s h)
         (λ g. ap (Source.with-flags (env .fill)) (ap put (same g) ∙ update-is env dst w s h g))
@@ -196,8 +196,8 @@ module _ (env : Env) where
       says-get f r e = e
 
       says-source : (o : Operand) (k : Noted (Unit {0})) (r : End) → (Run.valid-operand env o s ≡ true → Says p s k s r)
-          → Says p s (check (unread o) (Source.valid-operand o) >> k) s (read-check env p o s r)
-      says-source o k r f = says-then p s _ k s s _ _ r (check-gate (unread o) _ s _ _ h (valid-operand-is env o s h) refl) f
+          → Says p s (check (source-number o) (Source.valid-operand o) >> k) s (read-check env p o s r)
+      says-source o k r f = says-then p s _ k s s _ _ r (check-gate (source-number o) _ s _ _ h (valid-operand-is env o s h) refl) f
 
       -- what goes from t to u and checks nothing, with k after it, and as the last
       says-next : (m : St (Unit {0})) (k : Noted (Unit {0})) (t u : Config) (r : End) → Held env u → m (state-of env t) .1 ≡ state-of env u
@@ -231,7 +231,7 @@ module _ (env : Env) where
       -- f of a destination and a source, and flags by g
       says-two : (dst src : Operand) → WfTwo dst src → (i : Instruction) (f g : ℕ → ℕ → ℕ)
           → Says p s (do
-            check (unread src) (Source.valid-operand src)
+            check (source-number src) (Source.valid-operand src)
             update-operand load-mem64 int-to-nat64 (env .fill) dst i (f (read dst s) (read src s))
             quiet (Source.update-flags (g (read dst s) (read src s)))) s
           (read-check env p src s (write env p dst (f (value dst s) (value src s)) (g (value dst s) (value src s)) s))
@@ -245,7 +245,7 @@ module _ (env : Env) where
       -- the same, with flags the fill word without carry and overflow
       says-cleared : (dst src : Operand) → WfTwo dst src → (i : Instruction) (f : ℕ → ℕ → ℕ)
           → Says p s (do
-            check (unread src) (Source.valid-operand src)
+            check (source-number src) (Source.valid-operand src)
             update-operand load-mem64 int-to-nat64 (env .fill) dst i (f (read dst s) (read src s))
             quiet (Source.update-cf-of false false)) s
           (read-check env p src s (write env p dst (f (value dst s) (value src s)) (update-cf (update-of (env .fill) false) false) s))
@@ -256,7 +256,7 @@ module _ (env : Env) where
       -- the same, with flags the fill word
       says-binary : (dst src : Operand) → WfTwo dst src → (i : Instruction) (f : ℕ → ℕ → ℕ)
           → Says p s (do
-            check (unread src) (Source.valid-operand src)
+            check (source-number src) (Source.valid-operand src)
             update-operand load-mem64 int-to-nat64 (env .fill) dst i (f (read dst s) (read src s))) s
           (read-check env p src s (write env p dst (f (value dst s) (value src s)) (env .fill) s))
       says-binary dst src fits i f =
@@ -303,7 +303,7 @@ module _ (env : Env) where
       -- f of a source is written to an xmm
       says-insert : (x : ℕ) (src : Operand) → WfOperand src → (f : ℕ → Four ℕ)
           → Says p s (do
-            check (unread src) (Source.valid-operand src)
+            check (source-number src) (Source.valid-operand src)
             quiet (Source.update-xmm-preserve-flags x (f (read src s)))) s
           (read-check env p src s (write-xmm env p x (f (value src s)) (s .flags) s))
       says-insert x src fits f = says-source src _ _ (λ e. says-xmm x _ _ (ap f (is src fits e)))

@@ -87,25 +87,25 @@ unfoldable pub check : (State → ℕ) → (State → Bool) → Noted (Unit {0})
 check number valid s = (Source.check valid s, (number s, valid s) ∷ [])
 
 -- the number of a source's check: 36 where its exact address is wild, else 31
-abbrev pub unread : Operand → State → ℕ
-unread o s = wild-or 31 o (s .regs)
+abbrev pub source-number : Operand → State → ℕ
+source-number o s = wild-or 31 o (s .regs)
 
 -- the number of a shift amount's check: that of a source where it cannot be read, else 33
 abbrev pub amount : Operand → State → ℕ
-amount o s = cond (valid-operand o s) 33 (unread o s)
+amount o s = cond (valid-operand o s) 33 (source-number o s)
 
 -- the number of a comparison's check: of the first operand, or where that can be read of the second
 unfoldable pub ocmp-number : Ocmp → State → ℕ
 ocmp-number c s = unread-number (λ o. valid-operand o s) (s .regs) (ocmp-layout c .operands)
 
 -- the number of a destination's check: 36 where its exact address is wild, else 32
-abbrev pub unwritten : Operand → State → ℕ
-unwritten o s = wild-or 32 o (s .regs)
+abbrev pub dst-number : Operand → State → ℕ
+dst-number o s = wild-or 32 o (s .regs)
 
 -- `update_operand_preserve_flags`
 unfoldable pub update-operand-preserve-flags : Operand → ℕ → Noted (Unit {0})
 update-operand-preserve-flags dst v = do
-  check (unwritten dst) (valid-dst-operand dst)
+  check (dst-number dst) (valid-dst-operand dst)
   s ← get
   quiet (put (update-operand-preserve-flags′ dst v s))
 
@@ -142,7 +142,7 @@ module _ (load-mem64 : ℤ → Memory → ℕ) (int-to-nat64 : ℤ → ℕ) (fil
   -- `update_operand`
   unfoldable pub update-operand : Operand → Instruction → ℕ → Noted (Unit {0})
   update-operand dst ins v = do
-    check (unwritten dst) (valid-dst-operand dst)
+    check (dst-number dst) (valid-dst-operand dst)
     s ← get
     quiet (put (Source.update-operand′ load-mem64 int-to-nat64 fill dst ins v s))
 
@@ -150,21 +150,21 @@ module _ (load-mem64 : ℤ → Memory → ℕ) (int-to-nat64 : ℤ → ℕ) (fil
   unfoldable pub note-ins : Instruction → Noted (Unit {0})
   note-ins (Mov64 dst src) = do
     s ← get
-    check (unread src) (valid-operand src)
+    check (source-number src) (valid-operand src)
     update-operand-preserve-flags dst (eval-operand src s)
   note-ins (Add64 dst src) = do
     s ← get
-    check (unread src) (valid-operand src)
+    check (source-number src) (valid-operand src)
     update-operand dst (Add64 dst src) ((eval-operand dst s + eval-operand src s) % pow2-64)
     quiet (update-flags (add-flags fill (s .flags) (eval-operand dst s) (eval-operand src s) 0))
   note-ins (AddLea64 dst src1 src2) = do
     s ← get
-    check (unread src1) (valid-operand src1)
-    check (unread src2) (valid-operand src2)
+    check (source-number src1) (valid-operand src1)
+    check (source-number src2) (valid-operand src2)
     update-operand-preserve-flags dst ((eval-operand src1 s + eval-operand src2 s) % pow2-64)
   note-ins (AddCarry64 dst src) = do
     s ← get
-    check (unread src) (valid-operand src)
+    check (source-number src) (valid-operand src)
     let old-carry = bit (cf (s .flags))
     let sum = eval-operand dst s + eval-operand src s + old-carry
     update-operand dst (AddCarry64 dst src) (sum % pow2-64)
@@ -172,7 +172,7 @@ module _ (load-mem64 : ℤ → Memory → ℕ) (int-to-nat64 : ℤ → ℕ) (fil
     quiet (update-flags (add-flags fill (s .flags) (eval-operand dst s) (eval-operand src s) old-carry))
   note-ins (Adcx64 dst src) = do
     s ← get
-    check (unread src) (valid-operand src)
+    check (source-number src) (valid-operand src)
     let old-carry = bit (cf (s .flags))
     let sum = eval-operand dst s + eval-operand src s + old-carry
     let new-carry = leb pow2-64 sum
@@ -180,7 +180,7 @@ module _ (load-mem64 : ℤ → Memory → ℕ) (int-to-nat64 : ℤ → ℕ) (fil
     quiet (update-flags (update-cf (s .flags) new-carry))
   note-ins (Adox64 dst src) = do
     s ← get
-    check (unread src) (valid-operand src)
+    check (source-number src) (valid-operand src)
     let old-carry = bit (overflow (s .flags))
     let sum = eval-operand dst s + eval-operand src s + old-carry
     let new-carry = leb pow2-64 sum
@@ -188,11 +188,11 @@ module _ (load-mem64 : ℤ → Memory → ℕ) (int-to-nat64 : ℤ → ℕ) (fil
     quiet (update-flags (update-of (s .flags) new-carry))
   note-ins (Sub64 dst src) = do
     s ← get
-    check (unread src) (valid-operand src)
+    check (source-number src) (valid-operand src)
     update-operand dst (Sub64 dst src) (sub-mod 64 (eval-operand dst s) (eval-operand src s))
   note-ins (Mul64 src) = do
     s ← get
-    check (unread src) (valid-operand src)
+    check (source-number src) (valid-operand src)
     let hi = mul-div 64 (eval-reg Rax s) (eval-operand src s)
     let lo = mul-mod 64 (eval-reg Rax s) (eval-operand src s)
     quiet (update-reg Rax lo)
@@ -200,23 +200,23 @@ module _ (load-mem64 : ℤ → Memory → ℕ) (int-to-nat64 : ℤ → ℕ) (fil
     quiet (update-flags (havoc s (Mul64 src)))
   note-ins (Mulx64 dst-hi dst-lo src) = do
     s ← get
-    check (unread src) (valid-operand src)
+    check (source-number src) (valid-operand src)
     let hi = mul-div 64 (eval-reg Rdx s) (eval-operand src s)
     let lo = mul-mod 64 (eval-reg Rdx s) (eval-operand src s)
     update-operand-preserve-flags dst-lo lo
     update-operand-preserve-flags dst-hi hi
   note-ins (IMul64 dst src) = do
     s ← get
-    check (unread src) (valid-operand src)
+    check (source-number src) (valid-operand src)
     update-operand dst (IMul64 dst src) ((eval-operand dst s * eval-operand src s) % 0x10000000000000000)
   note-ins (Xor64 dst src) = do
     s ← get
-    check (unread src) (valid-operand src)
+    check (source-number src) (valid-operand src)
     update-operand dst (Xor64 dst src) (ixor 64 (eval-operand dst s) (eval-operand src s))
     quiet (update-cf-of false false)
   note-ins (And64 dst src) = do
     s ← get
-    check (unread src) (valid-operand src)
+    check (source-number src) (valid-operand src)
     update-operand dst (And64 dst src) (iand 64 (eval-operand dst s) (eval-operand src s))
   note-ins (Shr64 dst amt) = do
     s ← get
@@ -247,33 +247,33 @@ module _ (load-mem64 : ℤ → Memory → ℕ) (int-to-nat64 : ℤ → ℕ) (fil
     update-operand-preserve-flags dst extracted-nat64
   note-ins (Pinsrd dst src index) = do
     s ← get
-    check (unread src) (valid-operand src)
+    check (source-number src) (valid-operand src)
     let dst-q = eval-xmm dst s
     quiet (update-xmm-preserve-flags dst (insert-nat32 dst-q (eval-operand src s % pow2-32) (index % 4)))
   note-ins (Pinsrq dst src index) = do
     s ← get
-    check (unread src) (valid-operand src)
+    check (source-number src) (valid-operand src)
     let dst-q = eval-xmm dst s
     quiet (update-xmm-preserve-flags dst (insert-nat64 dst-q (eval-operand src s) (index % 2)))
   note-ins (VPSLLDQ dst src count) = do
     s ← get
-    check (λ _. 35) (λ _. eqb count 4)
+    check (λ s. 35) (λ s. eqb count 4)
     let src-q = eval-xmm src s
     let shifted-xmm = mkfour 0 (src-q .lo0) (src-q .lo1) (src-q .hi2)
     quiet (update-xmm-preserve-flags dst shifted-xmm)
   note-ins (Popcnt64 dst src) = do
     s ← get
-    check (unread src) (valid-operand src)
+    check (source-number src) (valid-operand src)
     update-operand dst (Popcnt64 dst src) (popcnt 64 (eval-operand src s))
     quiet (update-cf-of false false)
   note-ins (Lzcnt64 dst src) = do
     s ← get
-    check (unread src) (valid-operand src)
+    check (source-number src) (valid-operand src)
     update-operand dst (Lzcnt64 dst src) (lzcnt 64 (eval-operand src s))
     quiet (update-flags (update-cf (havoc s (Lzcnt64 dst src)) (eqb (eval-operand src s) 0)))
   note-ins (Tzcnt64 dst src) = do
     s ← get
-    check (unread src) (valid-operand src)
+    check (source-number src) (valid-operand src)
     update-operand dst (Tzcnt64 dst src) (tzcnt 64 (eval-operand src s))
     quiet (update-flags (update-cf (havoc s (Tzcnt64 dst src)) (eqb (eval-operand src s) 0)))
 

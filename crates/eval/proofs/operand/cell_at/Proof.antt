@@ -10,19 +10,19 @@ returns : tie.Need-returns
 returns c m q =
     let led = c .before .before .before in
     rw (← (one-memory _ _ _ (led .before .memory-at .ensures) q))
-    (seek-cell _ _ _ _ _ (led .cell-of .result) (led .cell-of .ensures .0) (led .cell-of .ensures .1) _ (c .before .index .given .1))
+    (seek-cell _ _ _ _ _ (led .cell-of .result) (led .cell-of .ensures) _ (c .before .index .given .1))
 
 returns-2 : tie.Need-returns-2
 returns-2 c m q =
     let led = c .before .before in
     rw (← (one-memory _ _ _ (led .before .memory-at .ensures) q))
-    (seek-absent _ _ _ _ _ (led .cell-of .result) (led .cell-of .ensures .0) (led .cell-of .ensures .1) (c .enum-told .given .1))
+    (seek-absent _ _ _ _ _ (led .cell-of .result) (led .cell-of .ensures) (c .enum-told .given .1))
 
 returns-3 : tie.Need-returns-3
 returns-3 c m q =
     let led = c .before .before in
     rw (← (one-memory _ _ _ (led .before .memory-at .ensures) q))
-    (seek-wild _ _ _ _ _ (led .cell-of .result) (led .cell-of .ensures .0) (led .cell-of .ensures .1) (c .enum-told2 .given .1))
+    (seek-wild _ _ _ _ _ (led .cell-of .result) (led .cell-of .ensures) (c .enum-told2 .given .1))
 
 pub cell-at-spec : {M : Type 1} → statement M
 cell-at-spec =
