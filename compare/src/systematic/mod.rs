@@ -64,6 +64,6 @@ mod tests {
     fn every_class_is_met() {
         let records = super::records().unwrap();
         assert!(records.len() > 500);
-        assert!(crate::store::as_bytes(&records).len() < 1 << 20);
+        assert!(crate::store::as_bytes(&records).len() < 3 << 19);
     }
 }

@@ -117,8 +117,39 @@ fn in_roles() -> Vec<Job> {
     jobs
 }
 
-/// Either side of a comparison in either structure, by turns. The last address
-/// by an index is among the pairs below.
+/// -1, 2^64 and 2^64-1, each by one register and by an index.
+const ENDS: [Form; 6] = [BELOW[0], BELOW[2], ABOVE[0], ABOVE[2], LAST[0], LAST[2]];
+
+/// Each of them in each role of each instruction.
+fn ends_in_roles() -> Vec<Job> {
+    let mut jobs = Vec::new();
+    for shape in shapes() {
+        for position in 0..shape.roles.len() {
+            let job = |form: Form| form.met(with(&shape, position, form.operand));
+            jobs.extend(ENDS.map(job));
+        }
+    }
+    jobs
+}
+
+/// And on each side of a comparison in each structure, with the relations by
+/// turns; then 0 and 2^64-8 there, by one register and by an index.
+fn ends_in_comparisons() -> Vec<Job> {
+    let mut jobs = Vec::new();
+    for turn in 0..4 {
+        for (i, form) in ENDS.into_iter().chain(HOME.into_iter().take(4)).enumerate() {
+            let (relation, other) = (RELATIONS[(i + turn) % 6], reg(SMALL));
+            let condition = match turn % 2 {
+                0 => compare(relation, form.operand, other),
+                _ => compare(relation, other, form.operand),
+            };
+            jobs.push(form.met(tested(turn / 2, condition)));
+        }
+    }
+    jobs
+}
+
+/// Either side of a comparison in either structure, by turns.
 fn in_comparisons() -> Vec<Job> {
     let last = LAST.into_iter().take(2);
     let forms = BELOW.into_iter().chain(ABOVE).chain(last);
@@ -287,6 +318,8 @@ pub fn jobs() -> Vec<Job> {
     jobs.extend(codes.concat().into_iter().map(at_both_ends));
     jobs.extend(products_through_low());
     jobs.extend(elsewhere());
+    jobs.extend(ends_in_roles());
+    jobs.extend(ends_in_comparisons());
     jobs
 }
 

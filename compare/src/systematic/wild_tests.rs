@@ -37,12 +37,17 @@ fn roles() {
         let own = |role: &Role| if *role == Role::Source { 31 } else { 32 };
         shape.roles.iter().map(own).collect::<Vec<u8>>()
     });
-    let expected: Vec<u8> = ends.flat_map(|own| [36, 36, own]).collect();
-    assert_eq!(expected.len(), 114);
-    assert_eq!(numbers(in_roles()), expected);
+    let ends: Vec<u8> = ends.collect();
+    let by_turns: Vec<u8> = ends.iter().flat_map(|&own| [36, 36, own]).collect();
+    assert_eq!(by_turns.len(), 114);
+    assert_eq!(numbers(in_roles()), by_turns);
+    let each = ends.iter().flat_map(|&own| [36, 36, 36, 36, own, own]);
+    assert_eq!(numbers(ends_in_roles()), each.collect::<Vec<u8>>());
     let mut compared = vec![36; 22];
     compared.extend([31, 31]);
     assert_eq!(numbers(in_comparisons()), compared);
+    let each = [36, 36, 36, 36, 31, 31, 0, 0, 0, 0];
+    assert_eq!(numbers(ends_in_comparisons()), each.repeat(4));
 }
 
 /// The first of two is there, has no cell, is out of the range; and with each
