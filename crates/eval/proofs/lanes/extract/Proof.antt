@@ -1,4 +1,4 @@
--- A destination that cannot be written is the fault 32; else it takes the pair that the index names. Assumes nothing.
+-- A destination that cannot be written ends the run with its number; else it takes the pair that the index names. Assumes nothing.
 use mathlib.Core.List.{[]}
 use native.Mathlib.Omega.{arith}
 use borrow.Author.Needs.{needs}

@@ -1,4 +1,4 @@
--- A source that cannot be read is the fault 31; else its word goes into the quad. Assumes nothing.
+-- A source that cannot be read ends the run with its number; else its word goes into the quad. Assumes nothing.
 use native.Mathlib.Omega.{arith}
 use borrow.Author.Needs.{needs}
 use Rattle.eval.proofs.Asked.{operand-starts, inserts-nothing, inserts}

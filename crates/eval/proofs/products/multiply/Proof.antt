@@ -1,4 +1,4 @@
--- A source that cannot be read is the fault 31; else Rax and Rdx take the two words of the product. Assumes nothing.
+-- A source that cannot be read ends the run with its number; else Rax and Rdx take the two words of the product. Assumes nothing.
 use native.Mathlib.Omega.{arith}
 use borrow.Author.Needs.{needs}
 use Rattle.eval.proofs.Asked.{operand-starts, multiply-unread, multiply-done}
