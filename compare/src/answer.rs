@@ -10,14 +10,21 @@ use std::fmt::Write;
 pub enum Answer {
     Done,
     Fault(u8, usize),
+    /// The step limit was used up; the number is `STOPPED`.
+    Stopped(u8, usize),
     Spent(usize),
     Refused(u8, usize),
 }
 
-/// The answer, with state and cells unless it is a refusal.
+/// The number of every Stopped.
+pub const STOPPED: u8 = 37;
+
+/// The answer with the steps made, and state and cells unless it is a refusal.
 #[derive(Clone, Debug, PartialEq, Eq)]
 pub struct Outcome {
     pub answer: Answer,
+    /// Completed instructions and comparisons that passed their check.
+    pub steps: u64,
     pub end: Option<(Start, Vec<Cell>)>,
 }
 
@@ -25,6 +32,7 @@ impl Outcome {
     pub fn refused(trouble: Trouble) -> Outcome {
         Outcome {
             answer: Answer::Refused(trouble.number, trouble.place),
+            steps: 0,
             end: None,
         }
     }
@@ -34,6 +42,7 @@ pub fn first_line(answer: &Answer) -> String {
     match answer {
         Answer::Done => "done".to_string(),
         Answer::Fault(number, place) => format!("fault {number} at {place}"),
+        Answer::Stopped(number, place) => format!("stopped {number} at {place}"),
         Answer::Spent(place) => format!("spent at {place}"),
         Answer::Refused(number, place) => format!("refused {number} at {place}"),
     }
@@ -47,6 +56,7 @@ pub fn render(outcome: &Outcome) -> String {
         return text;
     };
     let mut line = |words: std::fmt::Arguments| writeln!(text, "{words}").expect("a string grows");
+    line(format_args!("steps {}", outcome.steps));
     line(format_args!("flags {}", end.flags));
     for (name, value) in REG_NAMES.iter().zip(end.regs) {
         if value != 0 {

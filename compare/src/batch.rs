@@ -5,6 +5,8 @@ use crate::checks::check_run;
 use crate::follow::Settings;
 use crate::generate::job_bytes;
 use crate::job::parse;
+use crate::limits;
+use crate::rng::Rng;
 use crate::run::{accept, follow, Followed};
 use crate::tally::Tally;
 use crate::target::Target;
@@ -27,9 +29,12 @@ pub fn run(jobs: u64, seed: u64, target: &mut dyn Target) -> Result<Tally, Strin
             return Err(named(difference(&text, answer)));
         }
         tally.add(&own.answer);
+        // Another row of numbers than the one that the job was made from.
+        let mut rng = Rng::of_job(!seed, index);
+        limits::compare(&bytes, &own, &mut rng, target, &mut tally.limits).map_err(named)?;
         progress.show(index + 1);
     }
-    let missing = tally.missing();
+    let missing = missing(&tally);
     if jobs >= FULL && !missing.is_empty() {
         return Err(format!(
             "{}never met: {}",
@@ -38,6 +43,11 @@ pub fn run(jobs: u64, seed: u64, target: &mut dyn Target) -> Result<Tally, Strin
         ));
     }
     Ok(tally)
+}
+
+/// What a batch of some length has to meet and did not.
+pub fn missing(tally: &Tally) -> Vec<String> {
+    [tally.missing(), tally.limits.missing()].concat()
 }
 
 /// This evaluator's outcome, with the checks inside it.
@@ -54,15 +64,16 @@ pub fn own_answer(bytes: &[u8], salt: u64, tally: &mut Tally) -> Result<Outcome,
         return Err("writing what was read gives other bytes".to_string());
     }
     let settings = Settings::new(job.fill);
-    let followed = follow(&job, &code, u64::from(job.fuel), settings);
+    let run = follow(&job, &code, u64::from(job.fuel), settings);
     let Followed {
         outcome,
-        steps,
+        followed,
         met,
         ..
-    } = followed.map_err(|_| "no budget was set")?;
+    } = run.map_err(|_| "no budget was set")?;
     check_run(&job, &code, &outcome, salt).map_err(|e| format!("inner check: {e}"))?;
-    tally.steps += steps;
+    tally.followed += followed;
+    tally.steps += outcome.steps;
     for (sum, count) in tally.met.iter_mut().zip(met) {
         *sum += count;
     }

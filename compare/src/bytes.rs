@@ -1,7 +1,9 @@
 //! The byte machine: one byte at every address below 2^64, no cells, every
 //! check counted as passed. It is written apart from source.rs, with the
 //! processor-like operations of the language where that one divides, and it
-//! keeps an xmm register as one number of 128 bits, lo0 lowest.
+//! keeps an xmm register as one number of 128 bits, lo0 lowest. So that the
+//! checks can halt it anywhere, it also takes a number of steps, which it counts
+//! down; the paper's own does as many as come.
 
 use crate::cells::Cell;
 use crate::state::{Quad, Start};
@@ -68,11 +70,18 @@ pub struct Machine {
     pub flags: u64,
     pub memory: ByteMemory,
     fill: u64,
+    /// Instructions and tests that it may still do.
+    pub left: u64,
 }
 
-/// The machine halted at a While met with fuel 0.
+/// Why the machine halted ahead of the end.
 #[derive(Debug, PartialEq, Eq)]
-pub struct OutOfFuel;
+pub enum Halt {
+    /// At a While met with fuel 0.
+    OutOfFuel,
+    /// At an instruction or test with none left to do.
+    OutOfSteps,
+}
 
 impl Machine {
     pub fn new(start: &Start, fill: u64, memory: ByteMemory) -> Machine {
@@ -83,6 +92,7 @@ impl Machine {
             flags: start.flags,
             memory,
             fill,
+            left: u64::MAX,
         }
     }
 
@@ -95,16 +105,19 @@ impl Machine {
         }
     }
 
-    pub fn run(&mut self, code: &Code, fuel: u64) -> Result<(), OutOfFuel> {
+    pub fn run(&mut self, code: &Code, fuel: u64) -> Result<(), Halt> {
         match &code.node {
-            Node::Ins(ins) => self.instruction(ins),
+            Node::Ins(ins) => {
+                self.take_one()?;
+                self.instruction(ins);
+            }
             Node::Block(codes) => {
                 for child in codes {
                     self.run(child, fuel)?;
                 }
             }
             Node::IfElse(condition, if_true, if_false) => {
-                let taken = if self.test(condition) {
+                let taken = if self.test(condition)? {
                     if_true
                 } else {
                     if_false
@@ -116,28 +129,34 @@ impl Machine {
         Ok(())
     }
 
-    fn rounds(&mut self, condition: &Ocmp, body: &Code, fuel: u64) -> Result<(), OutOfFuel> {
+    fn rounds(&mut self, condition: &Ocmp, body: &Code, fuel: u64) -> Result<(), Halt> {
         for left in (0..fuel).rev() {
-            if !self.test(condition) {
+            if !self.test(condition)? {
                 return Ok(());
             }
             self.run(body, left)?;
         }
-        Err(OutOfFuel)
+        Err(Halt::OutOfFuel)
     }
 
-    fn test(&mut self, condition: &Ocmp) -> bool {
+    fn take_one(&mut self) -> Result<(), Halt> {
+        self.left = self.left.checked_sub(1).ok_or(Halt::OutOfSteps)?;
+        Ok(())
+    }
+
+    fn test(&mut self, condition: &Ocmp) -> Result<bool, Halt> {
         use std::cmp::Ordering::*;
+        self.take_one()?;
         let order = self.read(condition.left).cmp(&self.read(condition.right));
         self.flags = self.fill;
-        match condition.relation {
+        Ok(match condition.relation {
             Relation::Eq => order == Equal,
             Relation::Ne => order != Equal,
             Relation::Le => order != Greater,
             Relation::Ge => order != Less,
             Relation::Lt => order == Less,
             Relation::Gt => order == Greater,
-        }
+        })
     }
 }
 

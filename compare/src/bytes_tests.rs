@@ -63,8 +63,30 @@ fn fuel_is_tested_first() {
     let never = Ocmp::unplaced(Relation::Lt, Operand::Const(1), Operand::Const(1));
     let nothing = Box::new(Code::unplaced(Node::Block(Vec::new())));
     let code = Code::unplaced(Node::While(never, nothing));
-    assert_eq!(machine().run(&code, 0), Err(OutOfFuel));
+    assert_eq!(machine().run(&code, 0), Err(Halt::OutOfFuel));
     assert_eq!(machine().run(&code, 1), Ok(()));
+}
+
+/// Rax from 2 down to 0: three tests and two instructions.
+#[test]
+fn steps_are_counted_down() {
+    let differs = Ocmp::unplaced(Relation::Ne, reg(0), number(0));
+    let less = one(Sub64(reg(0), number(1)));
+    let code = Code::unplaced(Node::While(differs, Box::new(less)));
+    let halted = |most, fuel| {
+        let mut m = machine();
+        (m.regs[0], m.left) = (2, most);
+        let halt = m.run(&code, fuel);
+        (halt, m.regs[0], m.left)
+    };
+    assert_eq!(halted(6, 3), (Ok(()), 0, 1));
+    assert_eq!(halted(5, 3), (Ok(()), 0, 0));
+    let after = [2, 2, 1, 1, 0];
+    for (most, rax) in after.into_iter().enumerate() {
+        assert_eq!(halted(most as u64, 3), (Err(Halt::OutOfSteps), rax, 0));
+    }
+    assert_eq!(halted(4, 2), (Err(Halt::OutOfFuel), 0, 0));
+    assert_eq!(halted(0, 0), (Err(Halt::OutOfFuel), 2, 0));
 }
 
 /// A machine with a fill word, after one instruction over a word in Rbx and

@@ -10,6 +10,9 @@ pub enum Event {
     Failed(u8, usize),
     /// A loop had no fuel: the place of the While.
     Starved(usize),
+    /// The step limit was used up: the place of the record that came next.
+    /// Only a run without another bad event so far can meet its limit.
+    LimitMet(usize),
 }
 
 /// Passed checks are only counted; bad events are all kept, the first one
@@ -53,9 +56,14 @@ pub struct Settings {
     /// The answer of a load that meets no 64-bit cell.
     pub off: u64,
     pub mode: Mode,
+    /// The caller's step limit.
+    pub limit: u64,
     /// Instructions and comparisons that may be followed.
     pub budget: u64,
 }
+
+/// The job program's limit.
+pub const LARGEST_LIMIT: u64 = u64::MAX;
 
 /// An odd word that no generated job holds but by chance.
 pub const OFF_MEM64: u64 = 0x6a3d_70b5_19c2_8e4f;
@@ -66,7 +74,15 @@ impl Settings {
             fill,
             off: OFF_MEM64,
             mode: Mode::RunsOn,
+            limit: LARGEST_LIMIT,
             budget: u64::MAX,
+        }
+    }
+
+    pub fn limited(fill: u64, limit: u64) -> Settings {
+        Settings {
+            limit,
+            ..Settings::new(fill)
         }
     }
 }
@@ -75,7 +91,11 @@ impl Settings {
 pub struct Follow {
     pub settings: Settings,
     pub log: Log,
-    pub steps: u64,
+    /// Instructions and comparisons that were followed: also those whose check
+    /// failed and, as the source runs on, those behind a bad event.
+    pub followed: u64,
+    /// The steps of the answer: what was completed ahead of any bad event.
+    pub steps_made: u64,
     /// How often each instruction was followed, by its number less 1.
     pub met: [u64; INSTRUCTION_KINDS],
     /// The least fuel that a loop test was met with.
@@ -96,7 +116,8 @@ impl Follow {
         Follow {
             settings,
             log: Log::default(),
-            steps: 0,
+            followed: 0,
+            steps_made: 0,
             met: [0; INSTRUCTION_KINDS],
             least_fuel: u64::MAX,
             over_budget: false,
@@ -107,18 +128,32 @@ impl Follow {
         eval_operand(o, s, self.settings.off)
     }
 
-    /// Counts one instruction or comparison; none is followed over the budget.
-    pub fn step(&mut self) -> Result<(), Stop> {
-        self.steps += 1;
-        self.over_budget = self.steps > self.settings.budget;
+    /// An instruction or comparison comes next, none over the budget. Here the
+    /// limit is judged: behind a loop's test of fuel, ahead of the checks.
+    pub fn comes_next(&mut self, place: usize, s: &State) -> Result<(), Stop> {
+        self.followed += 1;
+        self.over_budget = self.followed > self.settings.budget;
         if self.over_budget {
             return Err(Stop::Cut);
+        }
+        if self.log.bad.is_empty() && self.steps_made >= self.settings.limit {
+            self.log.note(Event::LimitMet(place), s);
+        }
+        self.may_go_on()
+    }
+
+    /// Its checks are done: a step was made, unless anything bad came before
+    /// or just now.
+    pub fn is_checked(&mut self) -> Result<(), Stop> {
+        self.may_go_on()?;
+        if self.log.bad.is_empty() {
+            self.steps_made += 1;
         }
         Ok(())
     }
 
     /// Nothing is followed past a bad event where the mode says so.
-    pub fn may_go_on(&self) -> Result<(), Stop> {
+    fn may_go_on(&self) -> Result<(), Stop> {
         if self.settings.mode == Mode::StopsAtFirst && !self.log.bad.is_empty() {
             return Err(Stop::Cut);
         }

@@ -1,5 +1,5 @@
 //! An evaluator and a builder written apart from the port, from document 01,
-//! requests 2026-01 to 2026-03 and the F* text alone, and their comparison
+//! requests 2026-01 to 2026-04 and the F* text alone, and their comparison
 //! with it.
 
 // Calls of the linked port are the only ones that Rust cannot check.
@@ -8,6 +8,7 @@
 
 mod answer;
 mod batch;
+mod bound;
 mod build;
 mod builder;
 mod bytes;
@@ -22,9 +23,12 @@ mod generate_code;
 mod instructions;
 mod job;
 mod large;
+mod limit_tally;
+mod limits;
 mod misses;
 mod nest;
 mod operands;
+mod places;
 mod reader;
 mod rng;
 mod run;
@@ -54,7 +58,8 @@ compare batch N SEED PROGRAM     compare N generated jobs; SEED may be `new`
 compare selfcheck                the examples of document 01
 compare store N SEED DIR         write a stored set of N jobs to DIR/jobs.txt
 compare systematic DIR           write the systematic set to DIR/systematic
-compare stored N SEED DIR        the same, and N generated jobs to DIR/random
+compare limited DIR              write jobs under step limits to DIR/limited
+compare stored N SEED DIR        both of these, and N generated jobs to DIR/random
 compare check FILE PROGRAM       run a stored set through a program
 compare make SEED INDEX JOBFILE  write one generated job
 compare builds N SEED [BUILDER]  compare N generated lists of builder calls
@@ -85,8 +90,10 @@ fn command(words: &[String]) -> Result<(), String> {
             write_set(dir, "jobs.txt", store::as_text(&stored).as_bytes())
         }
         ["systematic", dir] => write_systematic(dir),
+        ["limited", dir] => write_limited(dir),
         ["stored", n, seed, dir] => {
             write_systematic(dir)?;
+            write_limited(dir)?;
             let chosen = store::choose(number(n)? as usize, number(seed)?)?;
             write_set(dir, "random", &store::as_bytes(&chosen))
         }
@@ -146,7 +153,7 @@ fn run_batch(n: &str, seed: &str, program: &[String]) -> Result<(), String> {
     let tally = batch::run(jobs, seed, target.as_mut())?;
     print!("{}", tally.report());
     if jobs < batch::FULL {
-        let missing = tally.missing().join(", ");
+        let missing = batch::missing(&tally).join(", ");
         println!("too few jobs to demand every answer; not met: {missing}");
     }
     println!("no difference, seed {seed}");
@@ -174,6 +181,13 @@ fn write_systematic(dir: &str) -> Result<(), String> {
     let records = systematic::records()?;
     write_set(dir, "systematic", &store::as_bytes(&records))?;
     println!("{} systematic jobs", records.len());
+    Ok(())
+}
+
+fn write_limited(dir: &str) -> Result<(), String> {
+    let records = systematic::limited()?;
+    write_set(dir, "limited", &store::limited_as_bytes(&records))?;
+    println!("{} jobs under step limits", records.len());
     Ok(())
 }
 

@@ -1,9 +1,9 @@
 //! Running: the refusals in their order, then the source's evaluator, whose
 //! log gives the answer.
 
-use crate::answer::{Answer, Outcome};
+use crate::answer::{Answer, Outcome, STOPPED};
 use crate::cells;
-use crate::follow::{Event, Follow, Log, Settings, Stop};
+use crate::follow::{Event, Follow, Log, Settings, Stop, LARGEST_LIMIT};
 use crate::job::{parse, Job};
 use crate::reader::{self, Trouble};
 use crate::source::eval_code;
@@ -13,7 +13,9 @@ use crate::tree::{Code, INSTRUCTION_KINDS};
 /// What following a job showed beside its outcome.
 pub struct Followed {
     pub outcome: Outcome,
-    pub steps: u64,
+    /// Instructions and comparisons, also behind a bad event; the outcome has
+    /// the steps.
+    pub followed: u64,
     pub met: [u64; INSTRUCTION_KINDS],
     pub least_fuel: u64,
 }
@@ -22,20 +24,26 @@ pub struct Followed {
 #[derive(Debug, PartialEq, Eq)]
 pub struct TooLong;
 
-/// Answers a job's bytes, however long it takes.
+/// Answers a job's bytes as the job program does, however long it takes.
 pub fn answer_bytes(input: &[u8]) -> Outcome {
-    let job = match parse(input) {
-        Ok(job) => job,
-        Err(trouble) => return Outcome::refused(trouble),
-    };
-    match accept(&job) {
+    match parse(input) {
+        Ok(job) => answer(&job, LARGEST_LIMIT),
         Err(trouble) => Outcome::refused(trouble),
-        Ok(code) => {
-            let settings = Settings::new(job.fill);
-            let followed = follow(&job, &code, u64::from(job.fuel), settings);
-            followed.expect("no budget was set").outcome
-        }
     }
+}
+
+/// Answers a job under any limit.
+pub fn answer(job: &Job, limit: u64) -> Outcome {
+    match accept(job) {
+        Ok(code) => outcome(job, &code, Settings::limited(job.fill, limit)),
+        Err(trouble) => Outcome::refused(trouble),
+    }
+}
+
+/// The outcome of accepted code with the job's own fuel; no budget is set.
+pub fn outcome(job: &Job, code: &Code, settings: Settings) -> Outcome {
+    let followed = follow(job, code, u64::from(job.fuel), settings);
+    followed.expect("no budget was set").outcome
 }
 
 /// Code is checked first, then the cells.
@@ -57,9 +65,10 @@ pub fn follow(job: &Job, code: &Code, fuel: u64, settings: Settings) -> Result<F
     Ok(Followed {
         outcome: Outcome {
             answer,
+            steps: f.steps_made,
             end: Some((state.visible(), state.cells(&job.cells))),
         },
-        steps: f.steps,
+        followed: f.followed,
         met: f.met,
         least_fuel: f.least_fuel,
     })
@@ -77,20 +86,30 @@ fn read_off(log: &Log, result: Result<State, Stop>) -> (Answer, State) {
             let answer = match *event {
                 Event::Failed(number, place) => Answer::Fault(number, place),
                 Event::Starved(place) => Answer::Spent(place),
+                Event::LimitMet(place) => Answer::Stopped(STOPPED, place),
             };
             (answer, before)
         }
     }
 }
 
-/// What the source itself can tell, `ok` and None, has to match the log.
+/// What the source itself can tell, `ok` and None, has to match the log. Of a
+/// limit it knows nothing: that event leaves no trace but its own.
 fn log_matches_source(log: &Log, result: &Result<State, Stop>) {
     let starved = matches!(log.bad.last(), Some(Event::Starved(_)));
+    let count = |kind: fn(&Event) -> bool| log.bad.iter().filter(|e| kind(e)).count();
+    let failures = count(|e| matches!(e, Event::Failed(..)));
     match result {
-        Ok(state) => assert!(state.ok == log.bad.is_empty() && !starved),
+        Ok(state) => assert!(state.ok == (failures == 0) && !starved),
         Err(Stop::NoFuel) => assert!(starved),
         Err(Stop::Cut) => assert!(!log.bad.is_empty()),
     }
-    let starvations = log.bad.iter().filter(|e| matches!(e, Event::Starved(_)));
-    assert!(starvations.count() <= 1);
+    assert!(count(|e| matches!(e, Event::Starved(_))) <= 1);
+    let behind = log.bad.iter().skip(1);
+    let met_behind = behind.filter(|e| matches!(e, Event::LimitMet(_)));
+    assert_eq!(met_behind.count(), 0);
 }
+
+#[cfg(test)]
+#[path = "run_tests.rs"]
+mod tests;

@@ -1,6 +1,7 @@
-//! The evaluator as the source has it. It runs on after a failed check and
-//! keeps a log (`follow.rs`). Done, Fault and Spent are read off the log: the
-//! first bad event decides, and it carries the state from just before.
+//! The evaluator as the source has it. It runs on after a failed check, and
+//! past the step limit, which the source does not know, and keeps a log
+//! (`follow.rs`). Done, Fault, Stopped and Spent are read off the log: the first
+//! bad event decides, and it carries the state from just before.
 
 use crate::follow::{Event, Follow, Stop};
 use crate::instructions::eval_ins;
@@ -12,9 +13,9 @@ type Evaluated = Result<State, Stop>;
 pub fn eval_code(c: &Code, fuel: u64, s: State, f: &mut Follow) -> Evaluated {
     match &c.node {
         Node::Ins(ins) => {
-            f.step()?;
+            f.comes_next(c.place, &s)?;
             let s = eval_ins(ins, c.place, s, f);
-            f.may_go_on()?;
+            f.is_checked()?;
             Ok(s)
         }
         Node::Block(codes) => eval_codes(codes, fuel, s, f),
@@ -62,12 +63,12 @@ fn eval_while(
 }
 
 fn run_ocmp(mut s: State, c: &Ocmp, f: &mut Follow) -> Result<(State, bool), Stop> {
-    f.step()?;
+    f.comes_next(c.place, &s)?;
     let [left, right] = [c.left, c.right].map(|o| locate(o, &s.regs));
     // One check in the source; its number is that of the operand which fails first.
     let judged = valid_operand(left, &s).and_then(|()| valid_operand(right, &s));
     s.ok &= f.log.check(judged, c.place, &s);
-    f.may_go_on()?;
+    f.is_checked()?;
     let b = holds(c.relation, f.operand(left, &s), f.operand(right, &s));
     s.flags = f.settings.fill;
     Ok((s, b))

@@ -40,7 +40,8 @@ fn always() -> Ocmp {
     Ocmp::unplaced(Relation::Eq, ONE, ONE)
 }
 
-/// The bad events, the end's `ok` and Rax (none after None), and the steps.
+/// The bad events, the end's `ok` and Rax (none after None), and how much was
+/// followed.
 fn followed(code: &Code, fuel: u64, mode: Mode) -> (Vec<Event>, Option<(bool, u64)>, u64) {
     let settings = Settings {
         mode,
@@ -48,7 +49,7 @@ fn followed(code: &Code, fuel: u64, mode: Mode) -> (Vec<Event>, Option<(bool, u6
     };
     let mut f = Follow::new(settings);
     let end = eval_code(code, fuel, state(&[]), &mut f).ok();
-    (f.log.bad, end.map(|s| (s.ok, s.regs[0])), f.steps)
+    (f.log.bad, end.map(|s| (s.ok, s.regs[0])), f.followed)
 }
 
 #[test]
@@ -58,12 +59,12 @@ fn a_block_does_not_look_at_ok() {
         ins(9, Mov64(A, NOWHERE)),
         ins(12, Add64(ONE, NOWHERE)),
     ]);
-    let (bad, end, steps) = followed(&code, 0, Mode::RunsOn);
+    let (bad, end, count) = followed(&code, 0, Mode::RunsOn);
     let expected = [(32, 3), (31, 9), (31, 12), (32, 12)];
     assert_eq!(bad, expected.map(|(n, p)| Event::Failed(n, p)));
-    assert_eq!((end, steps), (Some((false, OFF_MEM64)), 3));
-    let (bad, end, steps) = followed(&code, 0, Mode::StopsAtFirst);
-    assert_eq!((bad.len(), end, steps), (1, None, 1));
+    assert_eq!((end, count), (Some((false, OFF_MEM64)), 3));
+    let (bad, end, count) = followed(&code, 0, Mode::StopsAtFirst);
+    assert_eq!((bad.len(), end, count), (1, None, 1));
 }
 
 #[test]
@@ -82,6 +83,29 @@ fn a_failed_check_comes_before_a_later_starvation() {
     let (bad, end, _) = followed(&code, 0, Mode::RunsOn);
     assert_eq!(bad, [Event::Failed(32, 1), Event::Starved(20)]);
     assert_eq!(end, None);
+}
+
+/// The limit is met at 9: what comes then is followed as without one, makes no
+/// steps and meets no limit again. The snapshot is from ahead of 9.
+#[test]
+fn the_source_runs_on_past_the_limit() {
+    let inner = while_loop(20, always(), block(Vec::new()));
+    let code = block(vec![
+        ins(3, Add64(A, ONE)),
+        ins(9, Add64(A, ONE)),
+        ins(12, Mov64(ONE, ONE)),
+        inner,
+    ]);
+    let mut f = Follow::new(Settings::limited(0, 1));
+    assert!(eval_code(&code, 0, state(&[]), &mut f).is_err());
+    let expected = [
+        Event::LimitMet(9),
+        Event::Failed(32, 12),
+        Event::Starved(20),
+    ];
+    assert_eq!(f.log.bad, expected);
+    assert_eq!((f.followed, f.steps_made), (3, 1));
+    assert_eq!(f.log.before_first.unwrap().regs[0], 1);
 }
 
 #[test]

@@ -1,6 +1,7 @@
 //! How often each answer and number was met.
 
 use crate::answer::Answer;
+use crate::limit_tally::LimitTally;
 use crate::tree::INSTRUCTION_KINDS;
 use std::collections::BTreeMap;
 
@@ -12,8 +13,12 @@ const FAULTS: [u8; 6] = [31, 32, 33, 34, 35, 36];
 pub struct Tally {
     counts: BTreeMap<String, u64>,
     pub jobs: u64,
+    /// Instructions and comparisons, also behind a fault or a loop without fuel.
+    pub followed: u64,
+    /// The steps of the answers.
     pub steps: u64,
     pub met: [u64; INSTRUCTION_KINDS],
+    pub limits: LimitTally,
 }
 
 /// An answer without its place.
@@ -22,11 +27,13 @@ pub fn class(answer: &Answer) -> String {
         Answer::Done => "done".to_string(),
         Answer::Spent(_) => "spent".to_string(),
         Answer::Fault(number, _) => format!("fault {number:2}"),
+        Answer::Stopped(number, _) => format!("stopped {number:2}"),
         Answer::Refused(number, _) => format!("refused {number:2}"),
     }
 }
 
-/// All the classes that a job can be answered with.
+/// All the classes that a job can be answered with. No run gets as far as the
+/// job program's limit, so Stopped is not among them.
 pub fn classes() -> Vec<String> {
     let mut all = vec![class(&Answer::Done), class(&Answer::Spent(0))];
     all.extend(FAULTS.map(|n| class(&Answer::Fault(n, 0))));
@@ -61,11 +68,14 @@ impl Tally {
             let share = 100.0 * *count as f64 / self.jobs as f64;
             text.push_str(&format!("{class:<10} {count:>9}  {share:5.1} %\n"));
         }
-        text.push_str(&format!("instructions and comparisons {}\n", self.steps));
+        let (followed, steps) = (self.followed, self.steps);
+        text.push_str(&format!("instructions and comparisons {followed}\n"));
+        text.push_str(&format!("steps of the answers {steps}\n"));
         let least = self.met.iter().min().copied().unwrap_or(0);
         text.push_str(&format!(
             "rarest of the {INSTRUCTION_KINDS} instructions {least}\n"
         ));
+        text.push_str(&self.limits.report());
         text
     }
 }

@@ -1,7 +1,10 @@
-//! The program under test: something that answers a job's bytes with text.
+//! The program under test: something that answers a job's bytes with text, and
+//! maybe a job under a step limit.
 
-use crate::answer::render;
-use crate::run::answer_bytes;
+use crate::answer::{render, Outcome};
+use crate::follow::{Mode, Settings};
+use crate::job::Job;
+use crate::run::{accept, answer_bytes, outcome};
 use std::io::{Read, Write};
 use std::process::{Child, Command, Stdio};
 use std::sync::mpsc;
@@ -10,6 +13,13 @@ use std::time::Duration;
 pub trait Target {
     /// The text for one job, or why there is none.
     fn answer(&mut self, job: &[u8]) -> Result<Vec<u8>, String>;
+
+    /// The outcome of a job under a step limit, or why there is none. None
+    /// where the program under test cannot be given a limit: the job program
+    /// has its own.
+    fn limited(&mut self, _job: &Job, _limit: u64) -> Option<Result<Outcome, String>> {
+        None
+    }
 }
 
 /// How long a process may take for one job.
@@ -27,6 +37,19 @@ pub struct Own;
 impl Target for Own {
     fn answer(&mut self, job: &[u8]) -> Result<Vec<u8>, String> {
         Ok(render(&answer_bytes(job)).into_bytes())
+    }
+
+    /// Nothing is followed past the limit here; the run that this is compared
+    /// with goes on.
+    fn limited(&mut self, job: &Job, limit: u64) -> Option<Result<Outcome, String>> {
+        let settings = Settings {
+            mode: Mode::StopsAtFirst,
+            ..Settings::limited(job.fill, limit)
+        };
+        Some(Ok(match accept(job) {
+            Ok(code) => outcome(job, &code, settings),
+            Err(trouble) => Outcome::refused(trouble),
+        }))
     }
 }
 

@@ -36,6 +36,9 @@ pub enum Answer {
     /// - 35: VPSLLDQ by another count than 4
     /// - 36: in place of 31 or 32, base + scale * index + offset, not taken modulo 2^64, is below 0 or above 2^64 - 1
     Fault { number: u8, place: usize },
+    /// The step limit was used up and an instruction or a comparison came next: the number is 37, and the place is
+    /// that of what came next, none of whose checks was made.
+    Stopped { number: u8, place: usize },
     /// A While at this place was met without fuel.
     Spent { place: usize },
     /// Code or cells were not accepted.
@@ -69,10 +72,31 @@ pub struct Cells<'a> {
 }
 
 /// What a caller names for a run beside code, cells and start.
-#[derive(Clone, Copy, Debug, Default, PartialEq, Eq)]
+#[derive(Clone, Copy, Debug, PartialEq, Eq)]
 pub struct Setting {
     pub fill: u64,
     pub fuel: u32,
+    /// The most steps that the run may make.
+    pub limit: u64,
+}
+
+/// No limit and no fuel: of a run with this setting every step is made that comes before a loop.
+impl Default for Setting {
+    fn default() -> Setting {
+        Setting {
+            fill: 0,
+            fuel: 0,
+            limit: u64::MAX,
+        }
+    }
+}
+
+/// What a run answers beside state and cells.
+#[derive(Clone, Copy, Debug, PartialEq, Eq)]
+pub struct End {
+    pub answer: Answer,
+    /// The instructions that were completed and the comparisons that passed their checks; 0 for a refusal.
+    pub steps: u64,
 }
 
 /// Checks code.
@@ -103,8 +127,8 @@ pub fn check_cells(addresses: &[u64], tags: &[u8], values: &[u64]) -> Result<(),
 
 /// Runs code over lent cells, from a start to its exact end, both in `state` and the cells' values. A refused run
 /// leaves both as they were.
-pub fn run(code: &[u8], cells: Cells<'_>, state: &mut State, setting: Setting) -> Answer {
-    let (mut number, mut place) = (0, 0);
+pub fn run(code: &[u8], cells: Cells<'_>, state: &mut State, setting: Setting) -> End {
+    let (mut number, mut place, mut steps) = (0, 0, 0);
     // SAFETY: what is lent lives through the call, which keeps none of it; what is written is borrowed apart from
     // all else.
     let kind = unsafe {
@@ -122,16 +146,20 @@ pub fn run(code: &[u8], cells: Cells<'_>, state: &mut State, setting: Setting) -
             &mut state.flags,
             setting.fill,
             setting.fuel,
+            setting.limit,
             &mut number,
             &mut place,
+            &mut steps,
         )
     };
-    match kind {
+    let answer = match kind {
         0 => Answer::Done,
         1 => Answer::Fault { number, place },
         2 => Answer::Spent { place },
+        4 => Answer::Stopped { number, place },
         _ => Answer::Refused(Refusal { number, place }),
-    }
+    };
+    End { answer, steps }
 }
 
 /// The room that the text of a job is given; it needs no more.

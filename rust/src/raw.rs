@@ -57,8 +57,10 @@ extern "C" {
         flags: &mut u64,
         fill: u64,
         fuel: u32,
+        limit: u64,
         number: &mut u8,
         place: &mut usize,
+        steps: &mut u64,
     ) -> u8;
 
     pub fn pokchrei_job(

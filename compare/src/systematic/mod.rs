@@ -9,16 +9,18 @@ mod faults;
 mod flags;
 mod fuel;
 mod lanes;
+mod limited;
 mod refusals;
 mod roles;
 mod stage;
+mod steps;
 mod wild;
 mod words;
 
 use crate::answer::render;
 use crate::batch::own_answer;
 use crate::job::Job;
-use crate::store::Record;
+use crate::store::{LimitedRecord, Record};
 use crate::tally::Tally;
 use std::collections::BTreeSet;
 
@@ -35,6 +37,7 @@ fn jobs() -> Vec<Vec<u8>> {
     bytes.extend(refusals::jobs());
     bytes.extend(counts::jobs().iter().map(Job::to_bytes));
     bytes.extend(wild::jobs().iter().map(Job::to_bytes));
+    bytes.extend(steps::jobs().iter().map(Job::to_bytes));
     // Groups meet, so some jobs come twice.
     let mut met = BTreeSet::new();
     bytes.retain(|job| met.insert(job.clone()));
@@ -58,12 +61,53 @@ pub fn records() -> Result<Vec<Record>, String> {
     }
 }
 
+/// Pairs of a job and a step limit, with the text that the job program would
+/// print under that limit.
+pub fn limited() -> Result<Vec<LimitedRecord>, String> {
+    limited::records(&jobs())
+}
+
 #[cfg(test)]
 mod tests {
+    use crate::checks::limit_holds;
+    use crate::follow::Settings;
+    use crate::job::parse;
+    use crate::run::{accept, answer};
+
     #[test]
     fn every_class_is_met() {
         let records = super::records().unwrap();
         assert!(records.len() > 500);
         assert!(crate::store::as_bytes(&records).len() < 3 << 19);
+    }
+
+    /// All of `steps.rs`, at the end, none of them dropped as a copy.
+    #[test]
+    fn jobs_of_steps_come_last() {
+        let own = super::steps::jobs();
+        assert_eq!(own.len(), 79);
+        let own: Vec<Vec<u8>> = own.iter().map(super::Job::to_bytes).collect();
+        assert!(super::jobs().ends_with(&own));
+    }
+
+    #[test]
+    fn every_kind_of_stop_is_met() {
+        let records = super::limited().unwrap();
+        assert!((300..=400).contains(&records.len()));
+        assert!(crate::store::limited_as_bytes(&records).len() < 300_000);
+    }
+
+    /// Every limit up to the steps and one beyond, for all the jobs that run.
+    #[test]
+    fn every_limit_holds() {
+        for bytes in super::jobs() {
+            let Ok(job) = parse(&bytes) else { continue };
+            let Ok(code) = accept(&job) else { continue };
+            let unlimited = answer(&job, u64::MAX);
+            for limit in 0..=unlimited.steps + 1 {
+                let settings = Settings::limited(job.fill, limit);
+                limit_holds(&job, &code, &unlimited, settings).unwrap();
+            }
+        }
     }
 }

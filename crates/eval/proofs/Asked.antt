@@ -4,6 +4,7 @@ use Prim.Native.Nat.{ℕ, _+_, _-_, _*_, _%_, _^_, _≤_, _<_}
 use mathlib.Core.Path.{_≡_, refl, sym, ap, _∙_}
 use mathlib.Core.Bool.{Bool, true, false, _&&_, cond}
 use mathlib.Core.List.{List, []}
+use mathlib.Core.Option.{Option, some}
 use native.Mathlib.Omega.{arith}
 use lib.Dec.{eqb, leb}
 use lib.ListN.{length, getD, set}
@@ -33,11 +34,12 @@ use Rattle.code.proofs.Frames.{operand-frame}
 use Rattle.code.proofs.CodeFrames.{ocmp-frame}
 use Rattle.code.proofs.Families.{Stood, ins-inside, lane-kinds, two-stood, lea-stood, mul-stood, mulx-stood, quads-stood, shifts-stood, shuffle-stood, word-shift-stood, extract-stood, inserts-stood}
 use Rattle.code.proofs.Forms.{constant-is, register-is, register-below}
-use Rattle.eval.specs.Config.{Env, Config, with-flags, ends}
+use Rattle.eval.specs.Config.{Env, Config, with-flags}
 use Rattle.eval.specs.Config as Config
+use Rattle.eval.specs.Counted.{Counted, counted, ended}
 use Rattle.eval.specs.Running.{run-of}
 use Rattle.eval.specs.Instructions.{checks-amount, two-word, two-flags, inserts-word, run-ins}
-use Rattle.eval.specs.Promises.{environment, held, Cells, CodeAt, CodesAt, InsAt, OcmpAt, codes-from, Loads, Seeks, Resolves, no-slot, put-regs, put-values, comparison, Compares, ComparesAt, Ran, Runs, RunsIns, RunsAll}
+use Rattle.eval.specs.Promises.{environment, held, Cells, CodeAt, CodesAt, InsAt, OcmpAt, codes-from, Loads, Seeks, Resolves, no-slot, put-regs, put-values, comparison, Compares, Ran, StepsIns, DecidesAt, Runs, RunsIns, RunsAll}
 use Rattle.eval.specs.declared.exit.Exit.{Exit}
 use Rattle.eval.specs.declared.operand.Sought.{Sought}
 use Rattle.eval.specs.declared.operand.Loaded.{Loaded}
@@ -48,7 +50,7 @@ use Rattle.eval.proofs.InstructionLaws.{exit, ran-stood, load-at, slot-
 use Rattle.eval.proofs.LaneLaws.{extract-unwritten, extract-done, inserts-unread, inserts-done}
 use Rattle.eval.proofs.ComparisonLaws.{stands-inside, first-unread, second-unread, compared}
 use Rattle.eval.proofs.RunLaws.{code-refused, cells-refused}
-use Rattle.eval.proofs.CycleLaws.{code-frame, starts, has-length, block-inside, choice-inside, loop-inside, how-done, ins-ran, codes-past, Going, next-there, next-past, block-codes, block-ran, if-unread, Chosen, chosen-there, chosen-ran, Looping, loop-ran, loop-spent, loop-unread, loop-done, Round, round-ends, round-there, round-goes, round-stops}
+use Rattle.eval.proofs.CycleLaws.{code-frame, starts, has-length, block-inside, choice-inside, loop-inside, how-done, ins-ran, codes-past, Going, next-there, next-past, block-codes, block-ran, if-stops, Chosen, chosen-there, chosen-ran, Looping, loop-ran, loop-spent, loop-stopped, loop-done, Round, round-ends, round-there, round-goes, round-stops}
 
 -- ---- an operand, of which a form was decoded, and the place next behind it
 abbrev Finds : List ℕ → List ℕ → List ℕ → List ℕ → ℕ → ℕ → Sought → Type 0
@@ -583,45 +585,47 @@ module _ (bs : List ℕ) (at n : ℕ) (c : CodeAt bs at) (k : byte-at bs at ≡ 
   codes-of-block = block-codes bs at _ k (ap (λ (m : ℕ). at + 5 + m) size) c
 
 pub block-done :
-    (env : Env) (bs : List ℕ) (at n fuel : ℕ) (s : Config) (r : Exit) (t : Config) →
+    (env : Env) (limit : Option ℕ) (bs : List ℕ) (at n fuel : ℕ) (s : Config) (k : Counted) (r : Exit) (t : Config) (l : Counted) →
     byte-at bs at ≡ 0x20 → n ≡ number-at 4 bs (at + 1) →
-    RunsAll env bs (at + 5) (at + 5 + n) fuel s r t → Runs env bs at fuel s r t
-block-done env bs at n fuel s r t k size ran =
-    block-ran env bs at _ fuel s k (ap (λ (m : ℕ). at + 5 + m) size) r t ran
+    RunsAll env limit bs (at + 5) (at + 5 + n) fuel s k r t l → Runs env limit bs at fuel s k r t l
+block-done env limit bs at n fuel s k r t l kind size ran =
+    block-ran env limit bs at _ fuel s k kind (ap (λ (m : ℕ). at + 5 + m) size) r t l ran
 
 -- ---- a list of codes, at the code that is next
-module _ (env : Env) (bs : List ℕ) (from e fuel : ℕ) (s₀ : Config) (at : ℕ) (s : Config) (g : Going env bs from e fuel s₀ at s)
-    (c : CodesAt bs from e) (l : at < e) where
+module _ (env : Env) (limit : Option ℕ) (bs : List ℕ) (from e fuel : ℕ) (s₀ : Config) (k₀ : Counted) (at : ℕ) (s : Config) (k : Counted)
+    (g : Going env limit bs from e fuel s₀ k₀ at s k) (c : CodesAt bs from e) (inside : at < e) where
   pub next-code : CodeAt bs at
-  next-code = next-there env bs from e fuel s₀ at s g l (c .inside)
+  next-code = next-there env limit bs from e fuel s₀ k₀ at s k g inside (c .inside)
 
   pub next-ins : byte-at bs at < 0x20 → InsAt bs at
-  next-ins k = (next-code .end, code-frame bs at next-code .ins k, next-code .inside)
+  next-ins kind = (next-code .end, code-frame bs at next-code .ins kind, next-code .inside)
 
   -- it is measured less than the list
   pub next-less : (m : ℕ) → fuel + (length bs - from) ≡ m → fuel + (length bs - (at + 1)) < m
   next-less m is = omega (arith, starts bs at next-code, g .past)
 
   -- what was run leaves less of the list
-  pub rest-less : (r : Exit) (t : Config) → Runs env bs at fuel s r t → r .number ≡ 0 → e - r .place < e - at
-  rest-less r t ran z = let p = next-past env bs from e fuel s₀ at s g r t ran l z in omega (arith, p .0, p .1)
+  pub rest-less : (r : Exit) (t : Config) (l : Counted) → Runs env limit bs at fuel s k r t l → r .number ≡ 0 → e - r .place < e - at
+  rest-less r t l ran z = let p = next-past env limit bs from e fuel s₀ k₀ at s k g r t l ran inside z in omega (arith, p .0, p .1)
 
   pub rest-less-ins :
-      (r : Exit) (t : Config) → RunsIns env bs at s r t → byte-at bs at < 0x20 → r .number ≡ 0 → e - r .place < e - at
-  rest-less-ins r t ran k z = rest-less r t (ins-ran env bs at fuel s r t k ran) z
+      (r : Exit) (t : Config) (l : Counted) → StepsIns env limit bs at s k r t l → byte-at bs at < 0x20 → r .number ≡ 0 → e - r .place < e - at
+  rest-less-ins r t l ran kind z = rest-less r t l (ins-ran env limit bs at fuel s k r t l kind ran) z
 
--- ---- a comparison, which answers x whatever fill word, flags and xmms are
-abbrev Answers : List ℕ → List ℕ → List ℕ → ℕ → List ℕ → List ℕ → Compared → Type 0
-Answers addresses tags bs at regs values x =
-    (fill flags : ℕ) (xmms : List ℕ) → ComparesAt (environment addresses tags fill) bs at (held regs xmms flags values) x
+-- ---- a comparison as a step, which answers x whatever the xmms are
+abbrev Answers : ℕ → List ℕ → List ℕ → ℕ → List ℕ → ℕ → List ℕ → List ℕ → ℕ → Counted → Compared → ℕ → Counted → Type 0
+Answers limit addresses tags fill bs at regs values flags k x flags′ l =
+    (xmms : List ℕ) →
+    DecidesAt (environment addresses tags fill) (some limit) bs at (held regs xmms flags values) k x (held regs xmms flags′ values) l
 
 -- x goes on behind it
 pub record GoesOn (bs : List ℕ) (at : ℕ) (x : Compared) : Type 0 where
   pub next : (e : ℕ) → Stands is-ocmp bs at e → x .next ≡ e
 
 pub goes-on :
-    {addresses tags bs regs values : List ℕ} {at : ℕ} {x : Compared} → Answers addresses tags bs at regs values x → x .how ≤ 1 → GoesOn bs at x
-goes-on a read = record { next = λ e h. a 0 0 [] e h .next read }
+    {addresses tags bs regs values : List ℕ} {limit fill at flags flags′ : ℕ} {k l : Counted} {x : Compared} →
+    Answers limit addresses tags fill bs at regs values flags k x flags′ l → x .how ≤ 1 → GoesOn bs at x
+goes-on a read = record { next = λ e h. a [] e h .next read }
 
 -- ---- an IfElse
 module _ (bs : List ℕ) (at : ℕ) (kind : byte-at bs at ≡ 0x21) where
@@ -647,25 +651,27 @@ module _ (bs : List ℕ) (at : ℕ) (kind : byte-at bs at ≡ 0x21) where
         pub choice-fits : (o : ℕ) → o ≡ number-at 4 bs (at + 5) → Fits w64 (x .next + n + o)
         choice-fits o other = let w = choice-inside bs at c kind in omega (arith, w .within, g .next (w .mid) (w .stands))
 
-pub choice-unread :
-    (addresses tags bs regs xmms values : List ℕ) (fill at fuel flags : ℕ) (x : Compared) →
-    byte-at bs at ≡ 0x21 → Answers addresses tags bs (at + 9) regs values x → 1 < x .how →
-    Runs (environment addresses tags fill) bs at fuel (held regs xmms flags values) (exit (x .how) (at + 9)) (held regs xmms flags values)
-choice-unread addresses tags bs regs xmms values fill at fuel flags x kind a h =
-    if-unread _ bs at fuel _ kind x (a fill flags xmms) h
+pub choice-stops :
+    (limit : ℕ) (addresses tags bs regs xmms values : List ℕ) (fill at fuel flags flags′ : ℕ) (k l : Counted) (x : Compared) →
+    byte-at bs at ≡ 0x21 → Answers limit addresses tags fill bs (at + 9) regs values flags k x flags′ l → 1 < x .how →
+    Runs (environment addresses tags fill) (some limit) bs at fuel (held regs xmms flags values) k (exit (x .how) (at + 9))
+    (held regs xmms flags′ values) l
+choice-stops limit addresses tags bs regs xmms values fill at fuel flags flags′ k l x kind a h =
+    if-stops _ _ bs at fuel _ _ kind x _ _ (a xmms) h
 
 -- the part that it goes on with, where the evaluator has come to it with the measure m
-pub record Branch (env : Env) (bs : List ℕ) (at fuel m : ℕ) (s : Config) (x : Compared) (part behind end : ℕ) : Type 0 where
-  pub chosen : Chosen env bs at s x part behind end
+pub record Branch (env : Env) (limit : Option ℕ) (bs : List ℕ) (at fuel m : ℕ) (s : Config) (k : Counted) (x : Compared) (u : Config) (j : Counted)
+    (part behind end : ℕ) : Type 0 where
+  pub chosen : Chosen env limit bs at s k x u j part behind end
   pub code : CodeAt bs at
   pub cells : Cells (env .addresses) (env .tags) (s .values)
   pub measured : fuel + (length bs - (at + 5)) ≡ m
 
-module _ (env : Env) (bs : List ℕ) (at fuel m : ℕ) (s : Config) (x : Compared) (part behind end : ℕ)
-    (w : Branch env bs at fuel m s x part behind end) where
+module _ (env : Env) (limit : Option ℕ) (bs : List ℕ) (at fuel m : ℕ) (s : Config) (k : Counted) (x : Compared) (u : Config) (j : Counted)
+    (part behind end : ℕ) (w : Branch env limit bs at fuel m s k x u j part behind end) where
   -- its code, and that there are codes to its end, which begin behind the test
   there : CodeAt bs part × CodesAt bs (codes-from bs part) behind × (at + 9 < part)
-  there = chosen-there env bs at fuel s x part behind end (w .chosen) (w .code)
+  there = chosen-there env limit bs at fuel s k x u j part behind end (w .chosen) (w .code)
 
   pub branch-code : CodeAt bs part
   branch-code = there .0
@@ -677,14 +683,14 @@ module _ (env : Env) (bs : List ℕ) (at fuel m : ℕ) (s : Config) (x : Compare
     pub branch-less : fuel + (length bs - p) < m
     branch-less = omega (arith, w .measured, starts bs part (there .0), there .2, codes-past bs part)
 
-    module _ (r : Exit) (t : Config) (ran : RunsAll env bs p behind fuel (with-flags (env .fill) s) r t) where
-      pub branch-stops : (r .number ≡ 0 → ⊥) → Runs env bs at fuel s r t
+    module _ (r : Exit) (t : Config) (l : Counted) (ran : RunsAll env limit bs p behind fuel u j r t l) where
+      pub branch-stops : (r .number ≡ 0 → ⊥) → Runs env limit bs at fuel s k r t l
       branch-stops h =
-          chosen-ran env bs at fuel s x part behind end (w .chosen) r t (rw is at ran) r refl (λ z. absurd (h z))
+          chosen-ran env limit bs at fuel s k x u j part behind end (w .chosen) r t l (rw is at ran) r refl (λ z. absurd (h z))
 
-      pub branch-done : r .number ≡ 0 → Runs env bs at fuel s (exit 0 end) t
+      pub branch-done : r .number ≡ 0 → Runs env limit bs at fuel s k (exit 0 end) t l
       branch-done h =
-          chosen-ran env bs at fuel s x part behind end (w .chosen) r t (rw is at ran)
+          chosen-ran env limit bs at fuel s k x u j part behind end (w .chosen) r t l (rw is at ran)
           (exit 0 end) (sym (how-done r h)) (λ _. refl)
 
 -- ---- a While
@@ -695,42 +701,48 @@ module _ (bs : List ℕ) (at : ℕ) (kind : byte-at bs at ≡ 0x22) where
   pub loop-test : CodeAt bs at → OcmpAt bs (at + 5)
   loop-test c = let w = loop-inside bs at c kind in (w .mid, w .stands, omega (arith, w .within))
 
-pub loop-starts : (env : Env) (bs : List ℕ) (at fuel : ℕ) (s : Config) → Looping env bs at fuel s fuel s
-loop-starts env bs at fuel s = record { same = λ _ _ _. refl; long = refl; less = omega arith }
+pub loop-starts :
+    (env : Env) (limit : Option ℕ) (bs : List ℕ) (at fuel : ℕ) (s : Config) (k : Counted) → Looping env limit bs at fuel s k fuel s k
+loop-starts env limit bs at fuel s k = record { same = λ _ _ _. refl; long = refl; less = omega arith }
 
 pub loop-is-spent :
-    (env : Env) (bs : List ℕ) (at fuel : ℕ) (s₀ : Config) (left : ℕ) (s : Config) → Looping env bs at fuel s₀ left s →
-    byte-at bs at ≡ 0x22 → left ≡ 0 → Runs env bs at fuel s₀ (exit 1 at) s
-loop-is-spent env bs at fuel s₀ left s l kind z =
-    loop-ran env bs at fuel s₀ left s l (exit 1 at) s (loop-spent env bs at left s kind z) (λ _ _ _ y. absurd (omega (arith, y)))
+    (env : Env) (limit : Option ℕ) (bs : List ℕ) (at fuel : ℕ) (s₀ : Config) (k₀ : Counted) (left : ℕ) (s : Config) (k : Counted) →
+    Looping env limit bs at fuel s₀ k₀ left s k → byte-at bs at ≡ 0x22 → left ≡ 0 → Runs env limit bs at fuel s₀ k₀ (exit 1 at) s k
+loop-is-spent env limit bs at fuel s₀ k₀ left s k w kind z =
+    loop-ran env limit bs at fuel s₀ k₀ left s k w (exit 1 at) s k (loop-spent env limit bs at left s k kind z) (λ _ _ _ y. absurd (omega (arith, y)))
 
-pub loop-is-unread :
-    (addresses tags bs regs xmms values : List ℕ) (fill at fuel left flags : ℕ) (s₀ : Config) (x : Compared) →
-    Looping (environment addresses tags fill) bs at fuel s₀ left (held regs xmms flags values) →
-    byte-at bs at ≡ 0x22 → (left ≡ 0 → ⊥) → Answers addresses tags bs (at + 5) regs values x → 1 < x .how →
-    Runs (environment addresses tags fill) bs at fuel s₀ (exit (x .how) (at + 5)) (held regs xmms flags values)
-loop-is-unread addresses tags bs regs xmms values fill at fuel left flags s₀ x l kind some-fuel a h =
-    loop-ran _ bs at fuel s₀ left _ l _ _ (loop-unread _ bs at left _ kind some-fuel x (a fill flags xmms) h)
+pub loop-is-stopped :
+    (limit : ℕ) (addresses tags bs regs xmms values : List ℕ) (fill at fuel left flags flags′ : ℕ) (s₀ : Config) (k₀ k l : Counted) (x : Compared) →
+    Looping (environment addresses tags fill) (some limit) bs at fuel s₀ k₀ left (held regs xmms flags values) k →
+    byte-at bs at ≡ 0x22 → (left ≡ 0 → ⊥) → Answers limit addresses tags fill bs (at + 5) regs values flags k x flags′ l → 1 < x .how →
+    Runs (environment addresses tags fill) (some limit) bs at fuel s₀ k₀ (exit (x .how) (at + 5)) (held regs xmms flags′ values) l
+loop-is-stopped limit addresses tags bs regs xmms values fill at fuel left flags flags′ s₀ k₀ k l x w kind some-fuel a h =
+    loop-ran _ _ bs at fuel s₀ k₀ left _ _ w _ _ _ (loop-stopped _ _ bs at left _ _ kind some-fuel x _ _ (a xmms) h)
     (λ _ _ _ z. absurd (omega (arith, z)))
 
 -- a round, where the evaluator has come to it with the measure m
-pub record Turn (env : Env) (bs : List ℕ) (at fuel m : ℕ) (s₀ : Config) (left : ℕ) (s : Config) (x : Compared) (end : ℕ) : Type 0 where
-  pub round : Round env bs at left s x end
-  pub looping : Looping env bs at fuel s₀ left s
+pub record Turn (env : Env) (limit : Option ℕ) (bs : List ℕ) (at fuel m : ℕ) (s₀ : Config) (k₀ : Counted) (left : ℕ) (s : Config) (k : Counted)
+    (x : Compared) (u : Config) (j : Counted) (end : ℕ) : Type 0 where
+  pub round : Round env limit bs at left s k x u j end
+  pub looping : Looping env limit bs at fuel s₀ k₀ left s k
   pub code : CodeAt bs at
   pub cells : Cells (env .addresses) (env .tags) (s₀ .values)
   pub measured : fuel + (length bs - (at + 5)) ≡ m
 
-module _ (env : Env) (bs : List ℕ) (at fuel m : ℕ) (s₀ : Config) (left : ℕ) (s : Config) (x : Compared) (end : ℕ)
-    (w : Turn env bs at fuel m s₀ left s x end) where
+module _ (env : Env) (limit : Option ℕ) (bs : List ℕ) (at fuel m : ℕ) (s₀ : Config) (k₀ : Counted) (left : ℕ) (s : Config) (k : Counted)
+    (x : Compared) (u : Config) (j : Counted) (end : ℕ) (w : Turn env limit bs at fuel m s₀ k₀ left s k x u j end) where
   pub turn-fits : length bs * 1 < 2 ^ 63 → Fits w64 end
   turn-fits room =
       let l = loop-inside bs at (w .code) (w .round .kind) in
       omega (arith, l .within, w .round .compared (l .mid) (l .stands) .next (w .round .read), w .round .end-is)
 
+  -- there is less fuel for the rounds that follow
+  pub turn-less : left - 1 < left
+  turn-less = omega (arith, w .round .some-fuel)
+
   -- the body's code, and that there are codes to its end, which begin behind the test
   body-there : CodeAt bs (x .next) × CodesAt bs (codes-from bs (x .next)) end × (at + 5 < x .next)
-  body-there = round-there env bs at left s x end (w .round) (w .code)
+  body-there = round-there env limit bs at left s k x u j end (w .round) (w .code)
 
   pub body-code : CodeAt bs (x .next)
   body-code = body-there .0
@@ -743,41 +755,39 @@ module _ (env : Env) (bs : List ℕ) (at fuel m : ℕ) (s₀ : Config) (left : �
     body-less =
         omega (arith, w .measured, w .looping .less, starts bs (x .next) (body-there .0), body-there .2, codes-past bs (x .next))
 
-    module _ (holds : x .how ≡ 0 → ⊥) (r : Exit) (t : Config)
-        (ran : RunsAll env bs p end (left - 1) (with-flags (env .fill) s) r t) where
-      pub turn-stops : (r .number ≡ 0 → ⊥) → Runs env bs at fuel s₀ r t
+    module _ (holds : x .how ≡ 0 → ⊥) (r : Exit) (t : Config) (l : Counted) (ran : RunsAll env limit bs p end (left - 1) u j r t l) where
+      pub turn-stops : (r .number ≡ 0 → ⊥) → Runs env limit bs at fuel s₀ k₀ r t l
       turn-stops h =
-          loop-ran env bs at fuel s₀ left s (w .looping) r t
-          (round-stops env bs at left s x end (w .round) holds r t (rw is at ran) h) (λ _ _ _ z. absurd (h z))
+          loop-ran env limit bs at fuel s₀ k₀ left s k (w .looping) r t l
+          (round-stops env limit bs at left s k x u j end (w .round) holds r t l (rw is at ran) h) (λ _ _ _ z. absurd (h z))
 
-      pub turn-goes : r .number ≡ 0 → length (t .values) ≡ length (s .values) → Looping env bs at fuel s₀ (left - 1) t
+      pub turn-goes : r .number ≡ 0 → length (t .values) ≡ length (s .values) → Looping env limit bs at fuel s₀ k₀ (left - 1) t l
       turn-goes h long =
-          let goes = round-goes env bs at left s x end (w .round) holds r t (rw is at ran) h in
+          let goes = round-goes env limit bs at left s k x u j end (w .round) holds r t l (rw is at ran) h in
           record {
             same = λ c e y. w .looping .same c e y ∙ goes c e y;
             long = long ∙ w .looping .long;
             less = omega (arith, w .looping .less);
           }
 
-pub turn-done :
-    (env : Env) (bs : List ℕ) (at fuel m : ℕ) (s₀ : Config) (left : ℕ) (regs xmms values : List ℕ) (flags : ℕ) (x : Compared)
-    (end : ℕ) → Turn env bs at fuel m s₀ left (held regs xmms flags values) x end →
-    x .how ≡ 0 → Runs env bs at fuel s₀ (exit 0 end) (held regs xmms (env .fill) values)
-turn-done env bs at fuel m s₀ left regs xmms values flags x end w h =
-    let r = w .round in
-    loop-ran env bs at fuel s₀ left _ (w .looping) _ _ (loop-done env bs at left _ (r .kind) (r .some-fuel) x (r .compared) h)
-    (λ c e y _. round-ends env bs at left _ x end r c e y)
+  pub turn-done : x .how ≡ 0 → Runs env limit bs at fuel s₀ k₀ (exit 0 end) u j
+  turn-done h =
+      let r = w .round in
+      loop-ran env limit bs at fuel s₀ k₀ left s k (w .looping) _ _ _
+      (loop-done env limit bs at left s k (r .kind) (r .some-fuel) x u j (r .compared) h)
+      (λ c e y _. round-ends env limit bs at left s k x u j end r c e y)
 
 -- ---- what a check answered is the verdict of its definition
 pub is-accepted : (v : Checked) (w : Verdict) → verdict v ≡ w → v ≡ Accepted → w ≡ accepted
 is-accepted v w is e = sym is ∙ ap verdict e
 
-module _ (bs addresses tags : List ℕ) (fill fuel : ℕ) (s : Config) (v : Checked) (is-code : verdict v ≡ check-code bs) where
-  pub refused-code : (n p : ℕ) → v ≡ Refused n p → ends (Config.refused n p) s ≡ run-of bs (environment addresses tags fill) fuel s
-  refused-code n p e = code-refused bs _ fuel s n p (sym is-code ∙ ap verdict e)
+module _ (bs addresses tags : List ℕ) (fill fuel : ℕ) (limit : Option ℕ) (s : Config) (v : Checked) (is-code : verdict v ≡ check-code bs) where
+  pub refused-code :
+      (n p : ℕ) → v ≡ Refused n p → ended (Config.refused n p) s (counted 0) ≡ run-of bs (environment addresses tags fill) fuel limit s
+  refused-code n p e = code-refused bs _ fuel limit s n p (sym is-code ∙ ap verdict e)
 
   pub refused-cells :
       v ≡ Accepted → (u : Checked) → verdict u ≡ check-cells addresses tags (s .values) → (n i : ℕ) → u ≡ Refused n i →
-      ends (Config.refused n i) s ≡ run-of bs (environment addresses tags fill) fuel s
+      ended (Config.refused n i) s (counted 0) ≡ run-of bs (environment addresses tags fill) fuel limit s
   refused-cells e u is n i f =
-      cells-refused bs _ fuel s (is-accepted v _ is-code e) n i (sym is ∙ ap verdict f)
+      cells-refused bs _ fuel limit s (is-accepted v _ is-code e) n i (sym is ∙ ap verdict f)

@@ -3,27 +3,27 @@ use Prim.Native.Nat.{ℕ, zero, suc, _+_, _-_, _≤_, _<_}
 use mathlib.Core.Path.{_≡_, refl, sym, ap, subst, _∙_}
 use mathlib.Core.Bool.{Bool, true, false, cond}
 use mathlib.Core.List.{List}
+use mathlib.Core.Option.{Option}
 use mathlib.Core.Logic.{_⊎_, inl, inr, ⊎-elim}
 use native.Mathlib.Omega.{arith}
 use native.Mathlib.Numerals.{sub-one}
 use borrow.Author.Tests.{eq-eqb, ne-eqb, eqb-true}
 use lib.Dec.{eqb}
 use lib.ListN.{length}
-use Rattle.machine.proofs.OperandLaws.{unread-above}
 use Rattle.code.specs.declared.tree.Ocmp.{Ocmp}
-use Rattle.code.specs.Layout.{ocmp-layout}
 use Rattle.code.specs.Tree.{Code, Codes, ⟨⟩, _∷ᶜ_}
 use Rattle.code.specs.Records.{is-ocmp, byte-at, number-at, ocmp-at}
 use Rattle.code.specs.Spells.{Stands, Spells, SpellsAll}
 use Rattle.code.proofs.Sound.{stands-past}
 use Rattle.code.proofs.CodeFrames.{Frame, frame, ins-there, block-there, if-there, while-there, first-there, none-there, list-of-one, structure-long}
-use Rattle.eval.specs.Config.{Env, Config, with-flags, Outcome, done, fault, spent, refused, End, ends, continue, and-then, check, choose}
-use Rattle.eval.specs.Instructions.{valid-operand, valid-ocmp, ocmp-number, eval-ocmp}
-use Rattle.eval.specs.Running.{run-ocmp, rounds, run-code, run-codes}
-use Rattle.eval.specs.Promises.{how, Ran, RunsIns, Compares, ComparesAt, CodeAt, CodesAt, codes-from, Runs, RunsAll}
+use Rattle.eval.specs.Config.{Env, Config, Outcome, done, fault, stopped, spent, refused}
+use Rattle.eval.specs.Instructions.{eval-ocmp}
+use Rattle.eval.specs.Counted.{Counted, Ended, ended, Part, continue, and-then}
+use Rattle.eval.specs.Running.{choose, rounds, run-code, run-codes}
+use Rattle.eval.specs.Promises.{how, Reached, StepsIns, Decides, DecidesAt, CodeAt, CodesAt, codes-from, Runs, RunsAll}
 use Rattle.eval.specs.declared.exit.Exit.{Exit}
 use Rattle.eval.specs.declared.comparison.Compared.{Compared}
-use Rattle.eval.proofs.InstructionLaws.{exit, check-fails}
+use Rattle.eval.proofs.InstructionLaws.{exit}
 
 pub code-frame : (bs : List ℕ) (at : ℕ) (c : CodeAt bs at) → Frame bs at (c .end)
 code-frame bs at c = frame (c .code) bs at (c .end) (c .spelled)
@@ -62,51 +62,55 @@ loop-inside bs at c k =
     record { mid = w .0; stands = w .1; past = w .2; within = omega (arith, w .3, c .inside) }
 
 -- ---- what follows an exit
-stopped :
-    (b : Bool) (n p : ℕ) (s : Config) (k : Config → End) →
-    continue (cond b (spent p) (fault n p)) s k ≡ ends (cond b (spent p) (fault n p)) s
+stops-there :
+    (b c : Bool) (n p : ℕ) (s : Config) (k : Counted) (f : Part) →
+    continue (cond b (spent p) (cond c (stopped n p) (fault n p))) s k f ≡ ended (cond b (spent p) (cond c (stopped n p) (fault n p))) s k
 unfolding continue
-stopped true n p s k = refl
-stopped false n p s k = refl
+stops-there true c n p s k f = refl
+stops-there false true n p s k f = refl
+stops-there false false n p s k f = refl
 
 pub how-done : (r : Exit) → r .number ≡ 0 → how r ≡ done
 how-done r h = rw (eq-eqb (r .number) 0 h)
 
-how-stops :
-    (r : Exit) (s : Config) (k : Config → End) → (r .number ≡ 0 → ⊥) → continue (how r) s k ≡ ends (how r) s
-how-stops r s k h = rw (ne-eqb (r .number) 0 h) (stopped (eqb (r .number) 1) (r .number) (r .place) s k)
+pub how-stops :
+    (r : Exit) (s : Config) (k : Counted) (f : Part) → (r .number ≡ 0 → ⊥) → continue (how r) s k f ≡ ended (how r) s k
+how-stops r s k f h = rw (ne-eqb (r .number) 0 h) (stops-there (eqb (r .number) 1) (eqb (r .number) 37) (r .number) (r .place) s k f)
 
-module _ (f : End) (m : ℕ) (r : Exit) (t : Config) (ran : Ran f m r t) (k : Config → End) where
-  goes-on : r .number ≡ 0 → and-then f k ≡ k t
+module _ (e : Ended) (m : ℕ) (r : Exit) (t : Config) (l : Counted) (ran : Reached e m r t l) (f : Part) where
+  goes-on : r .number ≡ 0 → and-then e f ≡ f t l
   unfolding continue
   goes-on h =
-      ap (λ (e : End). and-then e k) (sym (ran .ends)) ∙ ap (λ (o : Outcome). continue o t k) (how-done r h)
+      ap (λ (x : Ended). and-then x f) (sym (ran .ends)) ∙ ap (λ (o : Outcome). continue o t l f) (how-done r h)
 
-  stops : (r .number ≡ 0 → ⊥) → and-then f k ≡ ends (how r) t
-  stops h = ap (λ (e : End). and-then e k) (sym (ran .ends)) ∙ how-stops r t k h
+  stops : (r .number ≡ 0 → ⊥) → and-then e f ≡ ended (how r) t l
+  stops h = ap (λ (x : Ended). and-then x f) (sym (ran .ends)) ∙ how-stops r t l f h
 
 -- nothing follows a list of one
-done-last : (o : Outcome) (s : Config) → continue o s (ends done) ≡ ends o s
+done-last : (o : Outcome) (s : Config) (k : Counted) → continue o s k (ended done) ≡ ended o s k
 unfolding continue
-done-last done s = refl
-done-last (fault n p) s = refl
-done-last (spent p) s = refl
-done-last (refused n p) s = refl
+done-last done s k = refl
+done-last (fault n p) s k = refl
+done-last (stopped n p) s k = refl
+done-last (spent p) s k = refl
+done-last (refused n p) s k = refl
 
-pub run-one : (env : Env) (c : Code) (fuel : ℕ) (s : Config) → run-codes env (c ∷ᶜ ⟨⟩) fuel s ≡ run-code env c fuel s
+pub run-one :
+    (env : Env) (limit : Option ℕ) (c : Code) (fuel : ℕ) (s : Config) (k : Counted) →
+    run-codes env limit (c ∷ᶜ ⟨⟩) fuel s k ≡ run-code env limit c fuel s k
 unfolding run-codes
-run-one env c fuel s = let e = run-code env c fuel s in done-last (e .how) (e .config)
+run-one env limit c fuel s k = let e = run-code env limit c fuel s k in done-last (e .end .how) (e .end .config) (e .counted)
 
 -- ---- an instruction
 pub ins-ran :
-    (env : Env) (bs : List ℕ) (at fuel : ℕ) (s : Config) (r : Exit) (t : Config) →
+    (env : Env) (limit : Option ℕ) (bs : List ℕ) (at fuel : ℕ) (s : Config) (k : Counted) (r : Exit) (t : Config) (l : Counted) →
     byte-at bs at < 0x20 →
-    RunsIns env bs at s r t →
-    Runs env bs at fuel s r t
+    StepsIns env limit bs at s k r t l →
+    Runs env limit bs at fuel s k r t l
 unfolding run-code
-ins-ran env bs at fuel s r t k g c e h =
-    let w = ins-there c bs at e h k in
-    subst (λ (x : Code). Ran (run-code env x fuel s) e r t) (sym (w .is)) (g e (w .stands))
+ins-ran env limit bs at fuel s k r t l kind g c e h =
+    let w = ins-there c bs at e h kind in
+    subst (λ (x : Code). Reached (run-code env limit x fuel s k) e r t l) (sym (w .is)) (g e (w .stands))
 
 -- ---- a part is a list of codes: those of a Block, or the one code that it is
 module _ (bs : List ℕ) (at : ℕ) where
@@ -120,18 +124,18 @@ module _ (bs : List ℕ) (at : ℕ) where
       go false k = record { codes = c ∷ᶜ ⟨⟩; spelled = list-of-one c bs at e h; inside = l }
 
   pub part-ran :
-      (env : Env) (e fuel : ℕ) (s : Config) (r : Exit) (t : Config) →
-      RunsAll env bs (codes-from bs at) e fuel s r t → (c : Code) → Spells c bs at e → Ran (run-code env c fuel s) e r t
+      (env : Env) (limit : Option ℕ) (e fuel : ℕ) (s : Config) (k : Counted) (r : Exit) (t : Config) (l : Counted) →
+      RunsAll env limit bs (codes-from bs at) e fuel s k r t l → (c : Code) → Spells c bs at e → Reached (run-code env limit c fuel s k) e r t l
   unfolding run-code
-  part-ran env e fuel s r t g c h = go (eqb (byte-at bs at) 0x20) refl g
+  part-ran env limit e fuel s k r t l g c h = go (eqb (byte-at bs at) 0x20) refl g
     where
       go :
-          (b : Bool) → eqb (byte-at bs at) 0x20 ≡ b → RunsAll env bs (cond b (at + 5) at) e fuel s r t →
-          Ran (run-code env c fuel s) e r t
-      go true k f =
-          let w = block-there c bs at e h (eqb-true _ _ k) in
-          subst (λ (x : Code). Ran (run-code env x fuel s) e r t) (sym (w .is)) (f (w .codes) (w .spelled))
-      go false k f = subst (λ (x : End). Ran x e r t) (run-one env c fuel s) (f (c ∷ᶜ ⟨⟩) (list-of-one c bs at e h))
+          (b : Bool) → eqb (byte-at bs at) 0x20 ≡ b → RunsAll env limit bs (cond b (at + 5) at) e fuel s k r t l →
+          Reached (run-code env limit c fuel s k) e r t l
+      go true kind f =
+          let w = block-there c bs at e h (eqb-true _ _ kind) in
+          subst (λ (x : Code). Reached (run-code env limit x fuel s k) e r t l) (sym (w .is)) (f (w .codes) (w .spelled))
+      go false kind f = subst (λ (x : Ended). Reached x e r t l) (run-one env limit c fuel s k) (f (c ∷ᶜ ⟨⟩) (list-of-one c bs at e h))
 
   pub codes-past : at ≤ codes-from bs at
   codes-past = go (eqb (byte-at bs at) 0x20)
@@ -141,75 +145,79 @@ module _ (bs : List ℕ) (at : ℕ) where
       go false = omega arith
 
 -- ---- a list of codes: what holds at the head of the loop over them
-pub record Going (env : Env) (bs : List ℕ) (from e fuel : ℕ) (s₀ : Config) (at : ℕ) (s : Config) : Type 0 where
+pub record Going (env : Env) (limit : Option ℕ) (bs : List ℕ) (from e fuel : ℕ) (s₀ : Config) (k₀ : Counted) (at : ℕ) (s : Config) (k : Counted) : Type 0 where
   pub there : (cs : Codes) × SpellsAll cs bs at e
   pub same :
       (cs₀ : Codes) →
       SpellsAll cs₀ bs from e →
-      (cs : Codes) × SpellsAll cs bs at e × (run-codes env cs₀ fuel s₀ ≡ run-codes env cs fuel s)
+      (cs : Codes) × SpellsAll cs bs at e × (run-codes env limit cs₀ fuel s₀ k₀ ≡ run-codes env limit cs fuel s k)
   pub long : length (s .values) ≡ length (s₀ .values)
   pub past : from ≤ at
 
-pub going-starts : (env : Env) (bs : List ℕ) (from e fuel : ℕ) (s : Config) → CodesAt bs from e → Going env bs from e fuel s from s
-going-starts env bs from e fuel s w =
+pub going-starts :
+    (env : Env) (limit : Option ℕ) (bs : List ℕ) (from e fuel : ℕ) (s : Config) (k : Counted) → CodesAt bs from e →
+    Going env limit bs from e fuel s k from s k
+going-starts env limit bs from e fuel s k w =
     record { there = (w .codes, w .spelled); same = λ cs h. (cs, h, refl); long = refl; past = omega arith }
 
-module _ (env : Env) (bs : List ℕ) (from e fuel : ℕ) (s₀ : Config) (at : ℕ) (s : Config) (g : Going env bs from e fuel s₀ at s) where
+module _ (env : Env) (limit : Option ℕ) (bs : List ℕ) (from e fuel : ℕ) (s₀ : Config) (k₀ : Counted) (at : ℕ) (s : Config) (k : Counted)
+    (g : Going env limit bs from e fuel s₀ k₀ at s k) where
   pub next-there : at < e → e ≤ length bs → CodeAt bs at
   next-there l i =
       let w = first-there (g .there .0) bs at e (g .there .1) l in
       record { code = w .first; end = w .mid; spelled = w .spelled; inside = omega (arith, w .within) }
 
-  pub codes-done : e ≤ at → RunsAll env bs from e fuel s₀ (exit 0 e) s
+  pub codes-done : e ≤ at → RunsAll env limit bs from e fuel s₀ k₀ (exit 0 e) s k
   unfolding run-codes
   codes-done l cs h =
       let w = g .same cs h in
       record {
-        ends = sym (w .2 ∙ ap (λ (x : Codes). run-codes env x fuel s) (none-there (w .0) bs at e (w .1) l));
+        ends = sym (w .2 ∙ ap (λ (x : Codes). run-codes env limit x fuel s k) (none-there (w .0) bs at e (w .1) l));
         next = λ _. refl;
       }
 
-  module _ (r : Exit) (t : Config) (ran : Runs env bs at fuel s r t) (l : at < e) where
+  module _ (r : Exit) (t : Config) (l : Counted) (ran : Runs env limit bs at fuel s k r t l) (inside : at < e) where
     pub next-past : r .number ≡ 0 → (at < r .place) × (r .place ≤ e)
     next-past z =
-        let w = first-there (g .there .0) bs at e (g .there .1) l in
+        let w = first-there (g .there .0) bs at e (g .there .1) inside in
         let x : r .place ≡ w .mid = ran (w .first) (w .mid) (w .spelled) .next z in
         (omega (arith, w .past, x), omega (arith, w .within, x))
 
-    pub codes-go : r .number ≡ 0 → length (t .values) ≡ length (s .values) → Going env bs from e fuel s₀ (r .place) t
+    pub codes-go : r .number ≡ 0 → length (t .values) ≡ length (s .values) → Going env limit bs from e fuel s₀ k₀ (r .place) t l
     unfolding run-codes
     codes-go z v =
         let rests : (cs : Codes) (m : ℕ) → r .place ≡ m → SpellsAll cs bs m e → SpellsAll cs bs (r .place) e =
         λ cs m x h. subst (λ (y : ℕ). SpellsAll cs bs y e) (sym x) h
         in
-        let w = first-there (g .there .0) bs at e (g .there .1) l in
+        let w = first-there (g .there .0) bs at e (g .there .1) inside in
         record {
           there = (w .rest, rests (w .rest) (w .mid) (ran (w .first) (w .mid) (w .spelled) .next z) (w .spelled-rest));
           same = λ cs h.
               let u = g .same cs h in
-              let f = first-there (u .0) bs at e (u .1) l in
+              let f = first-there (u .0) bs at e (u .1) inside in
               let went = ran (f .first) (f .mid) (f .spelled) in (
                 f .rest,
                 rests (f .rest) (f .mid) (went .next z) (f .spelled-rest),
                 u .2
-                    ∙ ap (λ (x : Codes). run-codes env x fuel s) (f .is)
-                    ∙ goes-on (run-code env (f .first) fuel s) (f .mid) r t went (run-codes env (f .rest) fuel) z,
+                    ∙ ap (λ (x : Codes). run-codes env limit x fuel s k) (f .is)
+                    ∙ goes-on (run-code env limit (f .first) fuel s k) (f .mid) r t l went (run-codes env limit (f .rest) fuel) z,
               );
           long = v ∙ g .long;
           past = omega (arith, next-past z .0, g .past);
         }
 
-    pub codes-stop : (r .number ≡ 0 → ⊥) → RunsAll env bs from e fuel s₀ r t
+    pub codes-stop : (r .number ≡ 0 → ⊥) → RunsAll env limit bs from e fuel s₀ k₀ r t l
     unfolding run-codes
     codes-stop z cs h =
         let u = g .same cs h in
-        let f = first-there (u .0) bs at e (u .1) l in
+        let f = first-there (u .0) bs at e (u .1) inside in
         record {
           ends =
               sym
               (u .2
-              ∙ ap (λ (x : Codes). run-codes env x fuel s) (f .is)
-              ∙ stops (run-code env (f .first) fuel s) (f .mid) r t (ran (f .first) (f .mid) (f .spelled)) (run-codes env (f .rest) fuel) z);
+              ∙ ap (λ (x : Codes). run-codes env limit x fuel s k) (f .is)
+              ∙ stops (run-code env limit (f .first) fuel s k) (f .mid) r t l (ran (f .first) (f .mid) (f .spelled))
+              (run-codes env limit (f .rest) fuel) z);
           next = λ y. absurd (z y);
         }
 
@@ -224,66 +232,43 @@ block-codes bs at e k d c =
       inside = omega (arith, c .inside);
     }
 
-module _ (env : Env) (bs : List ℕ) (at e fuel : ℕ) (s : Config) (k : byte-at bs at ≡ 0x20) (d : e ≡ at + 5 + number-at 4 bs (at + 1)) where
-  pub block-ran : (r : Exit) (t : Config) → RunsAll env bs (at + 5) e fuel s r t → Runs env bs at fuel s r t
+module _ (env : Env) (limit : Option ℕ) (bs : List ℕ) (at e fuel : ℕ) (s : Config) (k : Counted) (kind : byte-at bs at ≡ 0x20)
+    (d : e ≡ at + 5 + number-at 4 bs (at + 1)) where
+  pub block-ran : (r : Exit) (t : Config) (l : Counted) → RunsAll env limit bs (at + 5) e fuel s k r t l → Runs env limit bs at fuel s k r t l
   unfolding run-code
-  block-ran r t g c x h =
-      let w = block-there c bs at x h k in
+  block-ran r t l g c x h =
+      let w = block-there c bs at x h kind in
       let y : x ≡ e = w .ends ∙ sym d in
       let f = g (w .codes) (subst (λ (z : ℕ). SpellsAll (w .codes) bs (at + 5) z) y (w .spelled)) in
       record {
-        ends = f .ends ∙ ap (λ (b : Code). run-code env b fuel s) (sym (w .is));
+        ends = f .ends ∙ ap (λ (b : Code). run-code env limit b fuel s k) (sym (w .is));
         next = λ z. f .next z ∙ sym y;
       }
 
--- ---- what the number of a comparison says: v is whether it passes its check, whose number is m, and h whether it holds
-module _ (v h : Bool) (m n : ℕ) (above : 1 < m) (e : n ≡ cond v (cond h 1 0) m) where
-  unread-of : 1 < n → (v ≡ false) × (n ≡ m)
-  unread-of k = go v h e
-    where
-      go : (v h : Bool) → n ≡ cond v (cond h 1 0) m → (v ≡ false) × (n ≡ m)
-      go true true e = absurd (omega (arith, e, k))
-      go true false e = absurd (omega (arith, e, k))
-      go false h e = (refl, e)
+-- ---- the way that a comparison decides on
+decided : (b : Bool) (n : ℕ) → n ≡ cond b 1 0 → ((n ≡ 0 → ⊥) → b ≡ true) × ((n ≡ 1 → ⊥) → b ≡ false)
+decided true n e = (λ _. refl, λ h. absurd (h e))
+decided false n e = (λ h. absurd (h e), λ _. refl)
 
-  holds-of : n ≤ 1 → (n ≡ 0 → ⊥) → (v ≡ true) × (h ≡ true)
-  holds-of k l = go v h e
-    where
-      go : (v h : Bool) → n ≡ cond v (cond h 1 0) m → (v ≡ true) × (h ≡ true)
-      go true true e = (refl, refl)
-      go true false e = absurd (l e)
-      go false h e = absurd (omega (arith, e, k, above))
+module _ (env : Env) (limit : Option ℕ) (q : ℕ) (c : Ocmp) (s : Config) (k : Counted) (m : ℕ) (x : Compared) (t : Config) (l : Counted)
+    (w : Decides env limit s k c q m x t l) (f g : Part) where
+  ocmp-stops : 1 < x .how → choose env limit q c f g s k ≡ ended (how (exit (x .how) q)) t l
+  unfolding choose
+  ocmp-stops h =
+      ap (λ (e : Ended). and-then e (cond (eval-ocmp env c s) f g)) (w .stops h)
+      ∙ how-stops (exit (x .how) q) t l _ (λ z. omega (arith, z, h))
 
-  fails-of : n ≤ 1 → (n ≡ 1 → ⊥) → (v ≡ true) × (h ≡ false)
-  fails-of k l = go v h e
-    where
-      go : (v h : Bool) → n ≡ cond v (cond h 1 0) m → (v ≡ true) × (h ≡ false)
-      go true true e = absurd (l e)
-      go true false e = (refl, refl)
-      go false h e = absurd (omega (arith, e, k, above))
+  ocmp-holds : x .how ≤ 1 → (x .how ≡ 0 → ⊥) → choose env limit q c f g s k ≡ f t l
+  unfolding choose continue
+  ocmp-holds h y =
+      ap (λ (e : Ended). and-then e (cond (eval-ocmp env c s) f g)) (w .goes h)
+      ∙ ap (λ (b : Bool). cond b f g t l) (decided (eval-ocmp env c s) (x .how) (w .holds h) .0 y)
 
-module _ (env : Env) (q : ℕ) (c : Ocmp) (s : Config) (m : ℕ) (x : Compared) (w : Compares env s c m x) (f g : Config → End) where
-  above : 1 < ocmp-number env c s
-  unfolding ocmp-number
-  above = unread-above (λ o. valid-operand env o s) (s .regs) (ocmp-layout c .operands)
-
-  ocmp-unread : 1 < x .how → run-ocmp env q c f g s ≡ ends (how (exit (x .how) q)) s
-  unfolding run-ocmp
-  ocmp-unread h =
-      let z = unread-of (valid-ocmp env c s) (eval-ocmp env c s) (ocmp-number env c s) (x .how) above (w .how) h in
-      check-fails _ _ (x .how) q s _ (z .0) (z .1) h
-
-  ocmp-holds : x .how ≤ 1 → (x .how ≡ 0 → ⊥) → run-ocmp env q c f g s ≡ f (with-flags (env .fill) s)
-  unfolding run-ocmp check choose
-  ocmp-holds h k =
-      let z = holds-of (valid-ocmp env c s) (eval-ocmp env c s) (ocmp-number env c s) (x .how) above (w .how) h k in
-      rw (z .0, z .1)
-
-  ocmp-fails : x .how ≤ 1 → (x .how ≡ 1 → ⊥) → run-ocmp env q c f g s ≡ g (with-flags (env .fill) s)
-  unfolding run-ocmp check choose
-  ocmp-fails h k =
-      let z = fails-of (valid-ocmp env c s) (eval-ocmp env c s) (ocmp-number env c s) (x .how) above (w .how) h k in
-      rw (z .0, z .1)
+  ocmp-fails : x .how ≤ 1 → (x .how ≡ 1 → ⊥) → choose env limit q c f g s k ≡ g t l
+  unfolding choose continue
+  ocmp-fails h y =
+      ap (λ (e : Ended). and-then e (cond (eval-ocmp env c s) f g)) (w .goes h)
+      ∙ ap (λ (b : Bool). cond b f g t l) (decided (eval-ocmp env c s) (x .how) (w .holds h) .1 y)
 
 -- two choices by one test
 pub both-ways : {A P Q R S : Type 0} → (A × P) ⊎ ((A → ⊥) × Q) → (A × R) ⊎ ((A → ⊥) × S) → (A × P × R) ⊎ ((A → ⊥) × Q × S)
@@ -297,19 +282,29 @@ respelled : (c : Code) (bs : List ℕ) (a e x y : ℕ) → a ≡ x → e ≡ y �
 respelled c bs a e x y p q h = rw (← p, ← q) h
 
 -- ---- an IfElse, whose comparison has answered x
-module _ (env : Env) (bs : List ℕ) (at fuel : ℕ) (s : Config) (k : byte-at bs at ≡ 0x21) (x : Compared)
-    (compared : ComparesAt env bs (at + 9) s x) where
-  pub if-unread : 1 < x .how → Runs env bs at fuel s (exit (x .how) (at + 9)) s
+module _ (env : Env) (limit : Option ℕ) (bs : List ℕ) (at fuel : ℕ) (s : Config) (k : Counted) (kind : byte-at bs at ≡ 0x21) (x : Compared)
+    (u : Config) (j : Counted) (compared : DecidesAt env limit bs (at + 9) s k x u j) where
+  -- it is that comparison, and then the one or the other part
+  if-starts :
+      (c : Code) (e : ℕ) (sp : Spells c bs at e) →
+      let w = if-there c bs at e sp kind in
+      run-code env limit c fuel s k
+      ≡ choose env limit (at + 9) (ocmp-at bs (at + 9)) (run-code env limit (w .yes-part) fuel) (run-code env limit (w .no-part) fuel) s k
   unfolding run-code
-  if-unread h c e sp =
-      let w = if-there c bs at e sp k in
+  if-starts c e sp =
+      let w = if-there c bs at e sp kind in
+      ap (λ (b : Code). run-code env limit b fuel s k) (w .is)
+      ∙ ap (λ (o : Ocmp). choose env limit (at + 9) o (run-code env limit (w .yes-part) fuel) (run-code env limit (w .no-part) fuel) s k) (w .says)
+
+  pub if-stops : 1 < x .how → Runs env limit bs at fuel s k (exit (x .how) (at + 9)) u j
+  if-stops h c e sp =
+      let w = if-there c bs at e sp kind in
       record {
         ends =
             sym
-            (ap (λ (b : Code). run-code env b fuel s) (w .is)
-            ∙ ap (λ (o : Ocmp). run-ocmp env (at + 9) o (run-code env (w .yes-part) fuel) (run-code env (w .no-part) fuel) s) (w .says)
-            ∙ ocmp-unread env (at + 9) (ocmp-at bs (at + 9)) s (w .mid) x (compared (w .mid) (w .stands))
-            (run-code env (w .yes-part) fuel) (run-code env (w .no-part) fuel) h);
+            (if-starts c e sp
+            ∙ ocmp-stops env limit (at + 9) (ocmp-at bs (at + 9)) s k (w .mid) x u j (compared (w .mid) (w .stands))
+            (run-code env limit (w .yes-part) fuel) (run-code env limit (w .no-part) fuel) h);
         next = λ z. absurd (omega arith);
       }
 
@@ -319,10 +314,10 @@ module _ (env : Env) (bs : List ℕ) (at fuel : ℕ) (s : Config) (k : byte-at b
     -- both parts, where the code says that they stand
     parts :
         (c : Code) (e : ℕ) (sp : Spells c bs at e) →
-        let w = if-there c bs at e sp k in
+        let w = if-there c bs at e sp kind in
         (w .mid ≡ x .next) × (e ≡ end) × (Spells (w .yes-part) bs (x .next) mid) × (Spells (w .no-part) bs mid end)
     parts c e sp =
-        let w = if-there c bs at e sp k in
+        let w = if-there c bs at e sp kind in
         let m : w .mid ≡ x .next = sym (compared (w .mid) (w .stands) .next read) in
         let n : w .mid + number-at 4 bs (at + 1) ≡ mid = omega (arith, m, a) in
         let l : e ≡ end = omega (arith, w .ends, n, b) in
@@ -330,7 +325,7 @@ module _ (env : Env) (bs : List ℕ) (at fuel : ℕ) (s : Config) (k : byte-at b
 
     part-there : CodeAt bs at → CodeAt bs part × CodesAt bs (codes-from bs part) behind × (at + 9 < part)
     part-there c =
-        let w = if-there (c .code) bs at (c .end) (c .spelled) k in
+        let w = if-there (c .code) bs at (c .end) (c .spelled) kind in
         let p = parts (c .code) (c .end) (c .spelled) in
         let past : at + 9 < x .next = omega (arith, stands-past is-ocmp bs (at + 9) (w .mid) (w .stands), p .0) in
         let there : (d : Code) → Spells d bs part behind → behind ≤ length bs → CodeAt bs part × CodesAt bs (codes-from bs part) behind =
@@ -350,147 +345,142 @@ module _ (env : Env) (bs : List ℕ) (at fuel : ℕ) (s : Config) (k : byte-at b
         way
 
     if-ran :
-        (r : Exit) (t : Config) →
-        RunsAll env bs (codes-from bs part) behind fuel (with-flags (env .fill) s) r t →
+        (r : Exit) (t : Config) (l : Counted) →
+        RunsAll env limit bs (codes-from bs part) behind fuel u j r t l →
         (r′ : Exit) →
         how r′ ≡ how r →
         (r′ .number ≡ 0 → r′ .place ≡ end) →
-        Runs env bs at fuel s r′ t
-    unfolding run-code
-    if-ran r t ran r′ o n c e sp =
-        let w = if-there c bs at e sp k in
+        Runs env limit bs at fuel s k r′ t l
+    if-ran r t l ran r′ o n c e sp =
+        let w = if-there c bs at e sp kind in
         let p = parts c e sp in
         let here = compared (w .mid) (w .stands) in
-        let one = run-code env (w .yes-part) fuel in
-        let other = run-code env (w .no-part) fuel in
-        let after = with-flags (env .fill) s in
-        let start : run-code env c fuel s ≡ run-ocmp env (at + 9) (ocmp-at bs (at + 9)) one other s =
-        ap (λ (b : Code). run-code env b fuel s) (w .is)
-        ∙ ap (λ (b : Ocmp). run-ocmp env (at + 9) b one other s) (w .says)
+        let one = run-code env limit (w .yes-part) fuel in
+        let other = run-code env limit (w .no-part) fuel in
+        let ran-part : (d : Code) → Spells d bs part behind → run-code env limit d fuel u j ≡ ended (how r) t l =
+        λ d h. sym (part-ran bs part env limit behind fuel u j r t l ran d h .ends)
         in
-        let ran-part : (d : Code) → Spells d bs part behind → run-code env d fuel after ≡ ends (how r) t =
-        λ d h. sym (part-ran bs part env behind fuel after r t ran d h .ends)
-        in
-        let whole : run-code env c fuel s ≡ ends (how r) t =
-        start
+        let whole : run-code env limit c fuel s k ≡ ended (how r) t l =
+        if-starts c e sp
         ∙ ⊎-elim
         (λ h.
-        ocmp-holds env (at + 9) (ocmp-at bs (at + 9)) s (w .mid) x here one other read (λ z. omega (arith, h .0, z))
+        ocmp-holds env limit (at + 9) (ocmp-at bs (at + 9)) s k (w .mid) x u j here one other read (λ z. omega (arith, h .0, z))
         ∙ ran-part (w .yes-part) (rw (h .1, h .2) (p .2)))
         (λ h.
-        ocmp-fails env (at + 9) (ocmp-at bs (at + 9)) s (w .mid) x here one other read (h .0)
+        ocmp-fails env limit (at + 9) (ocmp-at bs (at + 9)) s k (w .mid) x u j here one other read (h .0)
         ∙ ran-part (w .no-part) (rw (h .1, h .2) (p .3)))
         way
         in
         record {
-          ends = ap (λ (h : Outcome). ends h t) o ∙ sym whole;
+          ends = ap (λ (h : Outcome). ended h t l) o ∙ sym whole;
           next = λ z. n z ∙ sym (p .1);
         }
 
--- the part that an IfElse goes on with, as the evaluator finds it
-pub record Chosen (env : Env) (bs : List ℕ) (at : ℕ) (s : Config) (x : Compared) (part behind end : ℕ) : Type 0 where
+-- the part that an IfElse goes on with, as the evaluator finds it: its comparison has left u and j
+pub record Chosen (env : Env) (limit : Option ℕ) (bs : List ℕ) (at : ℕ) (s : Config) (k : Counted) (x : Compared) (u : Config) (j : Counted)
+    (part behind end : ℕ) : Type 0 where
   pub kind : byte-at bs at ≡ 0x21
-  pub compared : ComparesAt env bs (at + 9) s x
+  pub compared : DecidesAt env limit bs (at + 9) s k x u j
   pub read : x .how ≤ 1
   pub mid : ℕ
   pub mid-is : mid ≡ x .next + number-at 4 bs (at + 1)
   pub end-is : end ≡ mid + number-at 4 bs (at + 5)
   pub way : ((x .how ≡ 1) × (part ≡ x .next) × (behind ≡ mid)) ⊎ ((x .how ≡ 1 → ⊥) × (part ≡ mid) × (behind ≡ end))
 
-module _ (env : Env) (bs : List ℕ) (at fuel : ℕ) (s : Config) (x : Compared) (part behind end : ℕ)
-    (w : Chosen env bs at s x part behind end) where
+module _ (env : Env) (limit : Option ℕ) (bs : List ℕ) (at fuel : ℕ) (s : Config) (k : Counted) (x : Compared) (u : Config) (j : Counted)
+    (part behind end : ℕ) (w : Chosen env limit bs at s k x u j part behind end) where
   pub chosen-there : CodeAt bs at → CodeAt bs part × CodesAt bs (codes-from bs part) behind × (at + 9 < part)
   chosen-there =
-      part-there env bs at fuel s (w .kind) x (w .compared) (w .read) (w .mid) end part behind (w .mid-is) (w .end-is) (w .way)
+      part-there env limit bs at fuel s k (w .kind) x u j (w .compared) (w .read) (w .mid) end part behind (w .mid-is) (w .end-is) (w .way)
 
   -- the exit of the part, with another place where it is done
   pub chosen-ran :
-      (r : Exit) (t : Config) → RunsAll env bs (codes-from bs part) behind fuel (with-flags (env .fill) s) r t →
-      (r′ : Exit) → how r′ ≡ how r → (r′ .number ≡ 0 → r′ .place ≡ end) → Runs env bs at fuel s r′ t
+      (r : Exit) (t : Config) (l : Counted) → RunsAll env limit bs (codes-from bs part) behind fuel u j r t l →
+      (r′ : Exit) → how r′ ≡ how r → (r′ .number ≡ 0 → r′ .place ≡ end) → Runs env limit bs at fuel s k r′ t l
   chosen-ran =
-      if-ran env bs at fuel s (w .kind) x (w .compared) (w .read) (w .mid) end part behind (w .mid-is) (w .end-is) (w .way)
+      if-ran env limit bs at fuel s k (w .kind) x u j (w .compared) (w .read) (w .mid) end part behind (w .mid-is) (w .end-is) (w .way)
 
 -- ---- a While: what holds at the head of the loop over its rounds
-pub record Looping (env : Env) (bs : List ℕ) (at fuel : ℕ) (s₀ : Config) (left : ℕ) (s : Config) : Type 0 where
-  pub same : (c : Code) (e : ℕ) → Spells c bs at e → run-code env c fuel s₀ ≡ run-code env c left s
+pub record Looping (env : Env) (limit : Option ℕ) (bs : List ℕ) (at fuel : ℕ) (s₀ : Config) (k₀ : Counted) (left : ℕ) (s : Config) (k : Counted) : Type 0 where
+  pub same : (c : Code) (e : ℕ) → Spells c bs at e → run-code env limit c fuel s₀ k₀ ≡ run-code env limit c left s k
   pub long : length (s .values) ≡ length (s₀ .values)
   pub less : left ≤ fuel
 
 -- a way out of the loop
 pub loop-ran :
-    (env : Env) (bs : List ℕ) (at fuel : ℕ) (s₀ : Config) (left : ℕ) (s : Config) →
-    Looping env bs at fuel s₀ left s →
-    (r : Exit) (t : Config) →
-    ((c : Code) (e : ℕ) → Spells c bs at e → run-code env c left s ≡ ends (how r) t) →
+    (env : Env) (limit : Option ℕ) (bs : List ℕ) (at fuel : ℕ) (s₀ : Config) (k₀ : Counted) (left : ℕ) (s : Config) (k : Counted) →
+    Looping env limit bs at fuel s₀ k₀ left s k →
+    (r : Exit) (t : Config) (l : Counted) →
+    ((c : Code) (e : ℕ) → Spells c bs at e → run-code env limit c left s k ≡ ended (how r) t l) →
     ((c : Code) (e : ℕ) → Spells c bs at e → r .number ≡ 0 → r .place ≡ e) →
-    Runs env bs at fuel s₀ r t
-loop-ran env bs at fuel s₀ left s l r t g p c e h =
-    record { ends = sym (l .same c e h ∙ g c e h); next = p c e h }
+    Runs env limit bs at fuel s₀ k₀ r t l
+loop-ran env limit bs at fuel s₀ k₀ left s k w r t l g p c e h =
+    record { ends = sym (w .same c e h ∙ g c e h); next = p c e h }
 
-module _ (env : Env) (body : ℕ → Config → End) (p q : ℕ) (c : Ocmp) (s : Config) where
-  rounds-spent : (left : ℕ) → left ≡ 0 → rounds env body p q c left s ≡ ends (spent p) s
+module _ (env : Env) (limit : Option ℕ) (body : ℕ → Part) (p q : ℕ) (c : Ocmp) (s : Config) (k : Counted) where
+  rounds-spent : (left : ℕ) → left ≡ 0 → rounds env limit body p q c left s k ≡ ended (spent p) s k
   unfolding rounds
   rounds-spent left h = rw h
 
   -- one round, and those that follow
-  round : ℕ → Config → End
-  round left t = and-then (body left t) (rounds env body p q c left)
+  round : ℕ → Part
+  round left t l = and-then (body left t l) (rounds env limit body p q c left)
 
   rounds-go :
-      (left : ℕ) → (left ≡ 0 → ⊥) → rounds env body p q c left s ≡ run-ocmp env q c (round (left - 1)) (ends done) s
+      (left : ℕ) → (left ≡ 0 → ⊥) → rounds env limit body p q c left s k ≡ choose env limit q c (round (left - 1)) (ended done) s k
   unfolding rounds round
   rounds-go zero h = absurd (h refl)
-  rounds-go (suc f) h = ap (λ (n : ℕ). run-ocmp env q c (round n) (ends done) s) (sym (sub-one (suc f)))
+  rounds-go (suc f) h = ap (λ (n : ℕ). choose env limit q c (round n) (ended done) s k) (sym (sub-one (suc f)))
 
-module _ (env : Env) (bs : List ℕ) (at left : ℕ) (s : Config) (k : byte-at bs at ≡ 0x22) where
-  pub loop-spent : left ≡ 0 → (c : Code) (e : ℕ) → Spells c bs at e → run-code env c left s ≡ ends (spent at) s
+module _ (env : Env) (limit : Option ℕ) (bs : List ℕ) (at left : ℕ) (s : Config) (k : Counted) (kind : byte-at bs at ≡ 0x22) where
+  pub loop-spent : left ≡ 0 → (c : Code) (e : ℕ) → Spells c bs at e → run-code env limit c left s k ≡ ended (spent at) s k
   unfolding run-code
   loop-spent z c e h =
-      let w = while-there c bs at e h k in
-      ap (λ (b : Code). run-code env b left s) (w .is)
-      ∙ rounds-spent env (run-code env (w .body)) at (at + 5) (w .test) s left z
+      let w = while-there c bs at e h kind in
+      ap (λ (b : Code). run-code env limit b left s k) (w .is)
+      ∙ rounds-spent env limit (run-code env limit (w .body)) at (at + 5) (w .test) s k left z
 
-  module _ (inn : left ≡ 0 → ⊥) (x : Compared) (compared : ComparesAt env bs (at + 5) s x) where
-    -- the next round, and those that follow, behind a comparison that was read
+  module _ (inn : left ≡ 0 → ⊥) (x : Compared) (u : Config) (j : Counted) (compared : DecidesAt env limit bs (at + 5) s k x u j) where
+    -- the next round, and those that follow, behind its comparison
     tested :
         (c : Code) (e : ℕ) (h : Spells c bs at e) →
-        let w = while-there c bs at e h k in
-        run-code env c left s
-        ≡ run-ocmp env (at + 5) (ocmp-at bs (at + 5))
-        (round env (run-code env (w .body)) at (at + 5) (w .test) s (left - 1)) (ends done) s
+        let w = while-there c bs at e h kind in
+        run-code env limit c left s k
+        ≡ choose env limit (at + 5) (ocmp-at bs (at + 5))
+        (round env limit (run-code env limit (w .body)) at (at + 5) (w .test) s k (left - 1)) (ended done) s k
     unfolding run-code
     tested c e h =
-        let w = while-there c bs at e h k in
-        let next = round env (run-code env (w .body)) at (at + 5) (w .test) s (left - 1) in
-        ap (λ (b : Code). run-code env b left s) (w .is)
-        ∙ rounds-go env (run-code env (w .body)) at (at + 5) (w .test) s left inn
-        ∙ ap (λ (o : Ocmp). run-ocmp env (at + 5) o next (ends done) s) (w .says)
+        let w = while-there c bs at e h kind in
+        let next = round env limit (run-code env limit (w .body)) at (at + 5) (w .test) s k (left - 1) in
+        ap (λ (b : Code). run-code env limit b left s k) (w .is)
+        ∙ rounds-go env limit (run-code env limit (w .body)) at (at + 5) (w .test) s k left inn
+        ∙ ap (λ (o : Ocmp). choose env limit (at + 5) o next (ended done) s k) (w .says)
 
-    pub loop-unread :
+    pub loop-stopped :
         1 < x .how → (c : Code) (e : ℕ) → Spells c bs at e →
-        run-code env c left s ≡ ends (how (exit (x .how) (at + 5))) s
-    loop-unread z c e h =
-        let w = while-there c bs at e h k in
+        run-code env limit c left s k ≡ ended (how (exit (x .how) (at + 5))) u j
+    loop-stopped z c e h =
+        let w = while-there c bs at e h kind in
         tested c e h
-        ∙ ocmp-unread env (at + 5) (ocmp-at bs (at + 5)) s (w .mid) x (compared (w .mid) (w .stands))
-        (round env (run-code env (w .body)) at (at + 5) (w .test) s (left - 1)) (ends done) z
+        ∙ ocmp-stops env limit (at + 5) (ocmp-at bs (at + 5)) s k (w .mid) x u j (compared (w .mid) (w .stands))
+        (round env limit (run-code env limit (w .body)) at (at + 5) (w .test) s k (left - 1)) (ended done) z
 
     pub loop-done :
-        x .how ≡ 0 → (c : Code) (e : ℕ) → Spells c bs at e → run-code env c left s ≡ ends done (with-flags (env .fill) s)
+        x .how ≡ 0 → (c : Code) (e : ℕ) → Spells c bs at e → run-code env limit c left s k ≡ ended done u j
     loop-done z c e h =
-        let w = while-there c bs at e h k in
+        let w = while-there c bs at e h kind in
         tested c e h
-        ∙ ocmp-fails env (at + 5) (ocmp-at bs (at + 5)) s (w .mid) x (compared (w .mid) (w .stands))
-        (round env (run-code env (w .body)) at (at + 5) (w .test) s (left - 1)) (ends done)
+        ∙ ocmp-fails env limit (at + 5) (ocmp-at bs (at + 5)) s k (w .mid) x u j (compared (w .mid) (w .stands))
+        (round env limit (run-code env limit (w .body)) at (at + 5) (w .test) s k (left - 1)) (ended done)
         (omega (arith, z)) (λ y. omega (arith, y, z))
 
     -- the body, and where the While ends
     module _ (read : x .how ≤ 1) (end : ℕ) (a : end ≡ x .next + number-at 4 bs (at + 1)) where
       body-spelled :
           (c : Code) (e : ℕ) (h : Spells c bs at e) →
-          let w = while-there c bs at e h k in (e ≡ end) × (w .mid ≡ x .next) × Spells (w .body) bs (x .next) end
+          let w = while-there c bs at e h kind in (e ≡ end) × (w .mid ≡ x .next) × Spells (w .body) bs (x .next) end
       body-spelled c e h =
-          let w = while-there c bs at e h k in
+          let w = while-there c bs at e h kind in
           let m : w .mid ≡ x .next = sym (compared (w .mid) (w .stands) .next read) in
           let l : e ≡ end = omega (arith, w .ends, m, a) in
           (l, m, respelled (w .body) bs _ _ _ _ m l (w .spelled))
@@ -500,72 +490,74 @@ module _ (env : Env) (bs : List ℕ) (at left : ℕ) (s : Config) (k : byte-at b
 
       body-there : CodeAt bs at → CodeAt bs (x .next) × CodesAt bs (codes-from bs (x .next)) end × (at + 5 < x .next)
       body-there c =
-          let w = while-there (c .code) bs at (c .end) (c .spelled) k in
+          let w = while-there (c .code) bs at (c .end) (c .spelled) kind in
           let p = body-spelled (c .code) (c .end) (c .spelled) in
           let l : end ≤ length bs = omega (arith, p .0, c .inside) in
           let there : CodeAt bs (x .next) = record { code = w .body; end = end; spelled = p .2; inside = l } in
           (there, part-codes bs (x .next) (w .body) end (p .2) l, omega (arith, p .1, stands-past is-ocmp bs (at + 5) (w .mid) (w .stands)))
 
-      module _ (y : x .how ≡ 0 → ⊥) (r : Exit) (t : Config)
-          (ran : RunsAll env bs (codes-from bs (x .next)) end (left - 1) (with-flags (env .fill) s) r t) where
+      module _ (y : x .how ≡ 0 → ⊥) (r : Exit) (t : Config) (l : Counted)
+          (ran : RunsAll env limit bs (codes-from bs (x .next)) end (left - 1) u j r t l) where
         body-ran :
             (c : Code) (e : ℕ) (h : Spells c bs at e) →
-            let w = while-there c bs at e h k in
-            run-code env c left s
-            ≡ and-then (run-code env (w .body) (left - 1) (with-flags (env .fill) s))
-            (rounds env (run-code env (w .body)) at (at + 5) (w .test) (left - 1))
+            let w = while-there c bs at e h kind in
+            run-code env limit c left s k
+            ≡ and-then (run-code env limit (w .body) (left - 1) u j)
+            (rounds env limit (run-code env limit (w .body)) at (at + 5) (w .test) (left - 1))
         unfolding round
         body-ran c e h =
-            let w = while-there c bs at e h k in
+            let w = while-there c bs at e h kind in
             tested c e h
-            ∙ ocmp-holds env (at + 5) (ocmp-at bs (at + 5)) s (w .mid) x (compared (w .mid) (w .stands))
-            (round env (run-code env (w .body)) at (at + 5) (w .test) s (left - 1)) (ends done) read y
+            ∙ ocmp-holds env limit (at + 5) (ocmp-at bs (at + 5)) s k (w .mid) x u j (compared (w .mid) (w .stands))
+            (round env limit (run-code env limit (w .body)) at (at + 5) (w .test) s k (left - 1)) (ended done) read y
 
         body-exit :
             (c : Code) (e : ℕ) (h : Spells c bs at e) →
-            let w = while-there c bs at e h k in
-            Ran (run-code env (w .body) (left - 1) (with-flags (env .fill) s)) end r t
+            let w = while-there c bs at e h kind in
+            Reached (run-code env limit (w .body) (left - 1) u j) end r t l
         body-exit c e h =
-            let w = while-there c bs at e h k in
-            part-ran bs (x .next) env end (left - 1) (with-flags (env .fill) s) r t ran (w .body) (body-spelled c e h .2)
+            let w = while-there c bs at e h kind in
+            part-ran bs (x .next) env limit end (left - 1) u j r t l ran (w .body) (body-spelled c e h .2)
 
         loop-goes :
-            r .number ≡ 0 → (c : Code) (e : ℕ) → Spells c bs at e → run-code env c left s ≡ run-code env c (left - 1) t
+            r .number ≡ 0 → (c : Code) (e : ℕ) → Spells c bs at e → run-code env limit c left s k ≡ run-code env limit c (left - 1) t l
         unfolding run-code
         loop-goes z c e h =
-            let w = while-there c bs at e h k in
+            let w = while-there c bs at e h kind in
             body-ran c e h
-            ∙ goes-on (run-code env (w .body) (left - 1) (with-flags (env .fill) s)) end r t (body-exit c e h)
-            (rounds env (run-code env (w .body)) at (at + 5) (w .test) (left - 1)) z
-            ∙ ap (λ (b : Code). run-code env b (left - 1) t) (sym (w .is))
+            ∙ goes-on (run-code env limit (w .body) (left - 1) u j) end r t l (body-exit c e h)
+            (rounds env limit (run-code env limit (w .body)) at (at + 5) (w .test) (left - 1)) z
+            ∙ ap (λ (b : Code). run-code env limit b (left - 1) t l) (sym (w .is))
 
         loop-stops :
-            (r .number ≡ 0 → ⊥) → (c : Code) (e : ℕ) → Spells c bs at e → run-code env c left s ≡ ends (how r) t
+            (r .number ≡ 0 → ⊥) → (c : Code) (e : ℕ) → Spells c bs at e → run-code env limit c left s k ≡ ended (how r) t l
         loop-stops z c e h =
-            let w = while-there c bs at e h k in
+            let w = while-there c bs at e h kind in
             body-ran c e h
-            ∙ stops (run-code env (w .body) (left - 1) (with-flags (env .fill) s)) end r t (body-exit c e h)
-            (rounds env (run-code env (w .body)) at (at + 5) (w .test) (left - 1)) z
+            ∙ stops (run-code env limit (w .body) (left - 1) u j) end r t l (body-exit c e h)
+            (rounds env limit (run-code env limit (w .body)) at (at + 5) (w .test) (left - 1)) z
 
--- a round of a While whose comparison has answered x, and where the While ends
-pub record Round (env : Env) (bs : List ℕ) (at left : ℕ) (s : Config) (x : Compared) (end : ℕ) : Type 0 where
+-- a round of a While whose comparison has answered x and left u and j, and where the While ends
+pub record Round (env : Env) (limit : Option ℕ) (bs : List ℕ) (at left : ℕ) (s : Config) (k : Counted) (x : Compared) (u : Config) (j : Counted) (end : ℕ)
+    : Type 0 where
   pub kind : byte-at bs at ≡ 0x22
   pub some-fuel : left ≡ 0 → ⊥
-  pub compared : ComparesAt env bs (at + 5) s x
+  pub compared : DecidesAt env limit bs (at + 5) s k x u j
   pub read : x .how ≤ 1
   pub end-is : end ≡ x .next + number-at 4 bs (at + 1)
 
-module _ (env : Env) (bs : List ℕ) (at left : ℕ) (s : Config) (x : Compared) (end : ℕ) (w : Round env bs at left s x end) where
+module _ (env : Env) (limit : Option ℕ) (bs : List ℕ) (at left : ℕ) (s : Config) (k : Counted) (x : Compared) (u : Config) (j : Counted) (end : ℕ)
+    (w : Round env limit bs at left s k x u j end) where
   pub round-ends : (c : Code) (e : ℕ) → Spells c bs at e → end ≡ e
-  round-ends = loop-ends env bs at left s (w .kind) (w .some-fuel) x (w .compared) (w .read) end (w .end-is)
+  round-ends = loop-ends env limit bs at left s k (w .kind) (w .some-fuel) x u j (w .compared) (w .read) end (w .end-is)
 
   pub round-there : CodeAt bs at → CodeAt bs (x .next) × CodesAt bs (codes-from bs (x .next)) end × (at + 5 < x .next)
-  round-there = body-there env bs at left s (w .kind) (w .some-fuel) x (w .compared) (w .read) end (w .end-is)
+  round-there = body-there env limit bs at left s k (w .kind) (w .some-fuel) x u j (w .compared) (w .read) end (w .end-is)
 
-  module _ (y : x .how ≡ 0 → ⊥) (r : Exit) (t : Config)
-      (ran : RunsAll env bs (codes-from bs (x .next)) end (left - 1) (with-flags (env .fill) s) r t) where
-    pub round-goes : r .number ≡ 0 → (c : Code) (e : ℕ) → Spells c bs at e → run-code env c left s ≡ run-code env c (left - 1) t
-    round-goes = loop-goes env bs at left s (w .kind) (w .some-fuel) x (w .compared) (w .read) end (w .end-is) y r t ran
+  module _ (y : x .how ≡ 0 → ⊥) (r : Exit) (t : Config) (l : Counted)
+      (ran : RunsAll env limit bs (codes-from bs (x .next)) end (left - 1) u j r t l) where
+    pub round-goes : r .number ≡ 0 → (c : Code) (e : ℕ) → Spells c bs at e → run-code env limit c left s k ≡ run-code env limit c (left - 1) t l
+    round-goes = loop-goes env limit bs at left s k (w .kind) (w .some-fuel) x u j (w .compared) (w .read) end (w .end-is) y r t l ran
 
-    pub round-stops : (r .number ≡ 0 → ⊥) → (c : Code) (e : ℕ) → Spells c bs at e → run-code env c left s ≡ ends (how r) t
-    round-stops = loop-stops env bs at left s (w .kind) (w .some-fuel) x (w .compared) (w .read) end (w .end-is) y r t ran
+    pub round-stops : (r .number ≡ 0 → ⊥) → (c : Code) (e : ℕ) → Spells c bs at e → run-code env limit c left s k ≡ ended (how r) t l
+    round-stops = loop-stops env limit bs at left s k (w .kind) (w .some-fuel) x u j (w .compared) (w .read) end (w .end-is) y r t l ran

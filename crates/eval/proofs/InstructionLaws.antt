@@ -12,7 +12,7 @@ use lib.ListN.{getD, set}
 use Rattle.words.specs.Sums.{sum-mod, mul-div, mul-mod}
 use Rattle.machine.specs.Operands.{wild-or}
 use Rattle.machine.specs.declared.Operand.{Operand}
-use Rattle.machine.proofs.OperandLaws.{wild-or-above}
+use Rattle.machine.proofs.OperandLaws.{wild-or-above, wild-or-below}
 use Rattle.code.specs.declared.tree.Instruction.{Instruction}
 use Rattle.code.specs.declared.tree.Instruction.the-variants.{AddLea64, Mul64, Mulx64}
 use Rattle.code.specs.Records.{operand-at, behind}
@@ -32,12 +32,12 @@ use Rattle.eval.proofs.OperandLaws.{passes, fails, above-one, valid-wha
 abbrev pub exit : ℕ → ℕ → Exit
 exit n p = record { number = n; place = p }
 
--- a check that fails with a number above 1 ends the run with it
+-- a check that fails with a number from 2 to 36 ends the run with it
 pub check-fails :
-    (b : Bool) (m n p : ℕ) (s : Config) (k : End) → b ≡ false → n ≡ m → 1 < n → check b m p s k ≡ ends (how (exit n p)) s
+    (b : Bool) (m n p : ℕ) (s : Config) (k : End) → b ≡ false → n ≡ m → 1 < n → m < 37 → check b m p s k ≡ ends (how (exit n p)) s
 unfolding check
-check-fails b m n p s k e is l =
-    rw (e, ← is, ne-eqb n 0 (λ z. omega (arith, z, l)), ne-eqb n 1 (λ z. omega (arith, z, l)))
+check-fails b m n p s k e is l h =
+    rw (e, ← is, ne-eqb n 0 (λ z. omega (arith, z, l)), ne-eqb n 1 (λ z. omega (arith, z, l)), ne-eqb n 37 (λ z. omega (arith, z, is, h)))
 
 -- the exit of a check that failed
 pub failed : (e : End) (b n p : ℕ) (s : Config) → e ≡ ends (how (exit n p)) s → (n ≡ 0 → ⊥) → Ran e b (exit n p) s
@@ -56,7 +56,7 @@ module _ (env : Env) (s : Config) (p : ℕ) (o : Operand) (n : ℕ) (r : Loaded)
   pub read-fails : (r .number ≡ 0 → ⊥) → read-check env p o s k ≡ ends (how (exit (r .number) p)) s
   read-fails h =
       let w = fails (valid-operand env o s) (r .number) _ (loads .number) h in
-      check-fails _ _ (r .number) p s k (w .0) (w .1) (rw (w .1) (wild-or-above 31 o (s .regs) (omega arith)))
+      check-fails _ _ (r .number) p s k (w .0) (w .1) (rw (w .1) (wild-or-above 31 o (s .regs) (omega arith))) (wild-or-below 31 o (s .regs) (omega arith))
 
 module _ (env : Env) (s : Config) (p : ℕ) (o : Operand) (n : ℕ) (t : Slot) (resolves : Resolves env s o n t) where
   -- the configuration with a word in the slot
@@ -68,7 +68,7 @@ module _ (env : Env) (s : Config) (p : ℕ) (o : Operand) (n : ℕ) (t : Slot) (
   writable h k = rw (resolves .valid h)
 
   pub unwritable : 1 < t .how → (k : End) → write-check env p o s k ≡ ends (how (exit (t .how) p)) s
-  unwritable h k = let w = resolves .fails h in check-fails _ _ (t .how) p s k (w .0) (w .1) h
+  unwritable h k = let w = resolves .fails h in check-fails _ _ (t .how) p s k (w .0) (w .1) h (wild-or-below 32 o (s .regs) (omega arith))
 
   pub wrote : t .how ≤ 1 → (v flags : ℕ) → write env p o v flags s ≡ ends done (with-flags flags (put-in v))
   wrote h v flags =
@@ -272,7 +272,7 @@ module _ (addresses tags regs xmms values : List ℕ) (fill flags p : ℕ) where
           pub mulx-unresolved : 1 < u .how → Mulx (exit (u .how) p) s
           mulx-unresolved h =
               let w = above .fails h in
-              failed _ n (u .how) p s (mulx-passes ∙ check-fails _ _ (u .how) p s _ (w .0) (w .1) h) (above-one h)
+              failed _ n (u .how) p s (mulx-passes ∙ check-fails _ _ (u .how) p s _ (w .0) (w .1) h (wild-or-below 32 dst-hi regs′ (omega arith))) (above-one h)
 
           pub mulx-done :
               u .how ≤ 1 →

@@ -5,7 +5,8 @@ pub mod InstructionLaws
 pub mod LaneLaws
 pub mod ComparisonLaws
 pub mod CycleLaws
+pub mod StepLaws
 pub mod RunLaws
 pub mod Asked
 pub mod InputLaws
-pub mod Fuel
+pub mod Larger

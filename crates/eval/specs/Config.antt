@@ -4,8 +4,7 @@ use mathlib.Core.Bool.{Bool, true, false}
 use mathlib.Core.List.{List}
 use Rattle.machine.specs.declared.State.{State}
 use Rattle.eval.specs.declared.answer.Answer.{Answer}
-use Rattle.eval.specs.declared.answer.Answer.the-variants.{Done, Fault, Spent, Refused}
-use Rattle.eval.specs.declared.answer.Run.{Run}
+use Rattle.eval.specs.declared.answer.Answer.the-variants.{Done, Fault, Stopped, Spent, Refused}
 
 -- what is constant in a run: the cells' addresses and tags, and the fill word
 pub record Env : Type 0 where
@@ -40,10 +39,12 @@ with-flags flags s = record { regs = s .regs; xmms = s .xmms; flags = flags; val
 abbrev pub with-values : List ℕ → Config → Config
 with-values values s = record { regs = s .regs; xmms = s .xmms; flags = s .flags; values = values }
 
--- how a run ends: done; a fault with its number and place; spent, with the place of the While; refused, with number and place
+-- how a run ends: done; a fault with its number and place; stopped, with number and place; spent, with the place of the While; refused, with number
+-- and place
 pub data Outcome : Type 0 where
   done : Outcome
   fault : ℕ → ℕ → Outcome
+  stopped : ℕ → ℕ → Outcome
   spent : ℕ → Outcome
   refused : ℕ → ℕ → Outcome
 
@@ -51,6 +52,7 @@ pub data Outcome : Type 0 where
 abbrev pub outcome : Answer → Outcome
 outcome Done = done
 outcome (Fault n p) = fault n p
+outcome (Stopped n p) = stopped n p
 outcome (Spent p) = spent p
 outcome (Refused n p) = refused n p
 
@@ -63,27 +65,7 @@ pub record End : Type 0 where
 abbrev pub ends : Outcome → Config → End
 ends o s = record { how = o; config = s }
 
--- what a Run and the cells' values at its end say
-abbrev pub end-of : Run → List ℕ → End
-end-of r values = ends (outcome (r .answer)) (config (r .state) values)
-
--- goes on where a run is done
-unfoldable pub continue : Outcome → Config → (Config → End) → End
-continue done s k = k s
-continue (fault n p) s k = ends (fault n p) s
-continue (spent p) s k = ends (spent p) s
-continue (refused n p) s k = ends (refused n p) s
-
--- goes on behind an end that is done
-abbrev pub and-then : End → (Config → End) → End
-and-then e k = continue (e .how) (e .config) k
-
 -- goes on where a check passes; else a fault with its number and place, and s as it was before
 unfoldable pub check : Bool → ℕ → ℕ → Config → End → End
 check true n p s k = k
 check false n p s k = ends (fault n p) s
-
--- the way that a condition takes
-unfoldable pub choose : Bool → (Config → End) → (Config → End) → Config → End
-choose true f g s = f s
-choose false f g s = g s

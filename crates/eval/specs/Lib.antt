@@ -1,5 +1,6 @@
 pub mod Config
 pub mod Instructions
+pub mod Counted
 pub mod Running
 pub mod Promises
 pub mod Inputs

@@ -1,10 +1,10 @@
--- What the functions of the evaluator promise: the contracts below `run`, of an operand, a comparison, an instruction, a code and a list of codes. They are
--- said of the parts that are lent: addresses and tags, code bytes, registers, xmm words, flags and values.
+-- What the functions of the evaluator promise: the contracts below `run`, of an operand, a comparison, an instruction, a step, a code and a list of codes.
+-- They are said of the parts that are lent: addresses and tags, code bytes, registers, xmm words, flags, values, and what is counted.
 use Prim.Native.Nat.{ℕ, _+_, _-_, _≤_, _<_}
 use mathlib.Core.Path.{_≡_}
 use mathlib.Core.Bool.{Bool, true, false, not, cond}
 use mathlib.Core.List.{List, [], _∷_}
-use mathlib.Core.Option.{some}
+use mathlib.Core.Option.{Option, some}
 use lib.Dec.{eqb, ltb, leb}
 use lib.ListN.{length, getD, set}
 use denote.Ref.{RefT, now}
@@ -18,10 +18,11 @@ use Rattle.code.specs.declared.tree.Ocmp.{Ocmp}
 use Rattle.code.specs.Tree.{Code, Codes}
 use Rattle.code.specs.Records.{is-ins, is-ocmp, byte-at, ins-at, ocmp-at}
 use Rattle.code.specs.Spells.{Stands, Spells, SpellsAll}
-use Rattle.eval.specs.Config.{Env, Config, with-regs, with-values, Outcome, done, fault, spent, End}
+use Rattle.eval.specs.Config.{Env, Config, with-regs, with-values, Outcome, done, fault, stopped, spent, End}
 use Rattle.eval.specs.Config as Config
 use Rattle.eval.specs.Instructions.{valid-operand, eval-operand, valid-dst-operand, update-operand, valid-ocmp, ocmp-number, eval-ocmp, run-ins}
-use Rattle.eval.specs.Running.{run-code, run-codes}
+use Rattle.eval.specs.Counted.{Counted, counted, Ended, ended, step}
+use Rattle.eval.specs.Running.{run-ocmp, run-code, run-codes}
 use Rattle.eval.specs.declared.exit.Exit.{Exit}
 use Rattle.eval.specs.declared.operand.Sought.{Sought}
 use Rattle.eval.specs.declared.operand.Loaded.{Loaded}
@@ -94,9 +95,12 @@ pub record IsEffect (word flags : ℕ) (e : Effect) : Type 0 where
   pub word-is : e .word ≡ word
   pub flags-is : e .flags ≡ flags
 
--- what an Exit says: 0 is done, 1 is spent, and any other number is a fault
+-- what an Exit says: 0 is done, 1 is spent, 37 is stopped, and any other number is a fault
 abbrev pub how : Exit → Outcome
-how r = cond (eqb (r .number) 0) done (cond (eqb (r .number) 1) (spent (r .place)) (fault (r .number) (r .place)))
+how r =
+    cond (eqb (r .number) 0) done
+    (cond (eqb (r .number) 1) (spent (r .place))
+    (cond (eqb (r .number) 37) (stopped (r .number) (r .place)) (fault (r .number) (r .place))))
 
 -- an exit that leaves t ends as a run does, and goes on at the place behind
 pub record Ran (end : End) (behind : ℕ) (r : Exit) (t : Config) : Type 0 where
@@ -130,6 +134,33 @@ pub record Compares (env : Env) (s : Config) (c : Ocmp) (end : ℕ) (r : Compare
 abbrev pub ComparesAt : Env → List ℕ → ℕ → Config → Compared → Type 0
 ComparesAt env bs at s r = (e : ℕ) → Stands is-ocmp bs at e → Compares env s (ocmp-at bs at) e r
 
+-- ---- steps
+-- what is counted, in a lent array of words: the steps made are at place 0
+abbrev pub tally : List ℕ → Counted
+tally words = counted (getD words 0 0)
+
+-- an exit that leaves t, with l counted, ends as a part of a run does, and goes on at the place behind
+pub record Reached (end : Ended) (behind : ℕ) (r : Exit) (t : Config) (l : Counted) : Type 0 where
+  pub ends : ended (how r) t l ≡ end
+  pub next : r .number ≡ 0 → r .place ≡ behind
+
+-- an exit from s and k to t and l is that of the instruction that stands at a place, as a step
+abbrev pub StepsIns : Env → Option ℕ → List ℕ → ℕ → Config → Counted → Exit → Config → Counted → Type 0
+StepsIns env limit bs at s k r t l =
+    (e : ℕ) → Stands is-ins bs at e → Reached (step limit at (run-ins env at (ins-at bs at)) s k) e r t l
+
+-- what a Compared says of a comparison at q, as a step from s and k that leaves t and l: 1 where it holds, 0 where it does not, or the number with
+-- which the run ends there; where it goes on, the place behind
+pub record Decides (env : Env) (limit : Option ℕ) (s : Config) (k : Counted) (c : Ocmp) (q end : ℕ) (r : Compared) (t : Config) (l : Counted) : Type 0 where
+  pub stops : 1 < r .how → step limit q (run-ocmp env q c) s k ≡ ended (how (record { number = r .how; place = q })) t l
+  pub goes : r .how ≤ 1 → step limit q (run-ocmp env q c) s k ≡ ended done t l
+  pub holds : r .how ≤ 1 → r .how ≡ cond (eval-ocmp env c s) 1 0
+  pub next : r .how ≤ 1 → r .next ≡ end
+
+-- a Compared is that of the comparison that stands at a place, as a step
+abbrev pub DecidesAt : Env → Option ℕ → List ℕ → ℕ → Config → Counted → Compared → Config → Counted → Type 0
+DecidesAt env limit bs at s k r t l = (e : ℕ) → Stands is-ocmp bs at e → Decides env limit s k (ocmp-at bs at) at e r t l
+
 -- ---- codes
 -- a code stands at a place, inside the bytes
 pub record CodeAt (bs : List ℕ) (at : ℕ) : Type 0 where
@@ -148,13 +179,13 @@ pub record CodesAt (bs : List ℕ) (from end : ℕ) : Type 0 where
 abbrev pub codes-from : List ℕ → ℕ → ℕ
 codes-from bs at = cond (eqb (byte-at bs at) 0x20) (at + 5) at
 
--- an exit from s to t is that of the code that stands at a place, whichever it is
-abbrev pub Runs : Env → List ℕ → ℕ → ℕ → Config → Exit → Config → Type 0
-Runs env bs at fuel s r t = (c : Code) (e : ℕ) → Spells c bs at e → Ran (run-code env c fuel s) e r t
+-- an exit from s and k to t and l is that of the code that stands at a place, whichever it is
+abbrev pub Runs : Env → Option ℕ → List ℕ → ℕ → ℕ → Config → Counted → Exit → Config → Counted → Type 0
+Runs env limit bs at fuel s k r t l = (c : Code) (e : ℕ) → Spells c bs at e → Reached (run-code env limit c fuel s k) e r t l
 
--- an exit from s to t is that of the list of codes between two places, whichever it is
-abbrev pub RunsAll : Env → List ℕ → ℕ → ℕ → ℕ → Config → Exit → Config → Type 0
-RunsAll env bs from e fuel s r t = (cs : Codes) → SpellsAll cs bs from e → Ran (run-codes env cs fuel s) e r t
+-- an exit from s and k to t and l is that of the list of codes between two places, whichever it is
+abbrev pub RunsAll : Env → Option ℕ → List ℕ → ℕ → ℕ → ℕ → Config → Counted → Exit → Config → Counted → Type 0
+RunsAll env limit bs from e fuel s k r t l = (cs : Codes) → SpellsAll cs bs from e → Reached (run-codes env limit cs fuel s k) e r t l
 
 -- ---- the cycle, of what it is lent
 -- a lent value, as it is given and as it is left
@@ -178,10 +209,16 @@ module _ (code : Lent (List ℕ)) (fill : ℕ) (regs xmms : Lent (List ℕ)) (fl
   abbrev pub EvaluatesIns : ℕ → Exit → Type 0
   EvaluatesIns at r = RunsIns env (now (code .entry)) at given r left
 
-  -- what is left, and the exit, are those of the code at a place, with fuel
-  abbrev pub Evaluates : ℕ → ℕ → Exit → Type 0
-  Evaluates at fuel r = Runs env (now (code .entry)) at fuel given r left
+  module _ (counted : Lent (List ℕ)) (limit : ℕ) where
+    -- the same of that instruction as a step
+    abbrev pub EvaluatesStep : ℕ → Exit → Type 0
+    EvaluatesStep at r = StepsIns env (some limit) (now (code .entry)) at given (tally (now (counted .entry))) r left (tally (now (counted .exit)))
 
-  -- what is left, and the exit, are those of the list of codes between two places, with fuel
-  abbrev pub EvaluatesAll : ℕ → ℕ → ℕ → Exit → Type 0
-  EvaluatesAll from end fuel r = RunsAll env (now (code .entry)) from end fuel given r left
+    -- what is left, and the exit, are those of the code at a place, with fuel
+    abbrev pub Evaluates : ℕ → ℕ → Exit → Type 0
+    Evaluates at fuel r = Runs env (some limit) (now (code .entry)) at fuel given (tally (now (counted .entry))) r left (tally (now (counted .exit)))
+
+    -- what is left, and the exit, are those of the list of codes between two places, with fuel
+    abbrev pub EvaluatesAll : ℕ → ℕ → ℕ → Exit → Type 0
+    EvaluatesAll from end fuel r =
+        RunsAll env (some limit) (now (code .entry)) from end fuel given (tally (now (counted .entry))) r left (tally (now (counted .exit)))

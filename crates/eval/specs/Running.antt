@@ -1,49 +1,55 @@
--- Running: accepted code over accepted cells, from a start, with a fill word and fuel.
+-- Running: accepted code over accepted cells, from a start, with a fill word, fuel and a step limit.
 use Prim.Native.Nat.{ℕ, zero, suc}
+use mathlib.Core.Bool.{cond}
 use mathlib.Core.List.{List}
+use mathlib.Core.Option.{Option}
 use Rattle.machine.specs.Cells.{Verdict, check-cells}
 use Rattle.machine.specs.Cells.{accepted as cells-accepted, refused as cells-refused}
 use Rattle.code.specs.declared.tree.Ocmp.{Ocmp}
 use Rattle.code.specs.Tree.{Code, Ins, Block, IfElse, While, Codes, ⟨⟩, _∷ᶜ_}
 use Rattle.code.specs.Reader.{Read, got, trouble, parse}
-use Rattle.eval.specs.Config.{Env, Config, with-flags, End, ends, done, spent, refused, and-then, check, choose}
+use Rattle.eval.specs.Config.{Env, Config, with-flags, End, ends, done, spent, refused, check}
 use Rattle.eval.specs.Instructions.{run-ins, valid-ocmp, ocmp-number, eval-ocmp}
+use Rattle.eval.specs.Counted.{counted, Ended, ended, Part, and-then, step}
 
-module _ (env : Env) where
-  -- a comparison at a place: 31 or 36 where an operand cannot be read; one that passes sets flags to the fill word
-  unfoldable pub run-ocmp : ℕ → Ocmp → (Config → End) → (Config → End) → Config → End
-  run-ocmp q c yes-way no-way s =
-      check (valid-ocmp env c s) (ocmp-number env c s) q s (choose (eval-ocmp env c s) yes-way no-way (with-flags (env .fill) s))
+-- a comparison at a place: 31 or 36 where an operand cannot be read; one that passes sets flags to the fill word
+unfoldable pub run-ocmp : Env → ℕ → Ocmp → Config → End
+run-ocmp env q c s = check (valid-ocmp env c s) (ocmp-number env c s) q s (ends done (with-flags (env .fill) s))
+
+module _ (env : Env) (limit : Option ℕ) where
+  -- a comparison at a place is a step, and then the way that it decides on is taken
+  unfoldable pub choose : ℕ → Ocmp → Part → Part → Part
+  choose q c yes-way no-way s k = and-then (step limit q (run-ocmp env q c) s k) (cond (eval-ocmp env c s) yes-way no-way)
 
   -- the rounds of a While: fuel is tested first, and body and next round each get one less
-  unfoldable pub rounds : (ℕ → Config → End) → ℕ → ℕ → Ocmp → ℕ → Config → End
-  rounds body p q c zero s = ends (spent p) s
-  rounds body p q c (suc fuel) s = run-ocmp q c (λ t. and-then (body fuel t) (rounds body p q c fuel)) (ends done) s
+  unfoldable pub rounds : (ℕ → Part) → ℕ → ℕ → Ocmp → ℕ → Part
+  rounds body p q c zero s k = ended (spent p) s k
+  rounds body p q c (suc fuel) s k = choose q c (λ t l. and-then (body fuel t l) (rounds body p q c fuel)) (ended done) s k
 
   unfoldable mutual
     -- a code, with fuel
-    pub run-code : Code → ℕ → Config → End
-    run-code (Ins p i) fuel s = run-ins env p i s
-    run-code (Block p cs) fuel s = run-codes cs fuel s
-    run-code (IfElse p q c a b) fuel s = run-ocmp q c (run-code a fuel) (run-code b fuel) s
-    run-code (While p q c b) fuel s = rounds (run-code b) p q c fuel s
+    pub run-code : Code → ℕ → Part
+    run-code (Ins p i) fuel s k = step limit p (run-ins env p i) s k
+    run-code (Block p cs) fuel s k = run-codes cs fuel s k
+    run-code (IfElse p q c a b) fuel s k = choose q c (run-code a fuel) (run-code b fuel) s k
+    run-code (While p q c b) fuel s k = rounds (run-code b) p q c fuel s k
 
     -- a list of codes
-    pub run-codes : Codes → ℕ → Config → End
-    run-codes ⟨⟩ fuel s = ends done s
-    run-codes (c ∷ᶜ cs) fuel s = and-then (run-code c fuel s) (run-codes cs fuel)
+    pub run-codes : Codes → ℕ → Part
+    run-codes ⟨⟩ fuel s k = ended done s k
+    run-codes (c ∷ᶜ cs) fuel s k = and-then (run-code c fuel s k) (run-codes cs fuel)
 
 -- the run of what was read, where the cells are accepted
-unfoldable pub run-checked : Env → Verdict → Code → ℕ → Config → End
-run-checked env cells-accepted c fuel s = run-code env c fuel s
-run-checked env (cells-refused n i) c fuel s = ends (refused n i) s
+unfoldable pub run-checked : Env → Verdict → Code → ℕ → Option ℕ → Config → Ended
+run-checked env cells-accepted c fuel limit s = run-code env limit c fuel s (counted 0)
+run-checked env (cells-refused n i) c fuel limit s = ended (refused n i) s (counted 0)
 
--- the run of a reading: refused as code checking does, then as cell checking does
-unfoldable pub run-read : Env → Read Code → ℕ → Config → End
-run-read env (trouble n p) fuel s = ends (refused n p) s
-run-read env (got c next) fuel s =
-    run-checked env (check-cells (env .addresses) (env .tags) (s .values)) c fuel s
+-- the run of a reading: refused as code checking does, then as cell checking does; no step is made
+unfoldable pub run-read : Env → Read Code → ℕ → Option ℕ → Config → Ended
+run-read env (trouble n p) fuel limit s = ended (refused n p) s (counted 0)
+run-read env (got c next) fuel limit s =
+    run-checked env (check-cells (env .addresses) (env .tags) (s .values)) c fuel limit s
 
 -- Running
-unfoldable pub run-of : List ℕ → Env → ℕ → Config → End
-run-of code env fuel s = run-read env (parse code) fuel s
+unfoldable pub run-of : List ℕ → Env → ℕ → Option ℕ → Config → Ended
+run-of code env fuel limit s = run-read env (parse code) fuel limit s

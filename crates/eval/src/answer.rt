@@ -1,9 +1,10 @@
 use machine::State;
 
-// How a run ended. A fault, a loop without fuel and a refusal have a place.
+// How a run ended: each but a run that is done has a place.
 pub enum Answer {
     Done,
     Fault(u8, usize),
+    Stopped(u8, usize),
     Spent(usize),
     Refused(u8, usize),
 }
@@ -12,10 +13,12 @@ pub enum Answer {
 pub struct Run {
     pub answer: Answer,
     pub state: State,
+    pub steps: u64,
 }
 
 // What a caller names for a run beside code, cells and start.
 pub struct Setting {
     pub fill: u64,
     pub fuel: u32,
+    pub limit: u64,
 }

@@ -4,9 +4,10 @@ ghost use mathlib.Core.Path.{_≡_};
 ghost use Prim.Native.Nat.{_≤_};
 ghost use Rattle.code.specs.Records.{byte-at};
 ghost use Rattle.eval.specs.Promises.{Cells, CodeAt, CodesAt, codes-from, Evaluates, EvaluatesAll};
-use crate::comparison::compare;
 use crate::exit::Exit;
-use crate::instruction::instruction;
+use crate::step::COUNTED;
+use crate::step::step_comparison;
+use crate::step::step_instruction;
 use code::number4;
 
 // Where the codes of a part begin, so that a part that is a Block costs no turn of the cycle.
@@ -30,15 +31,29 @@ pub fn eval_codes(
     addresses: &[u64],
     tags: &[u8],
     values: &mut [u64],
+    counted: &mut [u64; COUNTED],
+    limit: u64,
 ) -> Exit
     requires { ⌜ CodesAt (now code) from end ⌝ }
     requires { ⌜ Cells (now addresses) (now tags) (now values) ⌝ }
-    ensures { λ r. ⌜ EvaluatesAll code fill regs xmms flags addresses tags values from end fuel r ⌝ }
+    ensures { λ r. ⌜ EvaluatesAll code fill regs xmms flags addresses tags values counted limit from end fuel r ⌝ }
 {
     let mut next = from;
     while next < end {
         if code[next] < 0x20 {
-            let ran = instruction(code, next, fill, regs, xmms, flags, addresses, tags, values);
+            let ran = step_instruction(
+                code,
+                next,
+                fill,
+                regs,
+                xmms,
+                flags,
+                addresses,
+                tags,
+                values,
+                counted,
+                limit,
+            );
             if ran.number != 0 {
                 return ran;
             }
@@ -55,6 +70,8 @@ pub fn eval_codes(
                 addresses,
                 tags,
                 values,
+                counted,
+                limit,
             );
             if went.number != 0 {
                 return went;
@@ -80,11 +97,13 @@ fn eval_code(
     addresses: &[u64],
     tags: &[u8],
     values: &mut [u64],
+    counted: &mut [u64; COUNTED],
+    limit: u64,
 ) -> Exit
     requires { ⌜ CodeAt (now code) at ⌝ }
     requires { ⌜ 0x20 ≤ byte-at (now code) at ⌝ }
     requires { ⌜ Cells (now addresses) (now tags) (now values) ⌝ }
-    ensures { λ r. ⌜ Evaluates code fill regs xmms flags addresses tags values at fuel r ⌝ }
+    ensures { λ r. ⌜ Evaluates code fill regs xmms flags addresses tags values counted limit at fuel r ⌝ }
 {
     let kind = code[at];
     if kind == 0x20 {
@@ -102,6 +121,8 @@ fn eval_code(
             addresses,
             tags,
             values,
+            counted,
+            limit,
         );
     }
     if kind == 0x21 {
@@ -116,6 +137,8 @@ fn eval_code(
             addresses,
             tags,
             values,
+            counted,
+            limit,
         );
     }
     eval_while(
@@ -129,6 +152,8 @@ fn eval_code(
         addresses,
         tags,
         values,
+        counted,
+        limit,
     )
 }
 
@@ -143,21 +168,33 @@ fn eval_if_else(
     addresses: &[u64],
     tags: &[u8],
     values: &mut [u64],
+    counted: &mut [u64; COUNTED],
+    limit: u64,
 ) -> Exit
     requires { ⌜ CodeAt (now code) at ⌝ }
     requires { ⌜ byte-at (now code) at ≡ 0x21 ⌝ }
     requires { ⌜ Cells (now addresses) (now tags) (now values) ⌝ }
-    ensures { λ r. ⌜ Evaluates code fill regs xmms flags addresses tags values at fuel r ⌝ }
+    ensures { λ r. ⌜ Evaluates code fill regs xmms flags addresses tags values counted limit at fuel r ⌝ }
 {
     let test = at + 9;
-    let compared = compare(code, test, regs, addresses, tags, values);
+    let compared = step_comparison(
+        code,
+        test,
+        fill,
+        regs,
+        flags,
+        addresses,
+        tags,
+        values,
+        counted,
+        limit,
+    );
     if 1 < compared.how {
         return Exit {
             number: compared.how,
             place: test,
         };
     }
-    *flags = fill;
     let first = compared.next;
     let second = first + number4(code, at + 1);
     let end = second + number4(code, at + 5);
@@ -175,6 +212,8 @@ fn eval_if_else(
         addresses,
         tags,
         values,
+        counted,
+        limit,
     );
     if ran.number != 0 {
         return ran;
@@ -196,23 +235,35 @@ fn eval_while(
     addresses: &[u64],
     tags: &[u8],
     values: &mut [u64],
+    counted: &mut [u64; COUNTED],
+    limit: u64,
 ) -> Exit
     requires { ⌜ CodeAt (now code) at ⌝ }
     requires { ⌜ byte-at (now code) at ≡ 0x22 ⌝ }
     requires { ⌜ Cells (now addresses) (now tags) (now values) ⌝ }
-    ensures { λ r. ⌜ Evaluates code fill regs xmms flags addresses tags values at fuel r ⌝ }
+    ensures { λ r. ⌜ Evaluates code fill regs xmms flags addresses tags values counted limit at fuel r ⌝ }
 {
     let mut left = fuel;
     while left != 0 {
         let condition = at + 5;
-        let compared = compare(code, condition, regs, addresses, tags, values);
+        let compared = step_comparison(
+            code,
+            condition,
+            fill,
+            regs,
+            flags,
+            addresses,
+            tags,
+            values,
+            counted,
+            limit,
+        );
         if 1 < compared.how {
             return Exit {
                 number: compared.how,
                 place: condition,
             };
         }
-        *flags = fill;
         let body = compared.next;
         let end = body + number4(code, at + 1);
         if compared.how == 0 {
@@ -234,6 +285,8 @@ fn eval_while(
             addresses,
             tags,
             values,
+            counted,
+            limit,
         );
         if ran.number != 0 {
             return ran;

@@ -10,6 +10,7 @@ mod lanes;
 mod operand;
 mod products;
 mod running;
+mod step;
 mod twos;
 
 pub use answer::Answer;

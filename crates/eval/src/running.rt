@@ -1,8 +1,10 @@
 // Running: code and cells are checked, and then the state's arrays are lent to the evaluator's cycle.
 ghost use mathlib.Core.Path.{_≡_};
+ghost use mathlib.Core.Option.{some};
 ghost use Rattle.machine.specs.Cells.{accepted, check-cells};
 ghost use Rattle.code.specs.Reader.{check-code};
-ghost use Rattle.eval.specs.Config.{config, outcome, end-of};
+ghost use Rattle.eval.specs.Config.{config, outcome};
+ghost use Rattle.eval.specs.Counted.{ended-of};
 ghost use Rattle.eval.specs.Running.{run-of};
 ghost use Rattle.eval.specs.Promises.{environment, how};
 ghost use Rattle.eval.specs.Inputs.{IsInput};
@@ -11,6 +13,8 @@ use crate::answer::Run;
 use crate::answer::Setting;
 use crate::cycle::eval_codes;
 use crate::exit::Exit;
+use crate::step::COUNTED;
+use crate::step::STEPS;
 use code::check_code;
 use machine::Checked;
 use machine::State;
@@ -26,6 +30,9 @@ fn answer_of(ended: Exit) -> Answer
     }
     if number == 1 {
         return Answer::Spent(place);
+    }
+    if number == 37 {
+        return Answer::Stopped(number, place);
     }
     Answer::Fault(number, place)
 }
@@ -43,9 +50,9 @@ pub fn evaluate(
     requires { ⌜ check-code (now code) ≡ accepted ⌝ }
     requires { ⌜ check-cells (now addresses) (now tags) (now values) ≡ accepted ⌝ }
     ensures { λ r. ⌜
-        end-of r (now (values .exit))
+        ended-of r (now (values .exit))
         ≡ run-of (now (code .entry)) (environment (now (addresses .entry)) (now (tags .entry)) (setting .fill))
-        (setting .fuel) (config start (now (values .entry)))
+        (setting .fuel) (some (setting .limit)) (config start (now (values .entry)))
         ⌝ }
 {
     let mut regs = start.regs;
@@ -53,6 +60,8 @@ pub fn evaluate(
     let mut flags = start.flags;
     let fuel = setting.fuel;
     let fill = setting.fill;
+    let limit = setting.limit;
+    let mut counted = [0u64; COUNTED];
     let exit = eval_codes(
         code,
         0,
@@ -65,10 +74,17 @@ pub fn evaluate(
         addresses,
         tags,
         values,
+        &mut counted,
+        limit,
     );
     let answer = answer_of(exit);
     let state = State { regs, xmms, flags };
-    Run { answer, state }
+    let steps = counted[STEPS];
+    Run {
+        answer,
+        state,
+        steps,
+    }
 }
 
 pub fn run(
@@ -80,9 +96,9 @@ pub fn run(
     setting: Setting,
 ) -> Run
     ensures { λ r. ⌜
-        end-of r (now (values .exit))
+        ended-of r (now (values .exit))
         ≡ run-of (now (code .entry)) (environment (now (addresses .entry)) (now (tags .entry)) (setting .fill))
-        (setting .fuel) (config start (now (values .entry)))
+        (setting .fuel) (some (setting .limit)) (config start (now (values .entry)))
         ⌝ }
     ensures { λ _. ⌜ IsInput (now (code .entry)) start setting ⌝ }
 {
@@ -92,6 +108,7 @@ pub fn run(
         return Run {
             answer,
             state: start,
+            steps: 0,
         };
     }
     let cells = check_cells(addresses, tags, values);
@@ -100,6 +117,7 @@ pub fn run(
         return Run {
             answer,
             state: start,
+            steps: 0,
         };
     }
     evaluate(code, addresses, tags, values, start, setting)

@@ -117,6 +117,13 @@ wild-or-above n o regs l = go (wild-operand o regs)
     go true = omega arith
     go false = l
 
+pub wild-or-below : (n : ℕ) (o : Operand) (regs : List ℕ) → n < 37 → wild-or n o regs < 37
+wild-or-below n o regs l = go (wild-operand o regs)
+  where
+    go : (b : Bool) → cond b 36 n < 37
+    go true = omega arith
+    go false = l
+
 module _ (valid : Operand → Bool) (regs : List ℕ) (o : Operand) (os : List Operand) where
   pub unread-here : valid o ≡ false → unread-number valid regs (o ∷ os) ≡ wild-or 31 o regs
   unfolding unread-number
@@ -134,3 +141,12 @@ unread-above valid regs (o ∷ os) = go (valid o) (unread-above valid regs os)
     go : (b : Bool) → 1 < unread-number valid regs os → 1 < cond b (unread-number valid regs os) (wild-or 31 o regs)
     go true h = h
     go false h = wild-or-above 31 o regs (omega arith)
+
+pub unread-below : (valid : Operand → Bool) (regs : List ℕ) (os : List Operand) → unread-number valid regs os < 37
+unfolding unread-number
+unread-below valid regs [] = omega arith
+unread-below valid regs (o ∷ os) = go (valid o) (unread-below valid regs os)
+  where
+    go : (b : Bool) → unread-number valid regs os < 37 → cond b (unread-number valid regs os) (wild-or 31 o regs) < 37
+    go true h = h
+    go false h = wild-or-below 31 o regs (omega arith)

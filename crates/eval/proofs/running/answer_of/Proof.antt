@@ -1,7 +1,7 @@
--- `answer_of` meets its contract: the numbers 0 and 1 are done and spent, and the rest are faults.
+-- `answer_of` meets its contract: the numbers 0, 1 and 37 are done, spent and stopped, and the rest are faults.
 use mathlib.Core.Path.{sym}
 use Rattle.eval.proofs.CycleLaws.{how-done}
-use Rattle.eval.proofs.RunLaws.{how-spent, how-fault}
+use Rattle.eval.proofs.RunLaws.{how-spent, how-stopped, how-fault}
 use Rattle.eval.proofs.running.answer_of.Statement.{statement}
 use Rattle.eval.proofs.running.answer_of.Tie as tie
 
@@ -11,4 +11,5 @@ answer-of-spec =
     (tie.spec
     (λ c. sym (how-done (c .before .args .ended) (c .if1 .taken)))
     (λ c. search how-spent)
+    (λ c. search how-stopped)
     (λ c. search how-fault))

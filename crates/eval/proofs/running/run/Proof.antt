@@ -26,6 +26,7 @@ is-input c =
             flags-word = start .1 .1 .0 .1;
           };
       fill-word = setting .0 .1;
+      limit-word = setting .1 .1 .0 .1;
     }
 
 pub run-spec : {M : Type 1} → statement M

@@ -1,0 +1,92 @@
+// Instructions and comparisons as steps of a run: each is tried only where the limit leaves a step, and counted where it
+// completes. They know nothing of that themselves.
+ghost use mathlib.Core.Path.{_≡_};
+ghost use mathlib.Core.Option.{some};
+ghost use mathlib.Core.List.{List};
+ghost use Prim.Native.Nat.{ℕ, _<_};
+ghost use lib.ListN.{length};
+ghost use Rattle.eval.specs.Counted.{used-up};
+ghost use Rattle.eval.specs.Promises.{environment, held, tally, Cells, InsAt, OcmpAt, EvaluatesStep, DecidesAt};
+use crate::comparison::Compared;
+use crate::comparison::compare;
+use crate::exit::Exit;
+use crate::instruction::instruction;
+
+// What is counted in a run stands in one lent array of words, each at its place.
+pub const COUNTED: usize = 1;
+
+pub const STEPS: usize = 0;
+
+// The array's length is its type's to say, and a contract learns it of a slice.
+fn used_up(counted: &[u64; COUNTED], limit: u64) -> bool
+    ensures { λ r. ⌜ r ≡ used-up (some limit) (tally (now (counted .entry))) ⌝ }
+    ensures { λ _. ⌜ 0 < length (now (counted .entry)) ⌝ }
+{
+    let words: &[u64] = counted;
+    limit <= words[STEPS]
+}
+
+pub fn step_instruction(
+    code: &[u8],
+    at: usize,
+    fill: u64,
+    regs: &mut [u64; 16],
+    xmms: &mut [u32; 64],
+    flags: &mut u64,
+    addresses: &[u64],
+    tags: &[u8],
+    values: &mut [u64],
+    counted: &mut [u64; COUNTED],
+    limit: u64,
+) -> Exit
+    requires { ⌜ InsAt (now code) at ⌝ }
+    requires { ⌜ Cells (now addresses) (now tags) (now values) ⌝ }
+    ensures { λ r. ⌜ EvaluatesStep code fill regs xmms flags addresses tags values counted limit at r ⌝ }
+{
+    if used_up(counted, limit) {
+        return Exit {
+            number: 37,
+            place: at,
+        };
+    }
+    let ran = instruction(code, at, fill, regs, xmms, flags, addresses, tags, values);
+    if ran.number != 0 {
+        return ran;
+    }
+    counted[STEPS] += 1;
+    ran
+}
+
+// The comparison of an IfElse or a While. One that completes sets flags to the fill word.
+pub fn step_comparison(
+    code: &[u8],
+    at: usize,
+    fill: u64,
+    regs: &[u64; 16],
+    flags: &mut u64,
+    addresses: &[u64],
+    tags: &[u8],
+    values: &[u64],
+    counted: &mut [u64; COUNTED],
+    limit: u64,
+) -> Compared
+    requires { ⌜ OcmpAt (now code) at ⌝ }
+    requires { ⌜ Cells (now addresses) (now tags) (now values) ⌝ }
+    ensures { λ r. ⌜
+        ((xmms : List ℕ) →
+        DecidesAt (environment (now (addresses .entry)) (now (tags .entry)) fill) (some limit) (now (code .entry)) at
+        (held (now (regs .entry)) xmms (now (flags .entry)) (now (values .entry))) (tally (now (counted .entry))) r
+        (held (now (regs .entry)) xmms (now (flags .exit)) (now (values .entry))) (tally (now (counted .exit))))
+        ⌝ }
+{
+    if used_up(counted, limit) {
+        return Compared { how: 37, next: at };
+    }
+    let compared = compare(code, at, regs, addresses, tags, values);
+    if 1 < compared.how {
+        return compared;
+    }
+    counted[STEPS] += 1;
+    *flags = fill;
+    compared
+}
