@@ -1,14 +1,14 @@
 -- The third demand: what the byte machine makes of code whose run is Done.
 use Prim.Native.Nat.{ℕ, _≤_, _^_}
 use mathlib.Core.Path.{_≡_}
-use mathlib.Core.Option.{some}
+use mathlib.Core.Option.{Option, some}
 use mathlib.Core.List.{List}
 use Rattle.machine.specs.Registers.{Rsp, reg-at, WordsBelow}
 use Rattle.machine.specs.Bytes.{ByteMemory, Agree, Outside64}
 use Rattle.code.specs.Tree.{Code}
 use Rattle.code.specs.Reader.{got, parse}
-use Rattle.eval.specs.Config.{Env, Config, done}
-use Rattle.eval.specs.Config.{ends as run-ends}
+use Rattle.eval.specs.Config.{Env, Config}
+use Rattle.eval.specs.Counted.{counted}
 use Rattle.eval.specs.Running.{run-code, run-of}
 use Rattle.bytemachine.specs.ByteMachine.{BState, exec}
 
@@ -22,7 +22,7 @@ abbrev pub over-bytes : Config → ByteMemory → BState
 over-bytes s m = record { regs = s .regs; xmms = s .xmms; flags = s .flags; bytes = m }
 
 -- the machine, from the start s over the memory m, beside a run from s that is done with t
-pub record Follows (env : Env) (c : Code) (fuel : ℕ) (s t : Config) (m : ByteMemory) : Type 0 where
+pub record Follows (env : Env) (limit : Option ℕ) (c : Code) (fuel : ℕ) (s t : Config) (m : ByteMemory) : Type 0 where
   -- the machine ends
   pub end : BState
   pub ends : exec (env .fill) c fuel (over-bytes s m) ≡ some end
@@ -38,13 +38,13 @@ pub record Follows (env : Env) (c : Code) (fuel : ℕ) (s t : Config) (m : ByteM
   pub rsp-run : reg-at (t .regs) Rsp ≡ reg-at (s .regs) Rsp
   pub rsp-machine : reg-at (end .regs) Rsp ≡ reg-at (s .regs) Rsp
   -- at every larger fuel both have the same end
-  pub more-run : (g : ℕ) → fuel ≤ g → run-code env c g s ≡ run-ends done t
+  pub more-run : (g : ℕ) → fuel ≤ g → run-code env limit c g s (counted 0) ≡ run-code env limit c fuel s (counted 0)
   pub more-machine : (g : ℕ) → fuel ≤ g → exec (env .fill) c g (over-bytes s m) ≡ some end
 
 -- the same of Running: the code that was read is what the machine takes
-pub record FollowsOf (code : List ℕ) (env : Env) (fuel : ℕ) (s t : Config) (m : ByteMemory) : Type 0 where
+pub record FollowsOf (code : List ℕ) (env : Env) (fuel : ℕ) (limit : Option ℕ) (s t : Config) (m : ByteMemory) : Type 0 where
   pub tree : Code
   pub next : ℕ
   pub is-read : parse code ≡ got tree next
-  pub follows : Follows env tree fuel s t m
-  pub more-of : (g : ℕ) → fuel ≤ g → run-of code env g s ≡ run-ends done t
+  pub follows : Follows env limit tree fuel s t m
+  pub more-of : (g : ℕ) → fuel ≤ g → run-of code env g limit s ≡ run-of code env fuel limit s

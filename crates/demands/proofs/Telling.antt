@@ -25,9 +25,10 @@ use Rattle.code.specs.Layout.{layout, ocmp-layout}
 use Rattle.code.proofs.Layouts.{every-ins}
 use Rattle.code.specs.Tree.{Code, Ins, Block, IfElse, While, Codes, ⟨⟩, _∷ᶜ_}
 use Rattle.code.specs.Reader.{Read, got, trouble, parse}
-use Rattle.eval.specs.Config.{Env, Config, with-flags, Outcome, done, fault, spent, refused, End, ends, continue, and-then, check, choose}
+use Rattle.eval.specs.Config.{Env, Config, with-flags, Outcome, done, fault, stopped, spent, refused, End, ends, check}
 use Rattle.eval.specs.Instructions.{cell-of, valid-operand, valid-dst-operand, update-operand, readable, ruled, written, act, run-ins, valid-ocmp, ocmp-number, eval-ocmp}
-use Rattle.eval.specs.Running.{run-ocmp, rounds, run-code, run-codes, run-checked, run-read, run-of}
+use Rattle.eval.specs.Counted.{Counted, counted, Ended, ended, Part, continue, and-then, used-up, count, step}
+use Rattle.eval.specs.Running.{run-ocmp, choose, rounds, run-code, run-codes, run-checked, run-read, run-of}
 use Rattle.source.proofs.OperandLaws.{both}
 use Rattle.demands.specs.Telling.{OutOfRange, Wild, Absent, Unread, wild-src, absent-src, Unwritten, wild-dst, absent-dst, constant, rsp, AllRead, FirstUnread, AllHold, FirstBroken, FirstUnwritten, Fails, FailsAt, FailsIn, rule-numbers, AcceptedCells, Telling}
 
@@ -50,6 +51,7 @@ not-both e f = absurd (false≢true (sym f ∙ e))
 abbrev IsFault : Outcome → Type 0
 IsFault done = ⊥
 IsFault (fault n p) = Unit {0}
+IsFault (stopped n p) = ⊥
 IsFault (spent p) = ⊥
 IsFault (refused n p) = ⊥
 
@@ -267,10 +269,9 @@ module _ (env : Env) where
       two-fail a b n (inr (e, inl h)) = let w = unread-fails s cells b n h in rw (e, w .0) (refl, w .1)
       two-fail a b n (inr (e, inr h)) = absurd (h .1)
 
-      pub ocmp-fails : (c : Ocmp) (q n : ℕ) (f g : Config → End) → FirstUnread env s (ocmp-layout c .operands) n
-          → run-ocmp env q c f g s ≡ ends (fault n q) s
+      pub ocmp-fails : (c : Ocmp) (q n : ℕ) → FirstUnread env s (ocmp-layout c .operands) n → run-ocmp env q c s ≡ ends (fault n q) s
       unfolding run-ocmp ocmp-number check
-      ocmp-fails c q n f g h =
+      ocmp-fails c q n h =
           let w = pair c in
           let x = two-fail (w .one) (w .other) n (subst (λ os. FirstUnread env s os n) (w .operands) h) in
           rw (w .valid, x .0, w .operands, x .1)
@@ -285,94 +286,111 @@ module _ (env : Env) where
         go true e = let w = pair c in inl (rw (w .operands) (all-read (w .one) (w .other) (sym (w .valid) ∙ e)))
         go false e = inr (ocmp-number env c s, ocmp-unread c e)
 
-    pub ocmp-passes : (c : Ocmp) (q : ℕ) (f g : Config → End) → AllRead env s (ocmp-layout c .operands)
-        → run-ocmp env q c f g s ≡ choose (eval-ocmp env c s) f g (with-flags (env .fill) s)
+    pub ocmp-passes : (c : Ocmp) (q : ℕ) → AllRead env s (ocmp-layout c .operands) → run-ocmp env q c s ≡ ends done (with-flags (env .fill) s)
     unfolding run-ocmp check
-    ocmp-passes c q f g h =
+    ocmp-passes c q h =
         let w = pair c in
         let x = subst (AllRead env s) (w .operands) h in
         rw (w .valid, x .0, x .1 .0)
 
   -- ---- a run, by its tree
-  module _ (n p : ℕ) (t : Config) where
-    abbrev Faults : End → Type 0
-    Faults e = e ≡ ends (fault n p) t
+  module _ (limit : Option ℕ) (n p : ℕ) (t : Config) where
+    abbrev Faults : Ended → Type 0
+    Faults e = e .end ≡ ends (fault n p) t
 
     -- a comparison at q
     abbrev FailsBefore : ℕ → Ocmp → Type 0
     FailsBefore q c = (q ≡ p) × FirstUnread env t (ocmp-layout c .operands) n
 
+    -- somewhere a part of a run faults
+    abbrev FaultsIn : Part → Type 0
+    FaultsIn f = (u : Config) × (l : Counted) × Faults (f u l)
+
+    -- a step that faults was tried
+    step-faults : (q : ℕ) (act : Config → End) (s : Config) (k : Counted) → Faults (step limit q act s k) → act s ≡ ends (fault n p) t
+    unfolding step
+    step-faults q act s k = go (used-up limit k)
+      where
+        go : (b : Bool) → Faults (cond b (ended (stopped 37 q) s k) (record { end = act s; counted = count (act s .how) k })) → act s ≡ ends (fault n p) t
+        go true e = absurd (is-fault e)
+        go false e = e
+
+    -- a fault of two in a row is the first one's, or the second one's
+    then-faults : (e : Ended) (f : Part) → Faults (and-then e f) → Faults e ⊎ FaultsIn f
+    unfolding continue
+    then-faults e f h = go (e .end .how) (e .end .config) (e .counted) h
+      where
+        go : (o : Outcome) (u : Config) (l : Counted) → Faults (continue o u l f) → Faults (ended o u l) ⊎ FaultsIn f
+        go done u l h = inr (u, l, h)
+        go (fault m q) u l h = inl h
+        go (stopped m q) u l h = inl h
+        go (spent q) u l h = inl h
+        go (refused m q) u l h = inl h
+
     -- a fault is the comparison's, or that of one of its ways
-    ocmp-faults : (q : ℕ) (c : Ocmp) (f g : Config → End) (s : Config) → Faults (run-ocmp env q c f g s)
-        → FailsBefore q c ⊎ (((u : Config) × Faults (f u)) ⊎ ((u : Config) × Faults (g u)))
-    unfolding run-ocmp choose
-    ocmp-faults q c f g s e =
+    choose-faults : (q : ℕ) (c : Ocmp) (f g : Part) (s : Config) (k : Counted) → Faults (choose env limit q c f g s k)
+        → FailsBefore q c ⊎ (FaultsIn f ⊎ FaultsIn g)
+    unfolding choose run-ocmp
+    choose-faults q c f g s k e =
         ⊎-elim
+        (λ h. ⊎-elim
         (λ w. inl (
           sym (w .1),
           subst⁻¹ (λ (x : Config). FirstUnread env x (ocmp-layout c .operands) n) (w .2)
               (subst⁻¹ (λ m. FirstUnread env s (ocmp-layout c .operands) m) (w .3) (ocmp-unread s c (w .0))),
         ))
-        (λ w. inr (go (eval-ocmp env c s) (w .1)))
-        (check-faults q s (valid-ocmp env c s) _ _ e)
+        (λ w. absurd (is-fault (w .1)))
+        (check-faults q s (valid-ocmp env c s) _ _ (step-faults q (run-ocmp env q c) s k h)))
+        (λ h. inr (go (eval-ocmp env c s) h))
+        (then-faults (step limit q (run-ocmp env q c) s k) (cond (eval-ocmp env c s) f g) e)
       where
-        go : (b : Bool) → Faults (choose b f g (with-flags (env .fill) s)) → ((u : Config) × Faults (f u)) ⊎ ((u : Config) × Faults (g u))
-        go true h = inl (with-flags (env .fill) s, h)
-        go false h = inr (with-flags (env .fill) s, h)
+        go : (b : Bool) → FaultsIn (cond b f g) → FaultsIn f ⊎ FaultsIn g
+        go true h = inl h
+        go false h = inr h
 
-    -- a fault of two in a row is the first one's, or the second one's
-    then-faults : (e : End) (k : Config → End) → Faults (and-then e k) → Faults e ⊎ ((u : Config) × Faults (k u))
-    unfolding continue
-    then-faults e k h = go (e .how) (e .config) h
-      where
-        go : (o : Outcome) (u : Config) → Faults (continue o u k) → Faults (ends o u) ⊎ ((u : Config) × Faults (k u))
-        go done u h = inr (u, h)
-        go (fault m q) u h = inl h
-        go (spent q) u h = inl h
-        go (refused m q) u h = inl h
-
-    rounds-fault : (body : ℕ → Config → End) (r q : ℕ) (c : Ocmp) (A : Type 0) → ((f : ℕ) (u : Config) → Faults (body f u) → A)
-        → (f : ℕ) (s : Config) → Faults (rounds env body r q c f s) → FailsBefore q c ⊎ A
+    rounds-fault : (body : ℕ → Part) (r q : ℕ) (c : Ocmp) (A : Type 0) → ((f : ℕ) (u : Config) (l : Counted) → Faults (body f u l) → A)
+        → (f : ℕ) (s : Config) (k : Counted) → Faults (rounds env limit body r q c f s k) → FailsBefore q c ⊎ A
     unfolding rounds
-    rounds-fault body r q c A inside zero s e = absurd (is-fault e)
-    rounds-fault body r q c A inside (suc f) s e =
+    rounds-fault body r q c A inside zero s k e = absurd (is-fault e)
+    rounds-fault body r q c A inside (suc f) s k e =
         ⊎-elim (λ h. inl h)
         (λ h. ⊎-elim
-        (λ x. ⊎-elim (λ y. inr (inside f (x .0) y)) (λ y. rounds-fault body r q c A inside f (y .0) (y .1)) (then-faults (body f (x .0)) _ (x .1)))
-        (λ x. absurd (is-fault (x .1)))
+        (λ x. ⊎-elim (λ y. inr (inside f (x .0) (x .1) y)) (λ y. rounds-fault body r q c A inside f (y .0) (y .1) (y .2))
+        (then-faults (body f (x .0) (x .1)) _ (x .2)))
+        (λ x. absurd (is-fault (x .2)))
         h)
-        (ocmp-faults q c _ _ s e)
+        (choose-faults q c _ _ s k e)
 
     mutual
       unfolding run-code run-codes
 
-      code-faults : (c : Code) (f : ℕ) (s : Config) → Faults (run-code env c f s) → FailsAt env c p t n
-      code-faults (Ins q i) f s e =
-          let w = ins-faults q s i e in
+      code-faults : (c : Code) (f : ℕ) (s : Config) (k : Counted) → Faults (run-code env limit c f s k) → FailsAt env c p t n
+      code-faults (Ins q i) f s k e =
+          let w = ins-faults q s i (step-faults q (run-ins env q i) s k e) in
           (sym (w .0), subst⁻¹ (λ (x : Config). Fails env i x n) (w .1) (w .2))
-      code-faults (Block q cs) f s e = codes-fault cs f s e
-      code-faults (IfElse r q c a b) f s e =
+      code-faults (Block q cs) f s k e = codes-fault cs f s k e
+      code-faults (IfElse r q c a b) f s k e =
           ⊎-elim (λ h. inl h)
-          (λ h. inr (⊎-elim (λ x. inl (code-faults a f (x .0) (x .1))) (λ x. inr (code-faults b f (x .0) (x .1))) h))
-          (ocmp-faults q c _ _ s e)
-      code-faults (While r q c b) f s e = rounds-fault (run-code env b) r q c (FailsAt env b p t n) (code-faults b) f s e
+          (λ h. inr (⊎-elim (λ x. inl (code-faults a f (x .0) (x .1) (x .2))) (λ x. inr (code-faults b f (x .0) (x .1) (x .2))) h))
+          (choose-faults q c _ _ s k e)
+      code-faults (While r q c b) f s k e = rounds-fault (run-code env limit b) r q c (FailsAt env b p t n) (code-faults b) f s k e
 
-      codes-fault : (cs : Codes) (f : ℕ) (s : Config) → Faults (run-codes env cs f s) → FailsIn env cs p t n
-      codes-fault ⟨⟩ f s e = absurd (is-fault e)
-      codes-fault (c ∷ᶜ cs) f s e =
-          ⊎-elim (λ h. inl (code-faults c f s h)) (λ h. inr (codes-fault cs f (h .0) (h .1))) (then-faults (run-code env c f s) _ e)
+      codes-fault : (cs : Codes) (f : ℕ) (s : Config) (k : Counted) → Faults (run-codes env limit cs f s k) → FailsIn env cs p t n
+      codes-fault ⟨⟩ f s k e = absurd (is-fault e)
+      codes-fault (c ∷ᶜ cs) f s k e =
+          ⊎-elim (λ h. inl (code-faults c f s k h)) (λ h. inr (codes-fault cs f (h .0) (h .1) (h .2))) (then-faults (run-code env limit c f s k) _ e)
 
     -- Running, which faults only where code was read and cells were accepted
-    run-faults : (code : List ℕ) (fuel : ℕ) (s : Config) → Faults (run-of code env fuel s)
+    run-faults : (code : List ℕ) (fuel : ℕ) (s : Config) → Faults (run-of code env fuel limit s)
         → (c : Code) × (next : ℕ) × (parse code ≡ got c next) × FailsAt env c p t n
     unfolding run-of run-read run-checked
     run-faults code fuel s e = read (parse code) refl e
       where
-        checked : (v : Verdict) (c : Code) → Faults (run-checked env v c fuel s) → FailsAt env c p t n
-        checked accepted c e = code-faults c fuel s e
+        checked : (v : Verdict) (c : Code) → Faults (run-checked env v c fuel limit s) → FailsAt env c p t n
+        checked accepted c e = code-faults c fuel s (counted 0) e
         checked (cells-refused m i) c e = absurd (is-fault e)
 
-        read : (r : Read Code) → parse code ≡ r → Faults (run-read env r fuel s) → (c : Code) × (next : ℕ) × (parse code ≡ got c next) × FailsAt env c p t n
+        read : (r : Read Code) → parse code ≡ r → Faults (run-read env r fuel limit s) → (c : Code) × (next : ℕ) × (parse code ≡ got c next) × FailsAt env c p t n
         read (got c next) is e = (c, next, is, checked (check-cells (env .addresses) (env .tags) (s .values)) c e)
         read (trouble m q) is e = absurd (is-fault e)
 
@@ -394,8 +412,8 @@ telling = record {
   faults = λ env i p q n s t. ins-faults env p s i;
   fails = λ env cells i p n s. ins-fails env p s cells n i;
   either = λ env c s. ocmp-either env s c;
-  compare-fails = λ env cells c q n f g s. ocmp-fails env s cells c q n f g;
-  compares = λ env c q f g s. ocmp-passes env s c q f g;
-  told = λ code env fuel p n s t. run-faults env n p t code fuel s;
+  compare-fails = λ env cells c q n s. ocmp-fails env s cells c q n;
+  compares = λ env c q s. ocmp-passes env s c q;
+  told = λ code env fuel limit p n s t. run-faults env limit n p t code fuel s;
   out-no-cell = λ env cells m s. no-cell-out env s cells (eval-maddr m (s .regs));
 }

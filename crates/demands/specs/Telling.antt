@@ -6,7 +6,7 @@ use mathlib.Core.Path.{_≡_}
 use mathlib.Core.Bool.{Bool, true, false}
 use mathlib.Core.List.{List, [], _∷_, _++_, map, reverse}
 use mathlib.Core.Logic.{_⊎_}
-use mathlib.Core.Option.{none}
+use mathlib.Core.Option.{Option, none}
 use lib.IntN.{ℤ, pos, negsuc}
 use Rattle.machine.specs.Registers.{Rsp}
 use Rattle.machine.specs.Operands.{eval-maddr}
@@ -20,8 +20,8 @@ use Rattle.code.specs.Families.{at-kind}
 use Rattle.code.specs.Layout.{layout, ocmp-layout}
 use Rattle.code.specs.Tree.{Code, Ins, Block, IfElse, While, Codes, ⟨⟩, _∷ᶜ_}
 use Rattle.code.specs.Reader.{got, parse}
-use Rattle.eval.specs.Config.{Env, Config, with-flags, End, ends, fault, choose}
-use Rattle.eval.specs.Instructions.{cell-of, valid-operand, valid-dst-operand, update-operand, act, run-ins, eval-ocmp}
+use Rattle.eval.specs.Config.{Env, Config, with-flags, ends, done, fault}
+use Rattle.eval.specs.Instructions.{cell-of, valid-operand, valid-dst-operand, update-operand, act, run-ins}
 use Rattle.eval.specs.Running.{run-ocmp, run-of}
 
 -- an exact address below 0 or above 2^64 - 1
@@ -122,15 +122,15 @@ pub record Telling : Type 0 where
       → (q ≡ p) × (t ≡ s) × Fails env i s n
   -- and one that fails faults
   pub fails : (env : Env) → AcceptedCells env → (i : Instruction) (p n : ℕ) (s : Config) → Fails env i s n → run-ins env p i s ≡ ends (fault n p) s
-  -- of a comparison the first operand that cannot be read decides; where both can be read, it takes its way
+  -- of a comparison the first operand that cannot be read decides; where both can be read, it is done
   pub either : (env : Env) (c : Ocmp) (s : Config)
       → AllRead env s (ocmp-layout c .operands) ⊎ ((n : ℕ) × FirstUnread env s (ocmp-layout c .operands) n)
-  pub compare-fails : (env : Env) → AcceptedCells env → (c : Ocmp) (q n : ℕ) (f g : Config → End) (s : Config)
-      → FirstUnread env s (ocmp-layout c .operands) n → run-ocmp env q c f g s ≡ ends (fault n q) s
-  pub compares : (env : Env) (c : Ocmp) (q : ℕ) (f g : Config → End) (s : Config) → AllRead env s (ocmp-layout c .operands)
-      → run-ocmp env q c f g s ≡ choose (eval-ocmp env c s) f g (with-flags (env .fill) s)
+  pub compare-fails : (env : Env) → AcceptedCells env → (c : Ocmp) (q n : ℕ) (s : Config)
+      → FirstUnread env s (ocmp-layout c .operands) n → run-ocmp env q c s ≡ ends (fault n q) s
+  pub compares : (env : Env) (c : Ocmp) (q : ℕ) (s : Config) → AllRead env s (ocmp-layout c .operands)
+      → run-ocmp env q c s ≡ ends done (with-flags (env .fill) s)
   -- a run that faults: what stands at the place fails so in the state that is handed back
-  pub told : (code : List ℕ) (env : Env) (fuel p n : ℕ) (s t : Config) → run-of code env fuel s ≡ ends (fault n p) t
+  pub told : (code : List ℕ) (env : Env) (fuel : ℕ) (limit : Option ℕ) (p n : ℕ) (s t : Config) → run-of code env fuel limit s .end ≡ ends (fault n p) t
       → (c : Code) × (next : ℕ) × (parse code ≡ got c next) × FailsAt env c p t n
   -- out of range there is no cell
   pub out-no-cell : (env : Env) → AcceptedCells env → (m : Maddr) (s : Config) → OutOfRange (eval-maddr m (s .regs)) → cell-of env m s ≡ none

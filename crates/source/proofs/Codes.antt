@@ -12,9 +12,10 @@ use Rattle.code.specs.declared.tree.Ocmp.{Ocmp}
 use Rattle.code.specs.Tree.{Code, Ins, Block, IfElse, While, Codes, ⟨⟩, _∷ᶜ_}
 use Rattle.code.proofs.Layouts.{every-ins}
 use Rattle.code.specs.WellFormed.{WfOcmp, WfCode, WfCodes}
-use Rattle.eval.specs.Config.{Env, Config, with-flags, End, ends, done, fault, spent, continue, and-then}
+use Rattle.eval.specs.Config.{Env, Config, with-flags, End, ends, done, fault, spent}
 use Rattle.eval.specs.Config as Config
 use Rattle.eval.specs.Instructions as Run
+use Rattle.eval.specs.Counted.{Counted, Ended, ended, Part, continue, and-then, used-up, count, step}
 use Rattle.eval.specs.Running as Running
 use Rattle.source.specs.Source as Source
 use Rattle.source.specs.Source.{State, St, with-ok, choose, eval-ins}
@@ -122,12 +123,12 @@ module _ (env : Env) where
     ends-fault : (n p : ℕ) (t : Config) → r ≡ ends (fault n p) t → first-bad (m .0) ≡ some (failed n p (state-of env t)) → Clear (m .1) → Tells r m
     ends-spent : (p : ℕ) (t : Config) → r ≡ ends (spent p) t → first-bad (m .0) ≡ some (starved p (state-of env t)) → Clear (m .1) → Tells r m
 
-  abbrev pub TellAll : (Config → End) → (State → Logged) → Type 0
-  TellAll k l = (t : Config) → Held env t → Tells (k t) (l (state-of env t))
+  abbrev pub TellAll : Part → (State → Logged) → Type 0
+  TellAll f l = (t : Config) (k : Counted) → Held env t → Tells (f t k .end) (l (state-of env t))
 
-  tells-returned : TellAll (ends done) returned
+  tells-returned : TellAll (ended done) returned
   unfolding first-bad
-  tells-returned t h = ends-done t refl h refl refl
+  tells-returned t k h = ends-done t refl h refl refl
 
   tells-after : (l : List Event) (r : End) (m : Logged) → first-bad l ≡ none → Tells r m → Tells r (after l m)
   tells-after l r m e (ends-done t a h f g) = ends-done t a h (good-then l (m .0) e ∙ f) g
@@ -139,19 +140,20 @@ module _ (env : Env) where
   stopped-then l none k x e = e
   stopped-then l (some u) k x e = bad-then l (k u .0) x e
 
-  tells-then : (r : End) (l : List Event) (o : Option State) (k : Config → End) (k′ : State → Logged) → Tells r (l, o) → TellAll k k′ → Clears k′
-      → Tells (and-then r k) (if-some l o k′)
+  tells-then : (r : Ended) (l : List Event) (o : Option State) (k : Part) (k′ : State → Logged) → Tells (r .end) (l, o) → TellAll k k′ → Clears k′
+      → Tells (and-then r k .end) (if-some l o k′)
   unfolding continue if-some
   tells-then r l o k k′ (ends-done t a h f g) all clears =
-      subst⁻¹ (λ (x : End). Tells (and-then x k) (if-some l o k′)) a
-      (subst⁻¹ (λ (x : Option State). Tells (k t) (if-some l x k′)) g (tells-after l (k t) (k′ (state-of env t)) f (all t h)))
+      subst⁻¹ (λ (x : End). Tells (continue (x .how) (x .config) (r .counted) k .end) (if-some l o k′)) a
+      (subst⁻¹ (λ (x : Option State). Tells (k t (r .counted) .end) (if-some l x k′)) g
+      (tells-after l (k t (r .counted) .end) (k′ (state-of env t)) f (all t (r .counted) h)))
   tells-then r l o k k′ (ends-fault n p t a f g) all clears =
-      ends-fault n p t (ap (λ x. and-then x k) a) (stopped-then l o k′ _ f) (clear-some l o k′ g clears)
+      ends-fault n p t (ap (λ (x : End). continue (x .how) (x .config) (r .counted) k .end) a) (stopped-then l o k′ _ f) (clear-some l o k′ g clears)
   tells-then r l o k k′ (ends-spent p t a f g) all clears =
-      ends-spent p t (ap (λ x. and-then x k) a) (stopped-then l o k′ _ f) (clear-some l o k′ g clears)
+      ends-spent p t (ap (λ (x : End). continue (x .how) (x .config) (r .counted) k .end) a) (stopped-then l o k′ _ f) (clear-some l o k′ g clears)
 
-  tells-choose : (b : Bool) (f g : Config → End) (f′ g′ : State → Logged) → TellAll f f′ → TellAll g g′ → TellAll (Config.choose b f g) (choose b f′ g′)
-  unfolding Config.choose choose
+  tells-choose : (b : Bool) (f g : Part) (f′ g′ : State → Logged) → TellAll f f′ → TellAll g g′ → TellAll (cond b f g) (choose b f′ g′)
+  unfolding choose
   tells-choose true f g f′ g′ F G = F
   tells-choose false f g f′ g′ F G = G
 
@@ -173,10 +175,11 @@ module _ (env : Env) where
     ocmp-fails c s h e =
         rw (valid-ocmp-is env load-mem64 loads int-to-nat64 ints c s h ∙ e, ocmp-number-is env load-mem64 loads int-to-nat64 ints c s h) (refl, refl)
 
-    tells-ocmp : (q : ℕ) (c : Ocmp) (f g : Config → End) (f′ g′ : State → Logged) → WfOcmp c → TellAll f f′ → TellAll g g′ → Clears f′ → Clears g′
-        → TellAll (Running.run-ocmp env q c f g) (log-ocmp load-mem64 int-to-nat64 (env .fill) q c f′ g′)
-    unfolding Running.run-ocmp Config.check events first-bad
-    tells-ocmp q c f g f′ g′ fits F G F′ G′ s h = go (Run.valid-ocmp env c s) refl
+    -- of the run without a limit, which tries each step
+    tells-ocmp : (q : ℕ) (c : Ocmp) (f g : Part) (f′ g′ : State → Logged) → WfOcmp c → TellAll f f′ → TellAll g g′ → Clears f′ → Clears g′
+        → TellAll (Running.choose env none q c f g) (log-ocmp load-mem64 int-to-nat64 (env .fill) q c f′ g′)
+    unfolding Running.choose Running.run-ocmp Config.check step used-up count continue events first-bad
+    tells-ocmp q c f g f′ g′ fits F G F′ G′ s k h = go (Run.valid-ocmp env c s) refl
       where
         next : (State × Bool) × List Note → Logged
         next r = after (events q (state-of env s) (r .1)) (choose (r .0 .1) f′ g′ (r .0 .0))
@@ -185,14 +188,19 @@ module _ (env : Env) where
         n : ℕ
         n = Run.ocmp-number env c s
 
-        -- the way that the run takes
-        taken : End
-        taken = Config.choose (Run.eval-ocmp env c s) f g (with-flags (env .fill) s)
+        -- where it passes, and where the run then goes on
+        passed-end : End
+        passed-end = ends done (with-flags (env .fill) s)
 
-        go : (b : Bool) → Run.valid-ocmp env c s ≡ b → Tells (Config.check b n q s taken) (next (noted s c))
+        way : Part
+        way = cond (Run.eval-ocmp env c s) f g
+
+        go : (b : Bool) → Run.valid-ocmp env c s ≡ b
+            → let e = Config.check b n q s passed-end in Tells (continue (e .how) (e .config) (count (e .how) k) way .end) (next (noted s c))
         go true e =
-            subst⁻¹ (λ (r : (State × Bool) × List Note). Tells taken (next r)) (ocmp-passes c s fits h e)
-            (tells-after (passed n q ∷ []) _ _ refl (tells-choose (Run.eval-ocmp env c s) f g f′ g′ F G (with-flags (env .fill) s) h))
+            let t = with-flags (env .fill) s in
+            subst⁻¹ (λ (r : (State × Bool) × List Note). Tells (way t (count done k) .end) (next r)) (ocmp-passes c s fits h e)
+            (tells-after (passed n q ∷ []) _ _ refl (tells-choose (Run.eval-ocmp env c s) f g f′ g′ F G t (count done k) h))
         go false e =
             let r = noted s c in
             let u = state-of env s in
@@ -206,33 +214,33 @@ module _ (env : Env) where
     tells-ins p s o r (finishes t a h f g) = ends-done t a h (events-good p _ (o .1) f) (ap some g)
     tells-ins p s o r (stops n a f g) = ends-fault n p s a (events-bad p _ (o .1) n f) g
 
-    tells-rounds : (p q : ℕ) (c : Ocmp) (body : ℕ → Config → End) (body′ : ℕ → State → Logged) → WfOcmp c
+    tells-rounds : (p q : ℕ) (c : Ocmp) (body : ℕ → Part) (body′ : ℕ → State → Logged) → WfOcmp c
         → ((f : ℕ) → TellAll (body f) (body′ f)) → ((f : ℕ) → Clears (body′ f)) → (f : ℕ)
-        → TellAll (Running.rounds env body p q c f) (log-while load-mem64 int-to-nat64 (env .fill) p q c body′ f)
+        → TellAll (Running.rounds env none body p q c f) (log-while load-mem64 int-to-nat64 (env .fill) p q c body′ f)
     unfolding Running.rounds log-while first-bad choose
-    tells-rounds p q c body body′ fits tells clears zero s h = ends-spent p s refl refl tt
-    tells-rounds p q c body body′ fits tells clears (suc f) s h =
+    tells-rounds p q c body body′ fits tells clears zero s k h = ends-spent p s refl refl tt
+    tells-rounds p q c body body′ fits tells clears (suc f) s k h =
         let next : State → Logged = λ u. choose (u .ok) (log-while load-mem64 int-to-nat64 (env .fill) p q c body′ f) returned u in
         let next-clear : Clears next = λ u e. clear-choose (u .ok) _ _ (clear-while load-mem64 int-to-nat64 (env .fill) p q c body′ clears f) (λ v g. g) u e in
         tells-ocmp q c _ _ (λ u. if-some (body′ f u .0) (body′ f u .1) next) returned fits
-        (λ t k. tells-then _ _ _ _ next (tells f t k) (tells-rounds p q c body body′ fits tells clears f) next-clear)
+        (λ t l i. tells-then _ _ _ _ next (tells f t l i) (tells-rounds p q c body body′ fits tells clears f) next-clear)
         tells-returned
         (λ u e. clear-some _ _ next (clears f u e) next-clear)
-        (λ u e. e) s h
+        (λ u e. e) s k h
 
     mutual
-      unfolding WfCode Running.run-code Running.run-codes log-code log-codes
+      unfolding WfCode Running.run-code Running.run-codes step used-up log-code log-codes
 
-      pub tells-code : (c : Code) → WfCode c → (f : ℕ) → TellAll (Running.run-code env c f) (log-code load-mem64 int-to-nat64 (env .fill) c f)
-      tells-code (Ins p i) fits f s h = tells-ins p s _ _ (says-ins env load-mem64 loads int-to-nat64 ints p s h i fits)
-      tells-code (Block p cs) fits f s h = tells-codes cs fits f s h
-      tells-code (IfElse p q c a b) fits f s h =
+      pub tells-code : (c : Code) → WfCode c → (f : ℕ) → TellAll (Running.run-code env none c f) (log-code load-mem64 int-to-nat64 (env .fill) c f)
+      tells-code (Ins p i) fits f s k h = tells-ins p s _ _ (says-ins env load-mem64 loads int-to-nat64 ints p s h i fits)
+      tells-code (Block p cs) fits f s k h = tells-codes cs fits f s k h
+      tells-code (IfElse p q c a b) fits f s k h =
           tells-ocmp q c _ _ _ _ (fits .0) (tells-code a (fits .1) f) (tells-code b (fits .2) f)
-          (clear-code load-mem64 int-to-nat64 (env .fill) a f) (clear-code load-mem64 int-to-nat64 (env .fill) b f) s h
-      tells-code (While p q c b) fits f s h =
-          tells-rounds p q c _ _ (fits .0) (tells-code b (fits .1)) (clear-code load-mem64 int-to-nat64 (env .fill) b) f s h
+          (clear-code load-mem64 int-to-nat64 (env .fill) a f) (clear-code load-mem64 int-to-nat64 (env .fill) b f) s k h
+      tells-code (While p q c b) fits f s k h =
+          tells-rounds p q c _ _ (fits .0) (tells-code b (fits .1)) (clear-code load-mem64 int-to-nat64 (env .fill) b) f s k h
 
-      pub tells-codes : (cs : Codes) → WfCodes cs → (f : ℕ) → TellAll (Running.run-codes env cs f) (log-codes load-mem64 int-to-nat64 (env .fill) cs f)
-      tells-codes ⟨⟩ fits f s h = tells-returned s h
-      tells-codes (c ∷ᶜ cs) fits f s h =
-          tells-then _ _ _ _ _ (tells-code c (fits .0) f s h) (tells-codes cs (fits .1) f) (clear-codes load-mem64 int-to-nat64 (env .fill) cs f)
+      pub tells-codes : (cs : Codes) → WfCodes cs → (f : ℕ) → TellAll (Running.run-codes env none cs f) (log-codes load-mem64 int-to-nat64 (env .fill) cs f)
+      tells-codes ⟨⟩ fits f s k h = tells-returned s k h
+      tells-codes (c ∷ᶜ cs) fits f s k h =
+          tells-then _ _ _ _ _ (tells-code c (fits .0) f s k h) (tells-codes cs (fits .1) f) (clear-codes load-mem64 int-to-nat64 (env .fill) cs f)

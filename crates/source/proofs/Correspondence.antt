@@ -4,7 +4,7 @@ use Prim.Native.Nat.{ℕ, _≤_, _<_, _^_}
 use mathlib.Core.Path.{_≡_, refl, sym, _∙_, ap, subst, subst⁻¹}
 use mathlib.Core.Bool.{Bool, true, false}
 use mathlib.Core.List.{List}
-use mathlib.Core.Option.{none, some}
+use mathlib.Core.Option.{Option, none, some}
 use native.Mathlib.Omega.{arith}
 use borrow.Author.Tests.{leb-true, leb-false}
 use lib.Dec.{leb}
@@ -19,8 +19,9 @@ use Rattle.code.specs.WellFormed.{WfCode}
 use Rattle.code.specs.Reader.{got, parse}
 use Rattle.code.proofs.Accepted.{parse-wf}
 use Rattle.eval.specs.Config.{Env, Config, Outcome, done, fault, spent, End, ends}
+use Rattle.eval.specs.Counted.{counted, Ended, NotStopped}
 use Rattle.eval.specs.Running.{run-code, run-checked, run-read, run-of}
-use Rattle.eval.proofs.Fuel.{done-more, fault-more}
+use Rattle.eval.proofs.Larger.{more-fuel, no-limit}
 use Rattle.source.specs.Source.{State, eval-code}
 use Rattle.source.specs.Log.{failed, starved, first-bad, Logged, log-code}
 use Rattle.source.specs.Correspondence.{IntToNat64, state-of, Corresponds, Correspondence}
@@ -36,6 +37,10 @@ same-how r o o′ t t′ e f = ap (λ x. x .how) (sym e ∙ f)
 
 same-end : (r : End) (o o′ : Outcome) (t t′ : Config) → r ≡ ends o t → r ≡ ends o′ t′ → t ≡ t′
 same-end r o o′ t t′ e f = ap (λ x. x .config) (sym e ∙ f)
+
+-- the end of the run without a limit
+abbrev unlimited : Env → Code → ℕ → Config → End
+unlimited env c f s = run-code env none c f s (counted 0) .end
 
 -- one answer rules out another
 module _ (r : End) (n p q : ℕ) (t t′ : Config) where
@@ -104,22 +109,31 @@ module _ (env : Env) (r : End) (m : Logged) where
       (t, a ∙ (λ x. ends (spent (j x)) t), (cc))
 
 -- a fault at one fuel and a done run at another
-never-both : (env : Env) (c : Code) (s t t′ : Config) (f g n p : ℕ) → run-code env c f s ≡ ends (fault n p) t → run-code env c g s ≡ ends done t′ → ⊥
+never-both : (env : Env) (c : Code) (s t t′ : Config) (f g n p : ℕ) → unlimited env c f s ≡ ends (fault n p) t → unlimited env c g s ≡ ends done t′ → ⊥
 never-both env c s t t′ f g n p a b = go (leb f g) refl
   where
+    -- the run with the larger fuel ends as the other does, which is not spent
+    more : (f g : ℕ) → f ≤ g → (o : Outcome) (u : Config) → unlimited env c f s ≡ ends o u → ((q : ℕ) → o ≡ spent q → ⊥) → unlimited env c g s ≡ ends o u
+    more f g le o u e unspent =
+        ap (λ (x : Ended). x .end) (more-fuel env none c f g le s (counted 0) (λ q h. unspent q (sym (ap (λ (x : End). x .how) e) ∙ h))) ∙ e
+
     go : (x : Bool) → leb f g ≡ x → ⊥
-    go true k = not-both (run-code env c g s) n p 0 t′ t b (fault-more env c f g (leb-true f g k) s t n p a)
-    go false k = not-both (run-code env c f s) n p 0 t′ t (done-more env c g f (let h = leb-false f g k in omega arith) s t′ b) a
+    go true k =
+        not-both (unlimited env c g s) n p 0 t′ t b
+        (more f g (leb-true f g k) (fault n p) t a (λ q h. let z : _≡_ {A = ℕ} 0 1 = cc in omega arith))
+    go false k =
+        not-both (unlimited env c f s) n p 0 t′ t
+        (more g f (let h = leb-false f g k in omega arith) done t′ b (λ q h. let z : _≡_ {A = ℕ} 0 1 = cc in omega arith)) a
 
 module _ (load-mem64 : ℤ → Memory → ℕ) (loads : LoadsMem64 load-mem64) (int-to-nat64 : ℤ → ℕ) (ints : IntToNat64 int-to-nat64)
     (env : Env) (s : Config) (cells : check-cells (env .addresses) (env .tags) (s .values) ≡ accepted) (c : Code) (fits : WfCode c) where
-  tells : (f : ℕ) → Tells env (run-code env c f s) (log-code load-mem64 int-to-nat64 (env .fill) c f (state-of env s))
-  tells f = tells-code env load-mem64 loads int-to-nat64 ints c fits f s (held (env .addresses) (env .tags) (s .values) cells)
+  tells : (f : ℕ) → Tells env (unlimited env c f s) (log-code load-mem64 int-to-nat64 (env .fill) c f (state-of env s))
+  tells f = tells-code env load-mem64 loads int-to-nat64 ints c fits f s (counted 0) (held (env .addresses) (env .tags) (s .values) cells)
 
   erased : (f : ℕ) → log-code load-mem64 int-to-nat64 (env .fill) c f (state-of env s) .1 ≡ eval-code load-mem64 int-to-nat64 (env .fill) c f (state-of env s)
   erased f = erase-code load-mem64 int-to-nat64 (env .fill) c f (state-of env s)
 
-  never : (f n p : ℕ) (t : Config) → run-code env c f s ≡ ends (fault n p) t
+  never : (f n p : ℕ) (t : Config) → unlimited env c f s ≡ ends (fault n p) t
       → (g : ℕ) (u : State) → eval-code load-mem64 int-to-nat64 (env .fill) c g (state-of env s) ≡ some u → u .ok ≡ false
   never f n p t e g u k = go (u .ok) refl
     where
@@ -127,8 +141,8 @@ module _ (load-mem64 : ℤ → Memory → ℕ) (loads : LoadsMem64 load-mem64) (
       go true l = let d = from-done env _ _ (tells g) u (erased g ∙ k) l in absurd (never-both env c s t (d .0) f g n p e (d .1))
       go false l = l
 
-  agrees : (f : ℕ) → Corresponds load-mem64 int-to-nat64 env c s f (run-code env c f s)
-  agrees f = record {
+  agrees-unlimited : (f : ℕ) → Corresponds load-mem64 int-to-nat64 env c s f (unlimited env c f s)
+  agrees-unlimited f = record {
     done-source = λ t e. sym (erased f) ∙ to-done env _ _ (tells f) t e;
     source-done = λ u e k. from-done env _ _ (tells f) u (erased f ∙ e) k;
     done-log = to-good env _ _ (tells f);
@@ -140,11 +154,18 @@ module _ (load-mem64 : ℤ → Memory → ℕ) (loads : LoadsMem64 load-mem64) (
     log-spent = from-spent env _ _ (tells f);
   }
 
+  -- a run that is not stopped is the one without a limit
+  agrees : (f : ℕ) (limit : Option ℕ) → NotStopped (run-code env limit c f s (counted 0) .end .how)
+      → Corresponds load-mem64 int-to-nat64 env c s f (run-code env limit c f s (counted 0) .end)
+  agrees f limit n =
+      subst (λ (x : Ended). Corresponds load-mem64 int-to-nat64 env c s f (x .end)) (no-limit env c f s (counted 0) limit n) (agrees-unlimited f)
+
 -- Running of bytes that are read, over accepted cells, is the run of the tree
 ran : (env : Env) (s : Config) → check-cells (env .addresses) (env .tags) (s .values) ≡ accepted
-    → (code : List ℕ) (c : Code) (next : ℕ) → parse code ≡ got c next → (f : ℕ) → run-of code env f s ≡ run-code env c f s
+    → (code : List ℕ) (c : Code) (next : ℕ) → parse code ≡ got c next → (f : ℕ) (limit : Option ℕ)
+    → run-of code env f limit s ≡ run-code env limit c f s (counted 0)
 unfolding run-of run-read run-checked
-ran env s cells code c next e f = rw (e, run-read, cells, run-checked)
+ran env s cells code c next e f limit = rw (e, run-read, cells, run-checked)
 
 -- a load that gives 0 off a Mem64
 load : ℤ → Memory → ℕ
@@ -178,9 +199,9 @@ pub correspondence : Correspondence
 correspondence = record {
   erased = erase-code;
   tree = agrees;
-  running = λ load-mem64 loads int-to-nat64 ints env s cells code bytes c next e f.
-      subst⁻¹ (Corresponds load-mem64 int-to-nat64 env c s f) (ran env s cells code c next e f)
-      (agrees load-mem64 loads int-to-nat64 ints env s cells c (parse-wf code bytes c next e) f);
+  running = λ load-mem64 loads int-to-nat64 ints env s cells code bytes c next e f limit.
+      subst⁻¹ (λ (x : Ended). NotStopped (x .end .how) → Corresponds load-mem64 int-to-nat64 env c s f (x .end)) (ran env s cells code c next e f limit)
+      (agrees load-mem64 loads int-to-nat64 ints env s cells c (parse-wf code bytes c next e) f limit);
   ok-stays-clear = λ load-mem64 int-to-nat64 fill c f s u e k.
       subst Clear (erase-code load-mem64 int-to-nat64 fill c f s ∙ e) (clear-code load-mem64 int-to-nat64 fill c f s k);
   some-load = (load, load-is, load-word);

@@ -11,6 +11,7 @@ use Rattle.code.specs.Tree.{Code}
 use Rattle.code.specs.WellFormed.{Bytes, WfCode}
 use Rattle.code.specs.Reader.{got, parse}
 use Rattle.eval.specs.Config.{Env, Config, End, ends, done, fault, spent}
+use Rattle.eval.specs.Counted.{counted, NotStopped}
 use Rattle.eval.specs.Running.{run-code, run-of}
 use Rattle.source.specs.Source.{State, eval-code}
 use Rattle.source.specs.Log.{Event, failed, starved, first-bad, log-code}
@@ -55,15 +56,18 @@ pub record Correspondence : Type 0 where
   -- the log without its events is the source
   pub erased : (load-mem64 : ℤ → Memory → ℕ) (int-to-nat64 : ℤ → ℕ) (fill : ℕ) (c : Code) (f : ℕ) (s : State)
       → log-code load-mem64 int-to-nat64 fill c f s .1 ≡ eval-code load-mem64 int-to-nat64 fill c f s
-  -- run and source agree, for every `load_mem64` and `int_to_nat64` that meet their clauses, over accepted cells: a tree within its bounds,
+  -- run and source agree, for every `load_mem64` and `int_to_nat64` that meet their clauses, over accepted cells, where the run is not stopped: a tree
+  -- within its bounds,
   pub tree : (load-mem64 : ℤ → Memory → ℕ) → LoadsMem64 load-mem64 → (int-to-nat64 : ℤ → ℕ) → IntToNat64 int-to-nat64
       → (env : Env) (s : Config) → check-cells (env .addresses) (env .tags) (s .values) ≡ accepted
-      → (c : Code) → WfCode c → (f : ℕ) → Corresponds load-mem64 int-to-nat64 env c s f (run-code env c f s)
+      → (c : Code) → WfCode c → (f : ℕ) (limit : Option ℕ) → NotStopped (run-code env limit c f s (counted 0) .end .how)
+      → Corresponds load-mem64 int-to-nat64 env c s f (run-code env limit c f s (counted 0) .end)
   -- and Running, of bytes that are read to that tree
   pub running : (load-mem64 : ℤ → Memory → ℕ) → LoadsMem64 load-mem64 → (int-to-nat64 : ℤ → ℕ) → IntToNat64 int-to-nat64
       → (env : Env) (s : Config) → check-cells (env .addresses) (env .tags) (s .values) ≡ accepted
       → (code : List ℕ) → Bytes code → (c : Code) (next : ℕ) → parse code ≡ got c next
-      → (f : ℕ) → Corresponds load-mem64 int-to-nat64 env c s f (run-of code env f s)
+      → (f : ℕ) (limit : Option ℕ) → NotStopped (run-of code env f limit s .end .how)
+      → Corresponds load-mem64 int-to-nat64 env c s f (run-of code env f limit s .end)
   -- a start with ok clear never ends with it set
   pub ok-stays-clear : (load-mem64 : ℤ → Memory → ℕ) (int-to-nat64 : ℤ → ℕ) (fill : ℕ) (c : Code) (f : ℕ) (s u : State)
       → eval-code load-mem64 int-to-nat64 fill c f s ≡ some u → s .ok ≡ false → u .ok ≡ false

@@ -1,6 +1,6 @@
 -- An instruction that is done has made its stores and no other; one that is not done has left all as it was. Runs are made of these.
 use mathlib.Core.Path.{_≡_, refl, sym, _∙_, ap, subst}
-use mathlib.Core.Bool.{Bool, true, false}
+use mathlib.Core.Bool.{Bool, true, false, cond}
 use mathlib.Core.List.{List, [], _∷_, _++_, append-assoc}
 use mathlib.Core.Option.{Option, none, some}
 use Prim.Native.Nat.{ℕ, zero, suc}
@@ -15,10 +15,11 @@ use Rattle.words.specs.Words.{Four}
 use Rattle.code.specs.declared.tree.Instruction.{Instruction}
 use Rattle.code.specs.declared.tree.Ocmp.{Ocmp}
 use Rattle.code.specs.Tree.{Code, Ins, Block, IfElse, While, Codes, ⟨⟩, _∷ᶜ_}
-use Rattle.eval.specs.Config.{Env, Config, with-regs, with-xmms, with-flags, End, ends, Outcome, done, fault, spent, refused, continue, check, choose}
+use Rattle.eval.specs.Config.{Env, Config, with-regs, with-xmms, with-flags, End, ends, Outcome, done, fault, stopped, spent, refused, check}
 use Rattle.eval.specs.Instructions.{cell-of, update-operand, readable, ruled, set-regs, set-xmms, written, act, run-ins, valid-ocmp, ocmp-number, eval-ocmp}
-use Rattle.eval.specs.Running.{run-ocmp, rounds, run-code, run-codes}
-use Rattle.stores.specs.Stores.{Store, with-stores, to-cell, store, stores-to, stores, stores-of, Completed, if-done, way, completed, completed-all, completed-rounds}
+use Rattle.eval.specs.Counted.{Counted, Ended, ended, Part, continue, used-up, count, step}
+use Rattle.eval.specs.Running.{run-ocmp, choose, rounds, run-code, run-codes}
+use Rattle.stores.specs.Stores.{Store, with-stores, to-cell, store, stores-to, stores, stores-of, Completed, if-done, Completes, way, completed, completed-all, completed-rounds}
 
 pub make-append : (a b : List Store) (vs : List ℕ) → with-stores (a ++ b) vs ≡ with-stores b (with-stores a vs)
 unfolding with-stores
@@ -29,6 +30,7 @@ make-append (w ∷ a) b vs = make-append a b (set vs (w .index) (w .value))
 abbrev pub NotRefused : Outcome → Type 0
 NotRefused done = Unit {0}
 NotRefused (fault n p) = Unit {0}
+NotRefused (stopped n p) = Unit {0}
 NotRefused (spent p) = Unit {0}
 NotRefused (refused n p) = ⊥
 
@@ -108,69 +110,106 @@ module _ (env : Env) where
   make-both : (a b : List Completed) (vs : List ℕ) → with-stores (stores-of env (a ++ b)) vs ≡ with-stores (stores-of env b) (with-stores (stores-of env a) vs)
   make-both a b vs = rw (stores-of-append a b) (make-append (stores-of env a) (stores-of env b) vs)
 
-  -- a run that is not refused, and whose end values are the values vs with the stores of the instructions l
-  pub record Traced (vs : List ℕ) (l : List Completed) (e : End) : Type 0 where
-    pub judged : NotRefused (e .how)
-    pub made : e .config .values ≡ with-stores (stores-of env l) vs
+  -- a part of a run that is not refused, and whose end values are the values vs with the stores of the instructions l
+  pub record Traced (vs : List ℕ) (l : List Completed) (e : Ended) : Type 0 where
+    pub judged : NotRefused (e .end .how)
+    pub made : e .end .config .values ≡ with-stores (stores-of env l) vs
 
-  traced-one : (d : Completed) (vs : List ℕ) (o : Outcome) (t : Config) → NotRefused o
+  -- each run of f completes what l says
+  abbrev AllTraced : Completes → Part → Type 0
+  AllTraced l f = (t : Config) (k : Counted) → Traced (t .values) (l t k) (f t k)
+
+  traced-one : (d : Completed) (vs : List ℕ) (o : Outcome) (t : Config) (k : Counted) → NotRefused o
       → (o ≡ done → t .values ≡ with-stores (stores env (d .instruction) (d .before)) vs) → ((o ≡ done → ⊥) → t .values ≡ vs)
-      → Traced vs (if-done o (d ∷ [])) (ends o t)
+      → Traced vs (if-done o (d ∷ [])) (ended o t k)
   unfolding if-done stores-of with-stores
-  traced-one d vs done t j f g =
+  traced-one d vs done t k j f g =
       record { judged = tt; made = f refl ∙ sym (make-append (stores env (d .instruction) (d .before)) [] vs) }
-  traced-one d vs (fault n p) t j f g = record { judged = tt; made = g (λ e. let z : _≡_ {A = ℕ} 0 1 = cc in omega arith) }
-  traced-one d vs (spent p) t j f g = record { judged = tt; made = g (λ e. let z : _≡_ {A = ℕ} 0 1 = cc in omega arith) }
-  traced-one d vs (refused n p) t j f g = absurd j
+  traced-one d vs (fault n p) t k j f g = record { judged = tt; made = g (λ e. let z : _≡_ {A = ℕ} 0 1 = cc in omega arith) }
+  traced-one d vs (stopped n p) t k j f g = record { judged = tt; made = g (λ e. let z : _≡_ {A = ℕ} 0 1 = cc in omega arith) }
+  traced-one d vs (spent p) t k j f g = record { judged = tt; made = g (λ e. let z : _≡_ {A = ℕ} 0 1 = cc in omega arith) }
+  traced-one d vs (refused n p) t k j f g = absurd j
 
-  traced-if-done : (vs : List ℕ) (l : List Completed) (o : Outcome) (t : Config) (k : Config → End) (m : Config → List Completed)
-      → Traced vs l (ends o t) → Traced (t .values) (m t) (k t) → Traced vs (l ++ if-done o (m t)) (continue o t k)
+  traced-if-done : (vs : List ℕ) (l : List Completed) (o : Outcome) (t : Config) (k : Counted) (f : Part) (m : Completes)
+      → Traced vs l (ended o t k) → Traced (t .values) (m t k) (f t k) → Traced vs (l ++ if-done o (m t k)) (continue o t k f)
   unfolding if-done continue stores-of with-stores
-  traced-if-done vs l done t k m h g =
-      record { judged = g .judged; made = g .made ∙ ap (with-stores (stores-of env (m t))) (h .made) ∙ sym (make-both l (m t) vs) }
-  traced-if-done vs l (fault n p) t k m h g = record { judged = tt; made = h .made ∙ sym (make-both l [] vs) }
-  traced-if-done vs l (spent p) t k m h g = record { judged = tt; made = h .made ∙ sym (make-both l [] vs) }
-  traced-if-done vs l (refused n p) t k m h g = absurd (h .judged)
+  traced-if-done vs l done t k f m h g =
+      record { judged = g .judged; made = g .made ∙ ap (with-stores (stores-of env (m t k))) (h .made) ∙ sym (make-both l (m t k) vs) }
+  traced-if-done vs l (fault n p) t k f m h g = record { judged = tt; made = h .made ∙ sym (make-both l [] vs) }
+  traced-if-done vs l (stopped n p) t k f m h g = record { judged = tt; made = h .made ∙ sym (make-both l [] vs) }
+  traced-if-done vs l (spent p) t k f m h g = record { judged = tt; made = h .made ∙ sym (make-both l [] vs) }
+  traced-if-done vs l (refused n p) t k f m h g = absurd (h .judged)
 
-  traced-way : (q : ℕ) (c : Ocmp) (f g : Config → End) (l m : Config → List Completed) (s : Config)
-      → ((t : Config) → Traced (t .values) (l t) (f t)) → ((t : Config) → Traced (t .values) (m t) (g t))
-      → Traced (s .values) (way (valid-ocmp env c s) (eval-ocmp env c s) l m (with-flags (env .fill) s)) (run-ocmp env q c f g s)
-  unfolding run-ocmp check choose way stores-of with-stores
-  traced-way q c f g l m s F G = go (valid-ocmp env c s) (eval-ocmp env c s)
-    where
-      go : (a b : Bool)
-          → Traced (s .values) (way a b l m (with-flags (env .fill) s)) (check a (ocmp-number env c s) q s (choose b f g (with-flags (env .fill) s)))
-      go true true = F (with-flags (env .fill) s)
-      go true false = G (with-flags (env .fill) s)
-      go false b = record { judged = tt; made = refl }
+  traced-cond : (b : Bool) (l m : Completes) (f g : Part) → AllTraced l f → AllTraced m g → AllTraced (cond b l m) (cond b f g)
+  traced-cond true l m f g F G = F
+  traced-cond false l m f g F G = G
 
-  traced-rounds : (body : ℕ → Config → End) (inside : ℕ → Config → List Completed) (p q : ℕ) (c : Ocmp)
-      → ((f : ℕ) (t : Config) → Traced (t .values) (inside f t) (body f t))
-      → (f : ℕ) (s : Config) → Traced (s .values) (completed-rounds env body inside c f s) (rounds env body p q c f s)
-  unfolding rounds completed-rounds stores-of with-stores
-  traced-rounds body inside p q c h zero s = record { judged = tt; made = refl }
-  traced-rounds body inside p q c h (suc f) s =
-      traced-way q c _ _ _ _ s
-      (λ t. traced-if-done (t .values) (inside f t) (body f t .how) (body f t .config) (rounds env body p q c f) (completed-rounds env body inside c f)
-      (h f t) (traced-rounds body inside p q c h f (body f t .config)))
-      (λ t. record { judged = tt; made = refl })
+  module _ (limit : Option ℕ) where
+    traced-ins : (p : ℕ) (i : Instruction) (s : Config) (k : Counted)
+        → Traced (s .values) (completed env limit (Ins p i) 0 s k) (step limit p (run-ins env p i) s k)
+    unfolding step completed if-done stores-of with-stores
+    traced-ins p i s k = go (used-up limit k)
+      where
+        tried : Ended
+        tried = record { end = run-ins env p i s; counted = count (run-ins env p i s .how) k }
 
-  mutual
-    unfolding run-code run-codes completed completed-all stores-of with-stores
+        d : Completed
+        d = record { instruction = i; before = s }
 
-    pub traced : (c : Code) (f : ℕ) (s : Config) → Traced (s .values) (completed env c f s) (run-code env c f s)
-    traced (Ins p i) f s =
-        let e = run-ins env p i s in
-        let m = made-ins p i s in
-        traced-one (record { instruction = i; before = s }) (s .values) (e .how) (e .config)
-        (m .judged) (m .all) (λ n. ap (λ (t : Config). t .values) (m .nothing n))
-    traced (Block p cs) f s = traced-all cs f s
-    traced (IfElse p q c a b) f s = traced-way q c _ _ _ _ s (traced a f) (traced b f)
-    traced (While p q c b) f s = traced-rounds (run-code env b) (completed env b) p q c (traced b) f s
+        go : (b : Bool) → let e = cond b (ended (stopped 37 p) s k) tried in Traced (s .values) (if-done (e .end .how) (d ∷ [])) e
+        go true = record { judged = tt; made = refl }
+        go false =
+            let e = run-ins env p i s in
+            let m = made-ins p i s in
+            traced-one d (s .values) (e .how) (e .config) (tried .counted) (m .judged) (m .all) (λ n. ap (λ (t : Config). t .values) (m .nothing n))
 
-    traced-all : (cs : Codes) (f : ℕ) (s : Config) → Traced (s .values) (completed-all env cs f s) (run-codes env cs f s)
-    traced-all ⟨⟩ f s = record { judged = tt; made = refl }
-    traced-all (c ∷ᶜ cs) f s =
-        let e = run-code env c f s in
-        traced-if-done (s .values) (completed env c f s) (e .how) (e .config) (run-codes env cs f) (completed-all env cs f)
-        (traced c f s) (traced-all cs f (e .config))
+    -- a comparison completes no instruction
+    traced-ocmp : (q : ℕ) (c : Ocmp) (s : Config) (k : Counted) → Traced (s .values) [] (step limit q (run-ocmp env q c) s k)
+    unfolding step run-ocmp check stores-of with-stores
+    traced-ocmp q c s k = go (used-up limit k) (valid-ocmp env c s)
+      where
+        passed : End
+        passed = ends done (with-flags (env .fill) s)
+
+        go : (a b : Bool)
+            → let e = check b (ocmp-number env c s) q s passed in
+            Traced (s .values) [] (cond a (ended (stopped 37 q) s k) (record { end = e; counted = count (e .how) k }))
+        go true b = record { judged = tt; made = refl }
+        go false true = record { judged = tt; made = refl }
+        go false false = record { judged = tt; made = refl }
+
+    traced-way : (q : ℕ) (c : Ocmp) (f g : Part) (l m : Completes) → AllTraced l f → AllTraced m g → AllTraced (way env limit q c l m) (choose env limit q c f g)
+    unfolding choose way
+    traced-way q c f g l m F G s k =
+        let e = step limit q (run-ocmp env q c) s k in
+        let b = eval-ocmp env c s in
+        traced-if-done (s .values) [] (e .end .how) (e .end .config) (e .counted) (cond b f g) (cond b l m) (traced-ocmp q c s k)
+        (traced-cond b l m f g F G (e .end .config) (e .counted))
+
+    traced-rounds : (body : ℕ → Part) (inside : ℕ → Completes) (p q : ℕ) (c : Ocmp) → ((f : ℕ) → AllTraced (inside f) (body f))
+        → (f : ℕ) → AllTraced (completed-rounds env limit body inside q c f) (rounds env limit body p q c f)
+    unfolding rounds completed-rounds stores-of with-stores
+    traced-rounds body inside p q c h zero s k = record { judged = tt; made = refl }
+    traced-rounds body inside p q c h (suc f) s k =
+        traced-way q c _ _ _ _
+        (λ t l.
+        let e = body f t l in
+        traced-if-done (t .values) (inside f t l) (e .end .how) (e .end .config) (e .counted) (rounds env limit body p q c f)
+        (completed-rounds env limit body inside q c f) (h f t l) (traced-rounds body inside p q c h f (e .end .config) (e .counted)))
+        (λ t l. record { judged = tt; made = refl }) s k
+
+    mutual
+      unfolding run-code run-codes completed completed-all stores-of with-stores
+
+      pub traced : (c : Code) (f : ℕ) → AllTraced (completed env limit c f) (run-code env limit c f)
+      traced (Ins p i) f s k = traced-ins p i s k
+      traced (Block p cs) f s k = traced-all cs f s k
+      traced (IfElse p q c a b) f s k = traced-way q c _ _ _ _ (traced a f) (traced b f) s k
+      traced (While p q c b) f s k = traced-rounds (run-code env limit b) (completed env limit b) p q c (traced b) f s k
+
+      traced-all : (cs : Codes) (f : ℕ) → AllTraced (completed-all env limit cs f) (run-codes env limit cs f)
+      traced-all ⟨⟩ f s k = record { judged = tt; made = refl }
+      traced-all (c ∷ᶜ cs) f s k =
+          let e = run-code env limit c f s k in
+          traced-if-done (s .values) (completed env limit c f s k) (e .end .how) (e .end .config) (e .counted) (run-codes env limit cs f)
+          (completed-all env limit cs f) (traced c f s k) (traced-all cs f (e .end .config) (e .counted))

@@ -16,6 +16,7 @@ use Rattle.code.specs.Tree.{Code}
 use Rattle.code.specs.Reader.{got, parse}
 use Rattle.eval.specs.Config.{Env, Config, End, ends, fault, refused}
 use Rattle.eval.specs.Instructions.{cell-of, update-operand, act, run-ins}
+use Rattle.eval.specs.Counted.{counted}
 use Rattle.eval.specs.Running.{run-code, run-checked, run-read, run-of}
 use Rattle.stores.specs.Stores.{Store, with-stores, to-cell, store, stores-to, stores, stores-of, Completed, completed}
 use Rattle.stores.specs.OnlyStores.{To64, OnlyStores}
@@ -65,10 +66,11 @@ module _ (env : Env) where
       to-64-append (env .tags) (stores env (d .instruction) (d .before)) (stores-of env l) (stores-64 (d .instruction) (d .before)) (all-64 l)
 
   -- whatever the outcome of a code's run
-  pub only-stores : (c : Code) (fuel : ℕ) (s : Config) → OnlyStores env c fuel s (run-code env c fuel s .config .values)
-  only-stores c fuel s =
-      let m = traced env c fuel s .made in
-      let all = all-64 (completed env c fuel s) in
+  pub only-stores : (limit : Option ℕ) (c : Code) (fuel : ℕ) (s : Config)
+      → OnlyStores env limit c fuel s (run-code env limit c fuel s (counted 0) .end .config .values)
+  only-stores limit c fuel s =
+      let m = traced env limit c fuel s (counted 0) .made in
+      let all = all-64 (completed env limit c fuel s (counted 0)) in
       record {
         made = m;
         to-64 = all;
@@ -83,11 +85,12 @@ module _ (env : Env) where
       ∙ made-ins env p i s .nothing (λ h. let z : _≡_ {A = ℕ} 0 1 = cc (ap (λ (x : End). x .how) e) in omega arith)
 
   -- accepted code over accepted cells is never refused
-  pub never-refused : (c : Code) (fuel : ℕ) (s t : Config) (n p : ℕ) → run-code env c fuel s ≡ ends (refused n p) t → ⊥
-  never-refused c fuel s t n p e = rw e at (traced env c fuel s .judged)
+  pub never-refused : (limit : Option ℕ) (c : Code) (fuel : ℕ) (s t : Config) (n p : ℕ)
+      → run-code env limit c fuel s (counted 0) .end ≡ ends (refused n p) t → ⊥
+  never-refused limit c fuel s t n p e = rw e at (traced env limit c fuel s (counted 0) .judged)
 
 -- Running of code that is read, over accepted cells, is the run of its tree
-pub runs-tree : (code : List ℕ) (env : Env) (fuel : ℕ) (s : Config) (c : Code) (next : ℕ) → parse code ≡ got c next
-    → check-cells (env .addresses) (env .tags) (s .values) ≡ accepted → run-of code env fuel s ≡ run-code env c fuel s
+pub runs-tree : (code : List ℕ) (env : Env) (fuel : ℕ) (limit : Option ℕ) (s : Config) (c : Code) (next : ℕ) → parse code ≡ got c next
+    → check-cells (env .addresses) (env .tags) (s .values) ≡ accepted → run-of code env fuel limit s ≡ run-code env limit c fuel s (counted 0)
 unfolding run-of run-read run-checked
-runs-tree code env fuel s c next r k = rw (r, k)
+runs-tree code env fuel limit s c next r k = rw (r, k)

@@ -1,6 +1,6 @@
 -- The stores that a run makes to its cells: those of the instructions that it completes, in order.
 use Prim.Native.Nat.{ℕ, zero, suc}
-use mathlib.Core.Bool.{Bool, true, false}
+use mathlib.Core.Bool.{cond}
 use mathlib.Core.List.{List, [], _∷_, _++_}
 use mathlib.Core.Option.{Option, none, some}
 use lib.ListN.{set}
@@ -9,9 +9,10 @@ use Rattle.machine.specs.declared.Operand.the-variants.{OConst, OReg, OMem}
 use Rattle.code.specs.declared.tree.Instruction.{Instruction}
 use Rattle.code.specs.declared.tree.Ocmp.{Ocmp}
 use Rattle.code.specs.Tree.{Code, Ins, Block, IfElse, While, Codes, ⟨⟩, _∷ᶜ_}
-use Rattle.eval.specs.Config.{Env, Config, with-flags, End, Outcome, done, fault, spent, refused}
-use Rattle.eval.specs.Instructions.{cell-of, update-operand, act, run-ins, valid-ocmp, eval-ocmp}
-use Rattle.eval.specs.Running.{run-code}
+use Rattle.eval.specs.Config.{Env, Config, Outcome, done, fault, stopped, spent, refused}
+use Rattle.eval.specs.Instructions.{cell-of, update-operand, act, run-ins, eval-ocmp}
+use Rattle.eval.specs.Counted.{Counted, Part, step}
+use Rattle.eval.specs.Running.{run-ocmp, run-code}
 
 -- a value for the cell at an index
 pub record Store : Type 0 where
@@ -37,14 +38,13 @@ pub record Completed : Type 0 where
 unfoldable pub if-done : Outcome → List Completed → List Completed
 if-done done l = l
 if-done (fault n p) l = []
+if-done (stopped n p) l = []
 if-done (spent p) l = []
 if-done (refused n p) l = []
 
--- the way that a comparison takes: none where it faults
-unfoldable pub way : Bool → Bool → (Config → List Completed) → (Config → List Completed) → Config → List Completed
-way false b yes-way no-way s = []
-way true true yes-way no-way s = yes-way s
-way true false yes-way no-way s = no-way s
+-- the instructions that a part of a run completes, from a configuration and from what was counted before it
+abbrev pub Completes : Type 0
+Completes = Config → Counted → List Completed
 
 module _ (env : Env) where
   -- the store of v to a destination: a memory operand's cell, and no store where it is a register
@@ -67,25 +67,34 @@ module _ (env : Env) where
   stores-of [] = []
   stores-of (d ∷ ds) = stores (d .instruction) (d .before) ++ stores-of ds
 
-  -- the instructions that the rounds of a While complete
-  unfoldable pub completed-rounds : (ℕ → Config → End) → (ℕ → Config → List Completed) → Ocmp → ℕ → Config → List Completed
-  completed-rounds body inside c zero s = []
-  completed-rounds body inside c (suc fuel) s =
-      way (valid-ocmp env c s) (eval-ocmp env c s)
-      (λ t. inside fuel t ++ if-done (body fuel t .how) (completed-rounds body inside c fuel (body fuel t .config)))
-      (λ t. []) (with-flags (env .fill) s)
+module _ (env : Env) (limit : Option ℕ) where
+  -- those of the way that a comparison decides on: none where it is not done
+  unfoldable pub way : ℕ → Ocmp → Completes → Completes → Completes
+  way q c yes-way no-way s k =
+      let e = step limit q (run-ocmp env q c) s k in
+      if-done (e .end .how) (cond (eval-ocmp env c s) yes-way no-way (e .end .config) (e .counted))
+
+  -- those of the rounds of a While
+  unfoldable pub completed-rounds : (ℕ → Part) → (ℕ → Completes) → ℕ → Ocmp → ℕ → Completes
+  completed-rounds body inside q c zero s k = []
+  completed-rounds body inside q c (suc fuel) s k =
+      way q c
+      (λ t l.
+      let e = body fuel t l in
+      inside fuel t l ++ if-done (e .end .how) (completed-rounds body inside q c fuel (e .end .config) (e .counted)))
+      (λ t l. []) s k
 
   unfoldable mutual
-    -- the instructions that the run of a code completes, in order
-    pub completed : Code → ℕ → Config → List Completed
-    completed (Ins p i) fuel s = if-done (run-ins env p i s .how) (record { instruction = i; before = s } ∷ [])
-    completed (Block p cs) fuel s = completed-all cs fuel s
-    completed (IfElse p q c a b) fuel s =
-        way (valid-ocmp env c s) (eval-ocmp env c s) (completed a fuel) (completed b fuel) (with-flags (env .fill) s)
-    completed (While p q c b) fuel s = completed-rounds (run-code env b) (completed b) c fuel s
+    -- those of a code, in order
+    pub completed : Code → ℕ → Completes
+    completed (Ins p i) fuel s k = if-done (step limit p (run-ins env p i) s k .end .how) (record { instruction = i; before = s } ∷ [])
+    completed (Block p cs) fuel s k = completed-all cs fuel s k
+    completed (IfElse p q c a b) fuel s k = way q c (completed a fuel) (completed b fuel) s k
+    completed (While p q c b) fuel s k = completed-rounds (run-code env limit b) (completed b) q c fuel s k
 
     -- those of a list of codes
-    pub completed-all : Codes → ℕ → Config → List Completed
-    completed-all ⟨⟩ fuel s = []
-    completed-all (c ∷ᶜ cs) fuel s =
-        completed c fuel s ++ if-done (run-code env c fuel s .how) (completed-all cs fuel (run-code env c fuel s .config))
+    pub completed-all : Codes → ℕ → Completes
+    completed-all ⟨⟩ fuel s k = []
+    completed-all (c ∷ᶜ cs) fuel s k =
+        let e = run-code env limit c fuel s k in
+        completed c fuel s k ++ if-done (e .end .how) (completed-all cs fuel (e .end .config) (e .counted))
