@@ -1,13 +1,15 @@
 #!/bin/sh
 # Compares the port, linked in as its proved static library, with the evaluator and builder of this folder.
 #
-#     compare/run.sh [N [SEED]]     N jobs (100,000) from SEED (a new one), then lists of builder calls,
-#                                   a tenth as many but at least 1,000
+#     compare/run.sh [N [SEED]]     first systematic jobs under step limits, then N jobs (100,000) from
+#                                   SEED (a new one), then lists of builder calls, a tenth as many but
+#                                   at least 1,000
 set -eu
 cd "$(dirname "$0")/.."
 rt staticlib capi
 cargo build --release --offline --quiet --features c_target --manifest-path compare/Cargo.toml --target-dir target/compare
 target/compare/release/compare selfcheck
+target/compare/release/compare limited c
 jobs="${1:-100000}"
 seed="${2:-new}"
 target/compare/release/compare batch "$jobs" "$seed" c

@@ -14,6 +14,7 @@ example() {
 
 example lend <<'END'
 done
+steps 1
 flags 0
 Rax 5
 cell 4096 64 12
@@ -21,5 +22,9 @@ END
 example build_kernel <<'END'
 22 0c 00 00 00 31 41 00 40 00 00 00 00 00 00 00 00 07 41 00 40 01 00 00 00 00 00 00 00
 done
+steps 7
 Rax 0
+stopped
+steps 5
+Rax 1
 END

@@ -1,4 +1,4 @@
-/* Builds a kernel that counts Rax down to 0, prints its bytes, and runs it from 3. */
+/* Builds a kernel that counts Rax down to 0, prints its bytes, and runs it from 3, to its end and under a limit. */
 #include <inttypes.h>
 #include <stdio.h>
 
@@ -20,7 +20,8 @@ static uint8_t build(pokchrei_build *kernel, uint8_t *buffer, size_t room)
     return pokchrei_build_close(kernel, buffer, room);
 }
 
-static uint8_t run(const uint8_t *code, size_t length, uint64_t regs[16], uint32_t fuel)
+static uint8_t run(const uint8_t *code, size_t length, uint64_t regs[16], uint32_t fuel, uint64_t limit,
+                   uint64_t *steps)
 {
     /* No cells: C asks for pointers all the same. */
     uint64_t no_addresses[1] = {0}, no_values[1] = {0};
@@ -30,14 +31,15 @@ static uint8_t run(const uint8_t *code, size_t length, uint64_t regs[16], uint32
     uint8_t number;
     size_t place;
 
-    return pokchrei_run(code, length, no_addresses, 0, no_tags, 0, no_values, 0, regs, xmms, &flags, 0, fuel, &number,
-                        &place);
+    return pokchrei_run(code, length, no_addresses, 0, no_tags, 0, no_values, 0, regs, xmms, &flags, 0, fuel, limit,
+                        &number, &place, steps);
 }
 
 int main(void)
 {
     uint8_t buffer[64];
     uint64_t regs[16] = {[POKCHREI_RAX] = 3};
+    uint64_t steps;
     pokchrei_build kernel;
 
     uint8_t refusal = build(&kernel, buffer, sizeof buffer);
@@ -49,8 +51,13 @@ int main(void)
         return 1;
     for (size_t i = 0; i < kernel.length; i++)
         printf("%02x%c", buffer[i], i + 1 < kernel.length ? ' ' : '\n');
-    if (run(buffer, kernel.length, regs, 4) != POKCHREI_DONE)
+    if (run(buffer, kernel.length, regs, 4, POKCHREI_LARGEST_LIMIT, &steps) != POKCHREI_DONE)
         return 1;
-    printf("done\nRax %" PRIu64 "\n", regs[POKCHREI_RAX]);
+    printf("done\nsteps %" PRIu64 "\nRax %" PRIu64 "\n", steps, regs[POKCHREI_RAX]);
+
+    regs[POKCHREI_RAX] = 3;
+    if (run(buffer, kernel.length, regs, 4, 5, &steps) != POKCHREI_STOPPED)
+        return 1;
+    printf("stopped\nsteps %" PRIu64 "\nRax %" PRIu64 "\n", steps, regs[POKCHREI_RAX]);
     return 0;
 }

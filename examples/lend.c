@@ -16,6 +16,9 @@ static void print_answer(uint8_t kind, uint8_t number, size_t place)
     case POKCHREI_FAULT:
         printf("fault %u at %zu\n", number, place);
         break;
+    case POKCHREI_STOPPED:
+        printf("stopped %u at %zu\n", number, place);
+        break;
     case POKCHREI_SPENT:
         printf("spent at %zu\n", place);
         break;
@@ -33,15 +36,16 @@ int main(void)
     uint64_t values[] = {7};
     uint64_t regs[16] = {[POKCHREI_RAX] = 5};
     uint32_t xmms[64] = {0};
-    uint64_t flags = 0;
+    uint64_t flags = 0, steps;
     uint8_t number;
     size_t place;
 
-    uint8_t kind = pokchrei_run(code, sizeof code, addresses, 1, tags, 1, values, 1, regs, xmms, &flags, 0, 0, &number,
-                                &place);
+    uint8_t kind = pokchrei_run(code, sizeof code, addresses, 1, tags, 1, values, 1, regs, xmms, &flags, 0, 0,
+                                POKCHREI_LARGEST_LIMIT, &number, &place, &steps);
     print_answer(kind, number, place);
     if (kind == POKCHREI_REFUSED)
         return 1;
+    printf("steps %" PRIu64 "\n", steps);
     printf("flags %" PRIu64 "\n", flags);
     for (int i = 0; i < 16; i++)
         if (regs[i] != 0)

@@ -6,8 +6,8 @@
  *
  * Each function takes any numbers and any arrays: nothing is asked of their contents. What C itself asks is the
  * caller's: a pointer is not null, also where its length is 0; it is aligned, and as many elements lie behind it as
- * the length says; an array that is written (values, regs, xmms, flags, number, place, out, buffer and the five of a
- * build) overlaps no other. No function keeps a pointer, allocates, or touches anything but what it is lent.
+ * the length says; an array that is written (values, regs, xmms, flags, number, place, steps, out, buffer and the five
+ * of a build) overlaps no other. No function keeps a pointer, allocates, or touches anything but what it is lent.
  */
 #ifndef POKCHREI_H
 #define POKCHREI_H
@@ -21,11 +21,20 @@ extern "C" {
 
 /* How a run ended. */
 enum pokchrei_kind {
-    POKCHREI_DONE = 0,   /* after the last code */
-    POKCHREI_FAULT = 1,  /* a check failed: its number (a pokchrei_fault), and the place of the instruction or comparison */
-    POKCHREI_SPENT = 2,  /* a While was met without fuel: its place */
-    POKCHREI_REFUSED = 3 /* code (1 to 6) or cells (11 to 15) were not accepted: number, and place or index */
+    POKCHREI_DONE = 0,    /* after the last code */
+    POKCHREI_FAULT = 1,   /* a check failed: its number (a pokchrei_fault), and the place of what it is a check of */
+    POKCHREI_SPENT = 2,   /* a While was met without fuel: its place */
+    POKCHREI_REFUSED = 3, /* code (1 to 6) or cells (11 to 15) were not accepted: number, and place or index */
+    POKCHREI_STOPPED = 4  /* the limit was used up: its number (a pokchrei_stop), and the place of what came next */
 };
+
+/* The number of a Stopped. */
+enum pokchrei_stop {
+    POKCHREI_LIMIT_USED_UP = 37 /* as many steps as the limit were made, and an instruction or a comparison came next */
+};
+
+/* The largest limit: at a step a nanosecond it lasts for 584 years. */
+#define POKCHREI_LARGEST_LIMIT UINT64_MAX
 
 /*
  * The number of a Fault: that of the first check that failed. Sources are judged from left to right, then amounts and
@@ -76,14 +85,19 @@ uint8_t pokchrei_check_cells(const uint64_t *addresses, size_t address_count, co
 
 /*
  * Runs code over lent cells. The start is read from regs, xmms (word j of xmm i at 4 * i + j), flags and values, and
- * the end is written there: for a fault and for a spent run as it was just before that instruction, comparison or
- * loop test; for a refusal as lent. Answers a pokchrei_kind; *number and *place belong to it, and are 0 where it has
- * none.
+ * the end is written there: for a fault, a stopped and a spent run as it was just before that instruction, comparison
+ * or loop test; for a refusal as lent. Answers a pokchrei_kind; *number and *place belong to it, and are 0 where it
+ * has none.
+ *
+ * *steps is the number of steps made: of instructions completed and of comparisons that passed their check; 0 for a
+ * refusal. With as many as limit made, the run is stopped where an instruction or a comparison comes next, ahead of its
+ * checks; a While without fuel is spent all the same, and a run that ends there is done. Code of n codes with Whiles
+ * nested d deep makes at most n * (fuel + 1)^d steps. A larger limit changes no end but that of a stopped run.
  */
 uint8_t pokchrei_run(const uint8_t *code, size_t code_length, const uint64_t *addresses, size_t address_count,
                      const uint8_t *tags, size_t tag_count, uint64_t *values, size_t value_count, uint64_t regs[16],
-                     uint32_t xmms[64], uint64_t *flags, uint64_t fill, uint32_t fuel, uint8_t *number,
-                     size_t *place);
+                     uint32_t xmms[64], uint64_t *flags, uint64_t fill, uint32_t fuel, uint64_t limit,
+                     uint8_t *number, size_t *place, uint64_t *steps);
 
 /* The room that the text of a job is given; it needs no more. */
 #define POKCHREI_JOB_ROOM 65536
@@ -91,7 +105,8 @@ uint8_t pokchrei_run(const uint8_t *code, size_t code_length, const uint64_t *ad
 /*
  * Answers a job as the job program does. The input is the job's bytes: fuel (4), fill (8), flags (8), sixteen registers
  * (8 each), sixteen xmm (four words of 4 each), cell count (2), cells (address 8, tag 1, value 8), then code; fields low
- * byte first. The text is written to the start of out; what lies behind it stays. Answers the text's length.
+ * byte first. The step limit is the largest. The text is written to the start of out; what lies behind it stays.
+ * Answers the text's length.
  */
 size_t pokchrei_job(const uint8_t *input, size_t input_length, uint8_t out[POKCHREI_JOB_ROOM]);
 

@@ -292,6 +292,7 @@ fn compare(machine: &mut Machine, test: &Comparison) -> Result<bool, u8> {
     let Comparison(kind, one, two) = test;
     let a = read(machine, one)?;
     let b = read(machine, two)?;
+    machine.steps += 1;
     machine.flags = machine.fill;
     Ok(holds(*kind, a, b))
 }
@@ -336,17 +337,20 @@ impl Program {
             let fault = |number| Stop::Fault(number, self.places[next] as usize);
             let mut to = next + 1;
             match op {
-                Op::IfElse(test, otherwise) => {
-                    if !compare(machine, test).map_err(fault)? {
-                        to = *otherwise as usize;
-                    }
-                }
                 Op::Jump(end) => to = *end as usize,
                 Op::While(test) => {
                     outer.push(left);
                     to = *test as usize;
                 }
                 Op::Test(_, _, place) if left == 0 => return Err(Stop::Spent(*place as usize)),
+                _ if machine.steps == machine.limit => {
+                    return Err(Stop::Limit(self.places[next] as usize));
+                }
+                Op::IfElse(test, otherwise) => {
+                    if !compare(machine, test).map_err(fault)? {
+                        to = *otherwise as usize;
+                    }
+                }
                 Op::Test(test, body, _) => {
                     if compare(machine, test).map_err(fault)? {
                         left -= 1;
@@ -355,7 +359,10 @@ impl Program {
                         left = outer.pop().expect("the fuel of a While that was met");
                     }
                 }
-                _ => step(machine, op).map_err(fault)?,
+                _ => {
+                    step(machine, op).map_err(fault)?;
+                    machine.steps += 1;
+                }
             }
             next = to;
         }

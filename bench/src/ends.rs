@@ -7,9 +7,10 @@ use crate::plain::{self, Stop};
 use pokchrei::{Answer, Cells, State};
 
 /// What the evaluators are held to.
-#[derive(Debug, PartialEq, Eq)]
+#[derive(Clone, Debug, PartialEq, Eq)]
 pub struct End {
     pub answer: Answer,
+    pub steps: u64,
     pub state: State,
     pub values: Vec<u64>,
 }
@@ -23,9 +24,10 @@ pub fn proved(kernel: &Kernel) -> End {
         tags: &kernel.tags,
         values: &mut values,
     };
-    let answer = pokchrei::run(&kernel.code, cells, &mut state, kernel.setting);
+    let end = pokchrei::run(&kernel.code, cells, &mut state, kernel.setting);
     End {
-        answer,
+        answer: end.answer,
+        steps: end.steps,
         state,
         values,
     }
@@ -42,10 +44,13 @@ pub fn plain(kernel: &Kernel) -> End {
         xmms: quads(&kernel.state),
         flags: kernel.state.flags,
         fill: kernel.setting.fill,
+        limit: kernel.setting.limit,
+        steps: 0,
     };
     let stop = machine.eval(0, kernel.setting.fuel).err();
+    let steps = machine.steps;
     let state = state(machine.regs, machine.xmms, machine.flags);
-    end(stop, state, values)
+    end(stop, steps, state, values)
 }
 
 /// Decoding is a part of this run, as checking is of the proved one.
@@ -59,11 +64,21 @@ pub fn decoded(kernel: &Kernel) -> End {
         xmms: quads(&kernel.state),
         flags: kernel.state.flags,
         fill: kernel.setting.fill,
+        limit: kernel.setting.limit,
+        steps: 0,
     };
     let program = Program::decode(&kernel.code);
     let stop = program.run(&mut machine, kernel.setting.fuel).err();
+    let steps = machine.steps;
     let state = state(machine.regs, machine.xmms, machine.flags);
-    end(stop, state, values)
+    end(stop, steps, state, values)
+}
+
+/// Holds both interpreters to an end of the proved evaluator.
+pub fn hold(kernel: &Kernel, end: &End) {
+    let name = &kernel.name;
+    assert_eq!(*end, plain(kernel), "{name}: plain ends otherwise");
+    assert_eq!(*end, decoded(kernel), "{name}: decoded ends otherwise");
 }
 
 fn quads(state: &State) -> [[u32; 4]; 16] {
@@ -78,14 +93,16 @@ fn state(regs: [u64; 16], quads: [[u32; 4]; 16], flags: u64) -> State {
     State { regs, xmms, flags }
 }
 
-fn end(stop: Option<Stop>, state: State, values: Vec<u64>) -> End {
+fn end(stop: Option<Stop>, steps: u64, state: State, values: Vec<u64>) -> End {
     let answer = match stop {
         None => Answer::Done,
         Some(Stop::Fault(number, place)) => Answer::Fault { number, place },
+        Some(Stop::Limit(place)) => Answer::Stopped { number: 37, place },
         Some(Stop::Spent(place)) => Answer::Spent { place },
     };
     End {
         answer,
+        steps,
         state,
         values,
     }

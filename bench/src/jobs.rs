@@ -2,7 +2,7 @@
 //! agree on every kind of end.
 
 use crate::bytes::{length_at, u32_at, u64_at};
-use crate::ends;
+use crate::ends::{self, End};
 use crate::kernels::Kernel;
 use pokchrei::{Answer, Setting, State};
 
@@ -31,14 +31,13 @@ pub fn written(kernel: &Kernel) -> Vec<u8> {
 }
 
 /// The kernel of a job, unless it is cut short.
-fn read(job: &[u8]) -> Option<Kernel> {
+fn read(name: &str, job: &[u8]) -> Option<Kernel> {
     let count = job.get(COUNT..CELLS)?;
     let count = usize::from(u16::from_le_bytes([count[0], count[1]]));
     let code = CELLS + CELL * count;
     let cells: Vec<&[u8]> = job.get(CELLS..code)?.chunks_exact(CELL).collect();
     Some(Kernel {
-        name: "stored".to_string(),
-        steps: 0,
+        name: name.to_string(),
         code: job[code..].to_vec(),
         state: State {
             regs: std::array::from_fn(|i| u64_at(job, REGS + 8 * i)),
@@ -48,6 +47,7 @@ fn read(job: &[u8]) -> Option<Kernel> {
         setting: Setting {
             fill: u64_at(job, FILL),
             fuel: u32_at(job, 0),
+            limit: u64::MAX,
         },
         addresses: cells.iter().map(|cell| u64_at(cell, 0)).collect(),
         tags: cells.iter().map(|cell| cell[8]).collect(),
@@ -55,33 +55,83 @@ fn read(job: &[u8]) -> Option<Kernel> {
     })
 }
 
-/// The jobs of a stored set: each stands behind its length, and its text behind another.
-fn stored(set: &[u8]) -> Vec<&[u8]> {
+/// The jobs of a stored set, each with its text: either stands behind its length.
+fn stored(set: &[u8]) -> Vec<(&[u8], &[u8])> {
     let mut jobs = Vec::new();
     let mut at = 0;
     while at < set.len() {
         let text = at + 4 + length_at(set, at);
-        jobs.push(&set[at + 4..text]);
-        at = text + 4 + length_at(set, text);
+        let end = text + 4 + length_at(set, text);
+        jobs.push((&set[at + 4..text], &set[text + 4..end]));
+        at = end;
     }
     jobs
 }
 
-/// Holds both interpreters to the proved evaluator on every stored job that is not refused: they take no other.
+/// The steps that a text tells, in its second line. That of a refusal has none.
+fn told(text: &[u8]) -> Option<u64> {
+    let text = std::str::from_utf8(text).expect("a text");
+    let line = text.lines().nth(1)?;
+    let steps = line.strip_prefix("steps ").expect("a line of steps");
+    Some(steps.parse().expect("a number of steps"))
+}
+
+/// The end of a stored job by the proved evaluator, unless it is refused.
+fn accepted(kernel: Option<&Kernel>) -> Option<End> {
+    let end = ends::proved(kernel?);
+    let refused = matches!(end.answer, Answer::Refused(_));
+    (!refused).then_some(end)
+}
+
+/// Whether a run ends under a limit as the run without one says: a limit below its steps stops it, and one of just its
+/// steps leaves its end as it is, but that a fault is not come to.
+fn follows(limited: &End, limit: u64, free: &End) -> bool {
+    if limit < free.steps {
+        let stopped = matches!(limited.answer, Answer::Stopped { number: 37, .. });
+        return stopped && limited.steps == limit;
+    }
+    let mut last = free.clone();
+    if let Answer::Fault { place, .. } = free.answer {
+        last.answer = Answer::Stopped { number: 37, place };
+    }
+    *limited == last
+}
+
+/// Runs a job again under limits of 0, of one step less than it makes, and of its steps. Answers how many runs they are.
+fn under_limits(mut kernel: Kernel, free: &End) -> usize {
+    let mut limits = vec![0, free.steps.saturating_sub(1), free.steps];
+    limits.dedup();
+    for &limit in &limits {
+        kernel.setting.limit = limit;
+        let limited = ends::proved(&kernel);
+        ends::hold(&kernel, &limited);
+        let name = &kernel.name;
+        assert!(
+            follows(&limited, limit, free),
+            "{name}: {limited:?} under {limit}, and {free:?} without a limit"
+        );
+    }
+    limits.len()
+}
+
+/// Holds both interpreters to the proved evaluator on every stored job that is not refused: they take no other. The
+/// steps are held to the stored text, and the ends under a limit to the end without one.
 pub fn agree(path: &str) {
     let set = std::fs::read(path).expect("a stored set of jobs");
-    let (mut compared, mut refused) = (0, 0);
-    for (index, job) in stored(&set).into_iter().enumerate() {
-        let kernel = read(job);
-        let end = kernel.as_ref().map(ends::proved);
+    let (mut compared, mut refused, mut runs) = (0, 0, 0);
+    for (index, (job, text)) in stored(&set).into_iter().enumerate() {
+        let name = format!("{path}, job {index}");
+        let kernel = read(&name, job);
+        let end = accepted(kernel.as_ref());
+        assert_eq!(end.as_ref().map(|end| end.steps), told(text), "{name}");
         match (kernel, end) {
-            (Some(kernel), Some(end)) if !matches!(end.answer, Answer::Refused(_)) => {
-                assert_eq!(end, ends::plain(&kernel), "{path}: plain, job {index}");
-                assert_eq!(end, ends::decoded(&kernel), "{path}: decoded, job {index}");
+            (Some(kernel), Some(end)) => {
+                ends::hold(&kernel, &end);
                 compared += 1;
+                runs += under_limits(kernel, &end);
             }
             _ => refused += 1,
         }
     }
-    println!("{path}: {compared} jobs end alike, {refused} are refused");
+    println!("{path}: {compared} jobs end alike, {refused} are refused; {runs} runs under a limit end alike");
 }

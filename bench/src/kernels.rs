@@ -1,12 +1,11 @@
-//! The kernels that are timed. A step is one instruction or one comparison.
+//! The kernels that are timed.
 
 use crate::encode::*;
 use pokchrei::{Setting, State};
 
-/// Code with its start, its cells, and fill word and fuel. `steps` is 0 where it is not timed.
+/// Code with its start, its cells, and fill word, fuel and limit.
 pub struct Kernel {
     pub name: String,
-    pub steps: u64,
     pub code: Code,
     pub state: State,
     pub setting: Setting,
@@ -17,16 +16,16 @@ pub struct Kernel {
 
 pub const FIRST_CELL: u64 = 4096;
 
-/// Registers and flags of 0, no cells, and the largest fuel.
-pub fn kernel(name: &str, steps: u64, code: Code) -> Kernel {
+/// Registers and flags of 0, no cells, and the largest fuel and limit.
+pub fn kernel(name: &str, code: Code) -> Kernel {
     Kernel {
         name: name.to_string(),
-        steps,
         code,
         state: State::default(),
         setting: Setting {
             fill: 0,
             fuel: u32::MAX,
+            limit: u64::MAX,
         },
         addresses: Vec::new(),
         tags: Vec::new(),
@@ -34,13 +33,14 @@ pub fn kernel(name: &str, steps: u64, code: Code) -> Kernel {
     }
 }
 
-/// A loop of `rounds`, counted down in Rcx, over codes that take `inner` steps.
+/// A loop, counted down in Rcx, over codes that take `inner` steps: as many rounds as `steps` have room for, and then the
+/// comparison that ends it, which is one step more.
 fn looped(name: &str, steps: u64, inner: u64, body: Vec<Code>) -> Kernel {
     let rounds = steps / (inner + 2);
     let mut codes = body;
     codes.push(two(0x07, reg(RCX), constant(1)));
     let code = while_holds(two(0x31, reg(RCX), constant(0)), block(&codes));
-    let mut kernel = kernel(name, rounds * (inner + 2), code);
+    let mut kernel = kernel(name, code);
     set_regs(&mut kernel, &[(RCX, rounds)]);
     kernel
 }

@@ -13,6 +13,8 @@ pub struct Machine<'a> {
     pub xmms: [[u32; 4]; 16],
     pub flags: u64,
     pub fill: u64,
+    pub limit: u64,
+    pub steps: u64,
 }
 
 /// A destination that can be written.

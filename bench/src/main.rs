@@ -3,7 +3,7 @@
 //!
 //!     bench                  the kernels, the growth of cost and the stack, as lines of fields divided by tabs
 //!     bench quick            the same with fewer steps
-//!     bench agree FILE...    holds the interpreters to the proved evaluator on stored jobs
+//!     bench agree FILE...    holds the interpreters to the proved evaluator on stored jobs, with a limit and without
 //!     bench write FOLDER     the kernels as jobs, for beside.c; prints their files and steps
 //!     bench stack N          one deep run of N rounds at the largest fuel
 
@@ -35,17 +35,16 @@ const EVALUATORS: [fn(&Kernel) -> End; 3] = [ends::proved, ends::plain, ends::de
 
 /// Times of the three, in nanoseconds a step. They take turns, so that a change of the machine's pace meets them all.
 fn compared(kernel: &Kernel, times: u32) -> [f64; 3] {
-    let [proved, plain, decoded] = EVALUATORS.map(|evaluate| evaluate(kernel));
-    assert_eq!(proved.answer, Answer::Done, "{}", kernel.name);
-    assert!(proved == plain, "{}: plain ends otherwise", kernel.name);
-    assert!(proved == decoded, "{}: decoded ends otherwise", kernel.name);
+    let end = ends::proved(kernel);
+    assert_eq!(end.answer, Answer::Done, "{}", kernel.name);
+    ends::hold(kernel, &end);
     let mut best = [f64::INFINITY; 3];
     for _ in 0..times {
         for (best, evaluate) in best.iter_mut().zip(EVALUATORS) {
             *best = best.min(clock::least(1, || drop(evaluate(kernel))));
         }
     }
-    best.map(|time| time / kernel.steps as f64)
+    best.map(|time| time / end.steps as f64)
 }
 
 fn line(group: &str, size: u64, kernel: &Kernel, times: u32) {
@@ -68,7 +67,7 @@ fn timed(steps: u64) -> [Kernel; 7] {
 
 fn kernels(steps: u64, times: u32) {
     for kernel in &timed(steps) {
-        line("kernel", kernel.steps, kernel, times);
+        line("kernel", ends::proved(kernel).steps, kernel, times);
     }
 }
 
@@ -76,7 +75,7 @@ fn write(folder: &str, steps: u64) {
     for kernel in &timed(steps) {
         let path = format!("{folder}/{}", kernel.name.replace([' ', ','], ""));
         std::fs::write(&path, jobs::written(kernel)).expect("a folder to write to");
-        println!("{path} {}", kernel.steps);
+        println!("{path} {}", ends::proved(kernel).steps);
     }
 }
 

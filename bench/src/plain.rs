@@ -1,6 +1,7 @@
 //! A plain interpreter of the same bytes, decoding as it goes: what the proved evaluator is measured against.
 //! It takes accepted code and cells. It is a yardstick: made neither quicker nor slower, so that the ratios of one
-//! landing can be held beside those of another. What a request adds gets a function of its own.
+//! landing can be held beside those of another. What a request adds gets a function of its own; steps, which request
+//! 2026-04 has every evaluator count and limit, are counted where they are made.
 
 const RSP: usize = 7;
 const RAX: usize = 0;
@@ -15,11 +16,15 @@ pub struct Machine<'a> {
     pub xmms: [[u32; 4]; 16],
     pub flags: u64,
     pub fill: u64,
+    pub limit: u64,
+    pub steps: u64,
 }
 
 #[derive(Debug, PartialEq, Eq)]
 pub enum Stop {
     Fault(u8, usize),
+    /// The limit leaves no step to what is at this place.
+    Limit(usize),
     Spent(usize),
 }
 
@@ -281,11 +286,21 @@ impl Machine<'_> {
         Ok(next)
     }
 
+    /// Whether the limit leaves a step to what is at this place.
+    fn may_step(&self, at: usize) -> Result<(), Stop> {
+        if self.steps == self.limit {
+            return Err(Stop::Limit(at));
+        }
+        Ok(())
+    }
+
     fn compare(&mut self, at: usize) -> Result<(bool, usize), Stop> {
+        self.may_step(at)?;
         let (one, next) = self.operand(at + 1);
         let (two, next) = self.operand(next);
         let a = self.read(one, at)?;
         let b = self.read(two, at)?;
+        self.steps += 1;
         self.flags = self.fill;
         let holds = match self.code[at] {
             0x30 => a == b,
@@ -311,6 +326,23 @@ impl Machine<'_> {
         Err(Stop::Spent(at))
     }
 
+    fn instruction(&mut self, at: usize) -> Result<usize, Stop> {
+        self.may_step(at)?;
+        let next = match self.code[at] {
+            0x03 => self.add_lea(at),
+            0x08 => self.mul(at),
+            0x09 => self.mulx(at),
+            0x0f..=0x12 | 0x14 => self.lanes(at),
+            0x13 | 0x18 => self.shuffle(at),
+            0x15 => self.extract(at),
+            0x16 | 0x17 => self.insert(at),
+            0x19..=0x1b => self.count(at),
+            _ => self.two(at),
+        }?;
+        self.steps += 1;
+        Ok(next)
+    }
+
     /// Runs the code at a place, and answers the place behind it.
     pub fn eval(&mut self, at: usize, fuel: u32) -> Result<usize, Stop> {
         match self.code[at] {
@@ -330,15 +362,7 @@ impl Machine<'_> {
                 Ok(end)
             }
             0x22 => self.rounds(at, fuel),
-            0x03 => self.add_lea(at),
-            0x08 => self.mul(at),
-            0x09 => self.mulx(at),
-            0x0f..=0x12 | 0x14 => self.lanes(at),
-            0x13 | 0x18 => self.shuffle(at),
-            0x15 => self.extract(at),
-            0x16 | 0x17 => self.insert(at),
-            0x19..=0x1b => self.count(at),
-            _ => self.two(at),
+            _ => self.instruction(at),
         }
     }
 }

@@ -59,7 +59,7 @@ fn instructions() -> Vec<Code> {
 }
 
 fn over_cells(code: Code) -> Kernel {
-    let mut kernel = kernel("stack", 0, code);
+    let mut kernel = kernel("stack", code);
     set_cells(&mut kernel, 4);
     for (cell, r) in [(1, RBX), (2, RSI), (3, RBP)] {
         set_regs(&mut kernel, &[(r, FIRST_CELL + 8 * cell)]);

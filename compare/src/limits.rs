@@ -64,9 +64,7 @@ pub fn compare(
             Ok(code) => outcome(&job, code, Settings::limited(job.fill, limit)),
             Err(trouble) => Outcome::refused(*trouble),
         };
-        if theirs.as_ref() != Ok(&own) {
-            return Err(difference(limit, &own, theirs));
-        }
+        same(limit, &own, theirs)?;
         tally.drew(name);
         tally.add(&Met {
             limit,
@@ -76,6 +74,14 @@ pub fn compare(
         });
     }
     Ok(())
+}
+
+/// Refuses every outcome but this evaluator's.
+pub fn same(limit: u64, own: &Outcome, theirs: Result<Outcome, String>) -> Result<(), String> {
+    match theirs.as_ref() == Ok(own) {
+        true => Ok(()),
+        false => Err(difference(limit, own, theirs)),
+    }
 }
 
 /// The steps of a refusal are not in its text.

@@ -5,6 +5,7 @@ use super::*;
 use crate::batch::{missing, run};
 use crate::job::Job;
 use crate::run::answer;
+use crate::systematic;
 use crate::target::Own;
 
 type Limited = fn(&Job, u64) -> Option<Result<Outcome, String>>;
@@ -28,6 +29,12 @@ fn changed(job: &Job, limit: u64, change: fn(&mut Outcome)) -> Option<Result<Out
     Some(Ok(outcome))
 }
 
+fn count_what_fails(outcome: &mut Outcome) {
+    if let Answer::Fault(..) = outcome.answer {
+        outcome.steps += 1;
+    }
+}
+
 fn flip_flags(outcome: &mut Outcome) {
     if let Some((end, _)) = &mut outcome.end {
         end.flags ^= 1;
@@ -40,19 +47,37 @@ fn forget_cells(outcome: &mut Outcome) {
     }
 }
 
+/// The first two are a step late and a step early.
+const WRONG: [Limited; 7] = [
+    |job, limit| Some(Ok(answer(job, limit.saturating_add(1)))),
+    |job, limit| Some(Ok(answer(job, limit.saturating_sub(1)))),
+    |job, limit| changed(job, limit, count_what_fails),
+    |job, limit| changed(job, limit, |outcome| outcome.steps += 1),
+    |job, limit| changed(job, limit, flip_flags),
+    |job, limit| changed(job, limit, forget_cells),
+    |_, _| Some(Err("no answer".to_string())),
+];
+
 #[test]
 fn what_is_wrong_under_a_limit_shows() {
-    let wrong: [Limited; 6] = [
-        |job, limit| Some(Ok(answer(job, limit.saturating_add(1)))),
-        |job, limit| Some(Ok(answer(job, limit.saturating_sub(1)))),
-        |job, limit| changed(job, limit, |outcome| outcome.steps += 1),
-        |job, limit| changed(job, limit, flip_flags),
-        |job, limit| changed(job, limit, forget_cells),
-        |_, _| Some(Err("no answer".to_string())),
-    ];
-    for limited in wrong {
+    for limited in WRONG {
         assert!(run(400, 1, &mut Other(limited)).is_err());
     }
+}
+
+/// The same in systematic jobs; and it is the difference that is told.
+#[test]
+fn what_is_wrong_under_a_limit_shows_in_pairs() {
+    for limited in WRONG {
+        let why = systematic::limited(&mut Other(limited)).unwrap_err();
+        assert!(why.contains("program under test:"), "{why}");
+    }
+}
+
+#[test]
+fn pairs_need_a_program_with_limits() {
+    let why = systematic::limited(&mut Other(|_, _| None)).unwrap_err();
+    assert!(why.contains("takes no step limit"), "{why}");
 }
 
 #[test]

@@ -55,18 +55,18 @@ use std::process::ExitCode;
 const USAGE: &str = "\
 compare run JOBFILE              answer one job by this evaluator
 compare batch N SEED PROGRAM     compare N generated jobs; SEED may be `new`
+compare limited PROGRAM          compare systematic jobs under step limits
 compare selfcheck                the examples of document 01
 compare store N SEED DIR         write a stored set of N jobs to DIR/jobs.txt
 compare systematic DIR           write the systematic set to DIR/systematic
-compare limited DIR              write jobs under step limits to DIR/limited
-compare stored N SEED DIR        both of these, and N generated jobs to DIR/random
+compare stored N SEED DIR        the same, and N generated jobs to DIR/random
 compare check FILE PROGRAM       run a stored set through a program
 compare make SEED INDEX JOBFILE  write one generated job
 compare builds N SEED [BUILDER]  compare N generated lists of builder calls
 compare store-builds DIR         write stored lists to DIR/systematic and random
 PROGRAM is a path with arguments, or `self` for this evaluator, or (built
-with the feature c_target) `c` for the port linked in. BUILDER is `c`, or
-`self` for the rule over a build's fields.";
+with the feature c_target) `c` for the port linked in; for `limited` only
+these two. BUILDER is `c`, or `self` for the rule over a build's fields.";
 
 fn main() -> ExitCode {
     let words: Vec<String> = std::env::args().skip(1).collect();
@@ -84,16 +84,15 @@ fn command(words: &[String]) -> Result<(), String> {
     match names[..] {
         ["run", file] => run_one(file),
         ["batch", n, seed, _, ..] => run_batch(n, seed, &words[3..]),
+        ["limited", _, ..] => run_limited(&words[1..]),
         ["selfcheck"] => selfcheck::all().map(|n| println!("{n} examples hold")),
         ["store", n, seed, dir] => {
             let stored = store::choose(number(n)? as usize, seed_of(seed)?)?;
             write_set(dir, "jobs.txt", store::as_text(&stored).as_bytes())
         }
         ["systematic", dir] => write_systematic(dir),
-        ["limited", dir] => write_limited(dir),
         ["stored", n, seed, dir] => {
             write_systematic(dir)?;
-            write_limited(dir)?;
             let chosen = store::choose(number(n)? as usize, number(seed)?)?;
             write_set(dir, "random", &store::as_bytes(&chosen))
         }
@@ -160,6 +159,13 @@ fn run_batch(n: &str, seed: &str, program: &[String]) -> Result<(), String> {
     Ok(())
 }
 
+fn run_limited(program: &[String]) -> Result<(), String> {
+    let mut target = target_of(program)?;
+    let pairs = systematic::limited(target.as_mut())?;
+    println!("{pairs} pairs of a job and a step limit answered alike");
+    Ok(())
+}
+
 fn run_builds(n: &str, seed: &str, name: &str) -> Result<(), String> {
     let (lists, seed) = (number(n)?, seed_of(seed)?);
     let mut builder = builder::builder_of(name)?;
@@ -181,13 +187,6 @@ fn write_systematic(dir: &str) -> Result<(), String> {
     let records = systematic::records()?;
     write_set(dir, "systematic", &store::as_bytes(&records))?;
     println!("{} systematic jobs", records.len());
-    Ok(())
-}
-
-fn write_limited(dir: &str) -> Result<(), String> {
-    let records = systematic::limited()?;
-    write_set(dir, "limited", &store::limited_as_bytes(&records))?;
-    println!("{} jobs under step limits", records.len());
     Ok(())
 }
 

@@ -5,8 +5,7 @@
 //! stands for the byte hh, n (decimal) times.
 //!
 //! As bytes a record is the job and then its text, each behind its length in
-//! four bytes, low first. A limited record has the step limit in front of them,
-//! in eight bytes, low first.
+//! four bytes, low first.
 
 use crate::answer::render;
 use crate::batch::own_answer;
@@ -18,12 +17,6 @@ use crate::target::Target;
 pub struct Record {
     pub job: Vec<u8>,
     pub text: String,
-}
-
-/// A record whose text is the one under a step limit.
-pub struct LimitedRecord {
-    pub limit: u64,
-    pub record: Record,
 }
 
 /// Runs shorter than this are spelled out.
@@ -110,25 +103,12 @@ pub fn as_text(records: &[Record]) -> String {
 pub fn as_bytes(records: &[Record]) -> Vec<u8> {
     let mut out = Vec::new();
     for record in records {
-        push_record(&mut out, record);
+        for part in [&record.job[..], record.text.as_bytes()] {
+            out.extend((part.len() as u32).to_le_bytes());
+            out.extend(part);
+        }
     }
     out
-}
-
-pub fn limited_as_bytes(records: &[LimitedRecord]) -> Vec<u8> {
-    let mut out = Vec::new();
-    for LimitedRecord { limit, record } in records {
-        out.extend(limit.to_le_bytes());
-        push_record(&mut out, record);
-    }
-    out
-}
-
-fn push_record(out: &mut Vec<u8>, record: &Record) {
-    for part in [&record.job[..], record.text.as_bytes()] {
-        out.extend((part.len() as u32).to_le_bytes());
-        out.extend(part);
-    }
 }
 
 /// Reads a stored set of either form; text begins with the word `job`.

@@ -36,8 +36,8 @@ pub enum Answer {
     /// - 35: VPSLLDQ by another count than 4
     /// - 36: in place of 31 or 32, base + scale * index + offset, not taken modulo 2^64, is below 0 or above 2^64 - 1
     Fault { number: u8, place: usize },
-    /// The step limit was used up and an instruction or a comparison came next: the number is 37, and the place is
-    /// that of what came next, none of whose checks was made.
+    /// The step limit was used up and an instruction or a comparison came next: the number is 37, the place that of
+    /// what came next, none of whose checks was made. State and cells are as they were before it.
     Stopped { number: u8, place: usize },
     /// A While at this place was met without fuel.
     Spent { place: usize },
@@ -76,11 +76,11 @@ pub struct Cells<'a> {
 pub struct Setting {
     pub fill: u64,
     pub fuel: u32,
-    /// The most steps that the run may make.
+    /// The most steps that the run may make; `u64::MAX` is as good as none.
     pub limit: u64,
 }
 
-/// No limit and no fuel: of a run with this setting every step is made that comes before a loop.
+/// The largest limit, and no fuel: every loop is Spent.
 impl Default for Setting {
     fn default() -> Setting {
         Setting {
@@ -127,6 +127,9 @@ pub fn check_cells(addresses: &[u64], tags: &[u8], values: &[u64]) -> Result<(),
 
 /// Runs code over lent cells, from a start to its exact end, both in `state` and the cells' values. A refused run
 /// leaves both as they were.
+///
+/// Code of n codes whose Whiles are nested d deep makes at most n * (fuel + 1)^d steps. A run that is not Stopped has
+/// the same end under every larger limit.
 pub fn run(code: &[u8], cells: Cells<'_>, state: &mut State, setting: Setting) -> End {
     let (mut number, mut place, mut steps) = (0, 0, 0);
     // SAFETY: what is lent lives through the call, which keeps none of it; what is written is borrowed apart from

@@ -58,7 +58,11 @@ fn p14_runs() {
             tags: &[],
             values: &mut [],
         };
-        let answer = run(code, cells, &mut state, Setting { fill: 0, fuel });
+        let setting = Setting {
+            fuel,
+            ..Setting::default()
+        };
+        let answer = run(code, cells, &mut state, setting).answer;
         assert_eq!((answer, state.regs[0]), (end, 0));
     }
 }

@@ -1,13 +1,18 @@
-//! Cases of document 01 and of requests 2026-02 and 2026-03 through the wrapper.
+//! Cases of document 01 and of requests 2026-02 to 2026-04 through the wrapper.
 
 use pokchrei::{check_cells, check_code, job, run};
-use pokchrei::{Answer, Cells, Refusal, Setting, State, JOB_ROOM};
+use pokchrei::{Answer, Cells, End, Refusal, Setting, State, JOB_ROOM};
 
 const ADD_RAX_1: [u8; 12] = [0x02, 0x41, 0x00, 0x40, 1, 0, 0, 0, 0, 0, 0, 0];
 const SUB_RAX_1: [u8; 12] = [0x07, 0x41, 0x00, 0x40, 1, 0, 0, 0, 0, 0, 0, 0];
 
 /// Runs code with no cells from Rax and flags.
 fn run_alone(code: &[u8], rax: u64, flags: u64, setting: Setting) -> (Answer, State) {
+    let (end, state) = end_alone(code, rax, flags, setting);
+    (end.answer, state)
+}
+
+fn end_alone(code: &[u8], rax: u64, flags: u64, setting: Setting) -> (End, State) {
     let mut state = State {
         flags,
         ..State::default()
@@ -18,8 +23,17 @@ fn run_alone(code: &[u8], rax: u64, flags: u64, setting: Setting) -> (Answer, St
         tags: &[],
         values: &mut [],
     };
-    let answer = run(code, cells, &mut state, setting);
-    (answer, state)
+    let end = run(code, cells, &mut state, setting);
+    (end, state)
+}
+
+/// The largest limit.
+fn setting(fill: u64, fuel: u32) -> Setting {
+    Setting {
+        fill,
+        fuel,
+        ..Setting::default()
+    }
 }
 
 #[test]
@@ -39,8 +53,7 @@ fn p2_add_keeps_overflow() {
 
 #[test]
 fn p3_sub_sets_flags_to_fill() {
-    let setting = Setting { fill: 9, fuel: 0 };
-    let (answer, state) = run_alone(&SUB_RAX_1, 0, 0, setting);
+    let (answer, state) = run_alone(&SUB_RAX_1, 0, 0, setting(9, 0));
     assert_eq!(
         (answer, state.regs[0], state.flags),
         (Answer::Done, u64::MAX, 9)
@@ -49,15 +62,74 @@ fn p3_sub_sets_flags_to_fill() {
 
 #[test]
 fn p10_fuel_is_tested_before_a_false_condition() {
-    // While Rax differs from 0, Sub64 Rax 1
+    let code = count_down();
+    let (answer, _) = run_alone(&code, 0, 0, Setting::default());
+    assert_eq!(answer, Answer::Spent { place: 0 });
+    let (answer, _) = run_alone(&code, 0, 0, setting(0, 1));
+    assert_eq!(answer, Answer::Done);
+}
+
+/// While Rax differs from 0, Sub64 Rax 1: the comparison is at 5, the Sub64 at 17.
+fn count_down() -> Vec<u8> {
     let mut code = vec![
         0x22, 12, 0, 0, 0, 0x31, 0x41, 0, 0x40, 0, 0, 0, 0, 0, 0, 0, 0,
     ];
     code.extend(SUB_RAX_1);
-    let (answer, _) = run_alone(&code, 0, 0, Setting::default());
-    assert_eq!(answer, Answer::Spent { place: 0 });
-    let (answer, _) = run_alone(&code, 0, 0, Setting { fill: 0, fuel: 1 });
-    assert_eq!(answer, Answer::Done);
+    code
+}
+
+#[test]
+fn p14_under_limits_around_its_steps() {
+    let stopped = |place| Answer::Stopped { number: 37, place };
+    let spent = Answer::Spent { place: 0 };
+    // Fuel, limit, and the answer, the steps and Rax that come of 3.
+    let table = [
+        (4, u64::MAX, Answer::Done, 7, 0),
+        (4, 7, Answer::Done, 7, 0),
+        (4, 6, stopped(5), 6, 0),
+        (4, 5, stopped(17), 5, 1),
+        (4, 1, stopped(17), 1, 3),
+        (4, 0, stopped(5), 0, 3),
+        (3, 7, spent, 6, 0),
+        (3, 6, spent, 6, 0),
+        (3, 5, stopped(17), 5, 1),
+        (0, 0, spent, 0, 3),
+    ];
+    for (fuel, limit, answer, steps, rax) in table {
+        let setting = Setting {
+            fill: 0,
+            fuel,
+            limit,
+        };
+        let (end, state) = end_alone(&count_down(), 3, 0, setting);
+        assert_eq!(
+            (end, state.regs[0]),
+            (End { answer, steps }, rax),
+            "fuel {fuel}, limit {limit}"
+        );
+    }
+}
+
+#[test]
+fn a_fault_is_no_step_and_stopped_comes_ahead_of_it() {
+    // Shl64 Rax by 64
+    let code = [0x0e, 0x41, 0, 0x40, 64, 0, 0, 0, 0, 0, 0, 0];
+    let fault = Answer::Fault {
+        number: 33,
+        place: 0,
+    };
+    let stopped = Answer::Stopped {
+        number: 37,
+        place: 0,
+    };
+    for (limit, answer) in [(1, fault), (0, stopped)] {
+        let setting = Setting {
+            limit,
+            ..Setting::default()
+        };
+        let (end, state) = end_alone(&code, 1, 0, setting);
+        assert_eq!((end, state.regs[0]), (End { answer, steps: 0 }, 1));
+    }
 }
 
 #[test]
@@ -89,8 +161,8 @@ fn at_rax(store: bool, rax: u64, offset: i64) -> (Answer, [u64; 1], u64) {
         tags: &[64],
         values: &mut values,
     };
-    let answer = run(&code, cells, &mut state, Setting::default());
-    (answer, values, state.regs[1])
+    let end = run(&code, cells, &mut state, Setting::default());
+    (end.answer, values, state.regs[1])
 }
 
 #[test]
@@ -134,7 +206,7 @@ fn counts_and_their_flags() {
             for (i, flags) in [ones, zeros, zeros].into_iter().enumerate() {
                 // Rax is destination and source.
                 let code = [0x19 + i as u8, 0x41, 0, 0x41, 0];
-                let (answer, state) = run_alone(&code, source, 9, Setting { fill, fuel: 0 });
+                let (answer, state) = run_alone(&code, source, 9, setting(fill, 0));
                 let end = (answer, state.regs[0], state.flags);
                 let expected = (Answer::Done, expected[i], flags);
                 assert_eq!(end, expected, "{code:?}, source {source}, fill {fill}");
@@ -151,11 +223,10 @@ fn cut_code_is_refused_and_the_start_comes_back() {
     };
     assert_eq!(check_code(&ADD_RAX_1), Ok(()));
     assert_eq!(check_code(&ADD_RAX_1[..11]), Err(refusal));
-    let (answer, state) = run_alone(&ADD_RAX_1[..11], 8, 1, Setting::default());
-    assert_eq!(
-        (answer, state.regs[0], state.flags),
-        (Answer::Refused(refusal), 8, 1)
-    );
+    let (end, state) = end_alone(&ADD_RAX_1[..11], 8, 1, Setting::default());
+    let answer = Answer::Refused(refusal);
+    let refused = End { answer, steps: 0 };
+    assert_eq!((end, state.regs[0], state.flags), (refused, 8, 1));
 }
 
 #[test]
@@ -180,10 +251,14 @@ fn the_job_of_document_01() {
         tags: &[64],
         values: &mut values,
     };
-    let answer = run(&code, cells, &mut state, Setting::default());
-    let mut end = State::default();
-    end.regs[0] = 5;
-    assert_eq!((answer, state, values), (Answer::Done, end, [12]));
+    let end = run(&code, cells, &mut state, Setting::default());
+    let mut last = State::default();
+    last.regs[0] = 5;
+    let done = End {
+        answer: Answer::Done,
+        steps: 1,
+    };
+    assert_eq!((end, state, values), (done, last, [12]));
 }
 
 #[test]
@@ -197,6 +272,6 @@ fn the_bytes_of_that_job() {
     input[423..].copy_from_slice(&[0x02, 0x42, 0x00, 0x10, 0, 0, 0, 0, 0, 0, 0x41, 0x00]);
     let mut out = [0; JOB_ROOM];
     let text = job(&input, &mut out);
-    assert_eq!(text, b"done\nflags 0\nRax 5\ncell 4096 64 12\n");
+    assert_eq!(text, b"done\nsteps 1\nflags 0\nRax 5\ncell 4096 64 12\n");
     assert_eq!(job(&input[..405], &mut out), b"refused 41 at 0\n");
 }

@@ -1,20 +1,27 @@
 //! Systematic jobs under step limits: those of `steps.rs` under every limit that
 //! stops them, and here and there one of the others under limits near its steps.
+//! The program under test and this evaluator both run them.
 
 use super::steps;
-use crate::answer::{render, Answer, Outcome};
+use crate::answer::{Answer, Outcome};
+use crate::batch::hex;
 use crate::checks::limit_holds;
 use crate::follow::{Settings, LARGEST_LIMIT};
 use crate::job::{parse, Job};
 use crate::limit_tally::{LimitTally, Met};
+use crate::limits::same;
 use crate::run::{accept, answer};
-use crate::store::{LimitedRecord, Record};
+use crate::target::Target;
 use std::collections::BTreeSet;
 
 /// Longer runs are left out.
 const MOST_STEPS: u64 = 12;
 /// One of so many is taken: of runs with a step or none, and of longer ones.
 const STRIDES: [usize; 2] = [41, 5];
+
+/// To pass over such a program would look like a comparison.
+const NO_LIMIT: &str = "the program under test takes no step limit; \
+    `self` does, and `c` if built with the feature c_target";
 
 type Pair = (Job, u64);
 
@@ -74,28 +81,35 @@ fn pairs(all: &[Vec<u8>]) -> Vec<Pair> {
     pairs
 }
 
-/// The pairs with this evaluator's texts. Every kind of stop has to be there.
-pub fn records(all: &[Vec<u8>]) -> Result<Vec<LimitedRecord>, String> {
+/// Runs the pairs in turn up to the first difference, and gives their number.
+/// Every kind of stop has to be there.
+pub fn compare(all: &[Vec<u8>], target: &mut dyn Target) -> Result<usize, String> {
     let mut tally = LimitTally::default();
-    let mut records = Vec::new();
-    for (job, limit) in pairs(all) {
-        let outcome = checked(&job, limit, &mut tally)?;
-        let (job, text) = (job.to_bytes(), render(&outcome));
-        let record = Record { job, text };
-        records.push(LimitedRecord { limit, record });
+    let pairs = pairs(all);
+    for (index, (job, limit)) in pairs.iter().enumerate() {
+        let named = |what: String| describe(index, job, &what);
+        let own = checked(job, *limit, &mut tally).map_err(named)?;
+        let theirs = target.limited(job, *limit).ok_or(NO_LIMIT)?;
+        same(*limit, &own, theirs).map_err(named)?;
     }
     match tally.missing_ends()[..] {
-        [] => Ok(records),
+        [] => Ok(pairs.len()),
         ref missing => Err(format!("never met: {}", missing.join(", "))),
     }
 }
 
+fn describe(index: usize, job: &Job, what: &str) -> String {
+    format!("pair {index}:\n{}\n{what}", hex(&job.to_bytes()))
+}
+
+/// This evaluator's outcome, with the check inside it.
 fn checked(job: &Job, limit: u64, tally: &mut LimitTally) -> Result<Outcome, String> {
     let (unlimited, limited) = (answer(job, LARGEST_LIMIT), answer(job, limit));
     let accepted = accept(job);
     if let Ok(code) = &accepted {
         let settings = Settings::limited(job.fill, limit);
-        limit_holds(job, code, &unlimited, settings)?;
+        let held = limit_holds(job, code, &unlimited, settings);
+        held.map_err(|e| format!("inner check: {e}"))?;
     }
     tally.add(&Met {
         limit,

@@ -20,8 +20,9 @@ mod words;
 use crate::answer::render;
 use crate::batch::own_answer;
 use crate::job::Job;
-use crate::store::{LimitedRecord, Record};
+use crate::store::Record;
 use crate::tally::Tally;
+use crate::target::Target;
 use std::collections::BTreeSet;
 
 fn jobs() -> Vec<Vec<u8>> {
@@ -61,10 +62,10 @@ pub fn records() -> Result<Vec<Record>, String> {
     }
 }
 
-/// Pairs of a job and a step limit, with the text that the job program would
-/// print under that limit.
-pub fn limited() -> Result<Vec<LimitedRecord>, String> {
-    limited::records(&jobs())
+/// Runs pairs of a job and a step limit through a program under test, and gives
+/// their number.
+pub fn limited(target: &mut dyn Target) -> Result<usize, String> {
+    limited::compare(&jobs(), target)
 }
 
 #[cfg(test)]
@@ -73,6 +74,7 @@ mod tests {
     use crate::follow::Settings;
     use crate::job::parse;
     use crate::run::{accept, answer};
+    use crate::target::Own;
 
     #[test]
     fn every_class_is_met() {
@@ -92,9 +94,15 @@ mod tests {
 
     #[test]
     fn every_kind_of_stop_is_met() {
-        let records = super::limited().unwrap();
-        assert!((300..=400).contains(&records.len()));
-        assert!(crate::store::limited_as_bytes(&records).len() < 300_000);
+        let pairs = super::limited(&mut Own).unwrap();
+        assert!((300..=400).contains(&pairs));
+    }
+
+    /// None of the jobs of `steps.rs` is refused, and they are not enough alone.
+    #[test]
+    fn a_kind_that_is_not_met_is_told() {
+        let why = super::limited::compare(&[], &mut Own).unwrap_err();
+        assert_eq!(why, "never met: refused");
     }
 
     /// Every limit up to the steps and one beyond, for all the jobs that run.

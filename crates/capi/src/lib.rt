@@ -2,6 +2,7 @@
 mod build;
 
 ghost use mathlib.Core.Path.{_≡_};
+ghost use mathlib.Core.Option.{some};
 ghost use Rattle.machine.specs.Cells.{verdict, check-cells};
 ghost use Rattle.code.specs.Reader.{check-code};
 ghost use Rattle.eval.specs.Config.{outcome};
@@ -28,6 +29,8 @@ const FAULT: u8 = 1;
 const SPENT: u8 = 2;
 
 const REFUSED: u8 = 3;
+
+const STOPPED: u8 = 4;
 
 // Numbers of an answer. A place is written through a reference, C's way to return a second result.
 fn tell_checked(checked: Checked, place: &mut usize) -> u8
@@ -58,6 +61,11 @@ fn tell(answer: Answer, number: &mut u8, place: &mut usize) -> u8
             *number = n;
             *place = at;
             FAULT
+        }
+        Answer::Stopped(n, at) => {
+            *number = n;
+            *place = at;
+            STOPPED
         }
         Answer::Spent(at) => {
             *number = 0;
@@ -104,15 +112,17 @@ pub extern "C" fn pokchrei_run(
     flags: &mut u64,
     fill: u64,
     fuel: u32,
+    limit: u64,
     number: &mut u8,
     place: &mut usize,
+    steps: &mut u64,
 ) -> u8
     ensures { λ r. ⌜
         ending (told r (now (number .exit)) (now (place .exit)))
-        (held (now (regs .exit)) (now (xmms .exit)) (now (flags .exit)) (now (values .exit)))
-        ≡ ending-of (run-of (now (code .entry)) (environment (now (addresses .entry)) (now (tags .entry)) fill) fuel
+        (held (now (regs .exit)) (now (xmms .exit)) (now (flags .exit)) (now (values .exit))) (now (steps .exit))
+        ≡ ending-of (run-of (now (code .entry)) (environment (now (addresses .entry)) (now (tags .entry)) fill) fuel (some limit)
         (held (now (regs .entry)) (now (xmms .entry)) (now (flags .entry)) (now (values .entry)))) ⌝ }
-    ensures { λ _. ⌜ IsInput (now (code .entry)) (lent-state (now (regs .entry)) (now (xmms .entry)) (now (flags .entry))) (lent-setting fill fuel) ⌝ }
+    ensures { λ _. ⌜ IsInput (now (code .entry)) (lent-state (now (regs .entry)) (now (xmms .entry)) (now (flags .entry))) (lent-setting fill fuel limit) ⌝ }
 {
     let first_regs = *regs;
     let first_xmms = *xmms;
@@ -121,7 +131,7 @@ pub extern "C" fn pokchrei_run(
         xmms: first_xmms,
         flags: *flags,
     };
-    let setting = Setting { fill, fuel };
+    let setting = Setting { fill, fuel, limit };
     let end = run(code, addresses, tags, values, start, setting);
     let state = end.state;
     let last_regs = state.regs;
@@ -129,6 +139,7 @@ pub extern "C" fn pokchrei_run(
     *regs = last_regs;
     *xmms = last_xmms;
     *flags = state.flags;
+    *steps = end.steps;
     let answer = end.answer;
     tell(answer, number, place)
 }

@@ -4,6 +4,7 @@ use Prim.Native.Nat.{ℕ}
 use mathlib.Core.Path.{_≡_, refl}
 use mathlib.Core.Bool.{xor}
 use mathlib.Core.List.{List, [], _∷_, _++_}
+use mathlib.Core.Option.{some}
 use lib.ListN.{length, set, replicate}
 use Rattle.words.specs.Words.{nat-to-four, two-select, two-to-nat, four-select, four-insert}
 use Rattle.words.specs.Bits.{to-vec, from-vec, map2, ixor, ishl}
@@ -19,19 +20,21 @@ use Rattle.code.specs.declared.tree.Instruction.the-variants.{Add64}
 use Rattle.code.specs.Tree.{Ins}
 use Rattle.code.specs.Records.{body-length, operand-count, register-fields, number-at, signed-at, operand-at, behind, operands-at, ins-at, ocmp-at}
 use Rattle.code.specs.Reader.{got, followed, with-fields, read-record, read-operands, read-with, read-ocmp, read-part, read-codes, read-block, read-if, read-while, read-structure, read-body, read-code, parse, verdict-of, check-code}
-use Rattle.eval.specs.Config.{Env, Config, with-flags, with-values, End, ends, Outcome, done, fault, spent, continue, check, choose}
+use Rattle.eval.specs.Config.{Env, Config, with-flags, with-values, Outcome, done, fault, stopped, spent, check}
+use Rattle.eval.specs.Counted.{counted, Ended, ended, continue, used-up, count, step}
 use Rattle.eval.specs.Instructions.{add-flags, two-word, two-flags, quads-word, quads-flags, shifts-word, inserts-word, cell-of, valid-operand, eval-operand, valid-dst-operand, update-operand, act, run-ins, valid-ocmp, eval-ocmp}
 use Rattle.job.specs.Text.{digits, name-of, first-line, reg-lines, xmm-lines, cell-lines, render}
 use Rattle.job.specs.Job.{numbers, check-job, end-checked, output}
-use Rattle.eval.specs.Running.{run-ocmp, rounds, run-code, run-checked, run-read, run-of}
+use Rattle.eval.specs.Running.{run-ocmp, choose, rounds, run-code, run-checked, run-read, run-of}
 
--- what document 01 gives to a kernel, and the end that it names
+-- what document 01 gives to a kernel, with the step limit of request 2026-04, and the end that they name
 pub record Kernel : Type 0 where
   pub code : List ℕ
   pub env : Env
   pub fuel : ℕ
+  pub limit : ℕ
   pub start : Config
-  pub end : End
+  pub end : Ended
 
 -- registers, xmm words and flags all 0, and no cells
 abbrev zeros : Config
@@ -57,9 +60,14 @@ no-cells fill = record { addresses = []; tags = []; fill = fill }
 abbrev one-cell : ℕ → Env
 one-cell a = record { addresses = a ∷ []; tags = 64 ∷ []; fill = 0 }
 
--- a row of the table
-abbrev row : List ℕ → Env → ℕ → Config → Outcome → Config → Kernel
-row code env fuel start how end = record { code = code; env = env; fuel = fuel; start = start; end = ends how end }
+-- a row of a table: code, cells and fill, fuel, limit, start, how it ends, and with what and how many steps
+abbrev row-at : List ℕ → Env → ℕ → ℕ → Config → Outcome → Config → ℕ → Kernel
+row-at code env fuel limit start how end steps =
+    record { code = code; env = env; fuel = fuel; limit = limit; start = start; end = ended how end (counted steps) }
+
+-- a row with a limit of 100
+abbrev row : List ℕ → Env → ℕ → Config → Outcome → Config → ℕ → Kernel
+row code env fuel start how end steps = row-at code env fuel 100 start how end steps
 
 -- Add64 Rax, 1
 abbrev add-one : List ℕ
@@ -75,57 +83,82 @@ count-down =
     0x22 ∷ 0x0c ∷ 0x00 ∷ 0x00 ∷ 0x00 ∷ 0x31 ∷ 0x41 ∷ 0x00 ∷ 0x40 ∷ 0x00 ∷ 0x00 ∷ 0x00 ∷ 0x00 ∷ 0x00 ∷ 0x00 ∷ 0x00 ∷ 0x00
     ∷ 0x07 ∷ 0x41 ∷ 0x00 ∷ 0x40 ∷ 0x01 ∷ 0x00 ∷ 0x00 ∷ 0x00 ∷ 0x00 ∷ 0x00 ∷ 0x00 ∷ 0x00 ∷ []
 
--- the table: code, cells and fill, fuel, start, how it ends, and with what
+-- the table: code, cells and fill, fuel, start, how it ends, with what, and how many steps
 pub kernels : List Kernel
 kernels =
     -- P1: Add64 Rax 2^64-1 and 1
-    row add-one (no-cells 0) 0 (rax 18446744073709551615) done (with-flags 1 (rax 0))
+    row add-one (no-cells 0) 0 (rax 18446744073709551615) done (with-flags 1 (rax 0)) 1
     -- P2: Add64 1 and 1, flags 2048
-    ∷ row add-one (no-cells 0) 0 (with-flags 2048 (rax 1)) done (with-flags 2048 (rax 2))
+    ∷ row add-one (no-cells 0) 0 (with-flags 2048 (rax 1)) done (with-flags 2048 (rax 2)) 1
     -- P3: Sub64 0 less 1, fill 9
     ∷ row (0x07 ∷ 0x41 ∷ 0x00 ∷ 0x40 ∷ 0x01 ∷ 0x00 ∷ 0x00 ∷ 0x00 ∷ 0x00 ∷ 0x00 ∷ 0x00 ∷ 0x00 ∷ [])
-    (no-cells 9) 0 (rax 0) done (with-flags 9 (rax 18446744073709551615))
+    (no-cells 9) 0 (rax 0) done (with-flags 9 (rax 18446744073709551615)) 1
     -- P4: Mulx64, both destinations Rax, Rdx 2^63, source 2
     ∷ row (0x09 ∷ 0x41 ∷ 0x00 ∷ 0x41 ∷ 0x00 ∷ 0x40 ∷ 0x02 ∷ 0x00 ∷ 0x00 ∷ 0x00 ∷ 0x00 ∷ 0x00 ∷ 0x00 ∷ 0x00 ∷ [])
-    (no-cells 0) 0 (reg 3 9223372036854775808 (rax 0)) done (reg 3 9223372036854775808 (rax 1))
+    (no-cells 0) 0 (reg 3 9223372036854775808 (rax 0)) done (reg 3 9223372036854775808 (rax 1)) 1
     -- P5: Xor64 Rax with Rax, fill 2^64-1
-    ∷ row (0x0b ∷ 0x41 ∷ 0x00 ∷ 0x41 ∷ 0x00 ∷ []) (no-cells 18446744073709551615) 0 (rax 5) done (with-flags 18446744073709549566 (rax 0))
+    ∷ row (0x0b ∷ 0x41 ∷ 0x00 ∷ 0x41 ∷ 0x00 ∷ []) (no-cells 18446744073709551615) 0 (rax 5) done (with-flags 18446744073709549566 (rax 0)) 1
     -- P6: Shl64 of 1 by 63
-    ∷ row (0x0e ∷ 0x41 ∷ 0x00 ∷ 0x40 ∷ 0x3f ∷ 0x00 ∷ 0x00 ∷ 0x00 ∷ 0x00 ∷ 0x00 ∷ 0x00 ∷ 0x00 ∷ []) (no-cells 0) 0 (rax 1) done (rax 9223372036854775808)
+    ∷ row (0x0e ∷ 0x41 ∷ 0x00 ∷ 0x40 ∷ 0x3f ∷ 0x00 ∷ 0x00 ∷ 0x00 ∷ 0x00 ∷ 0x00 ∷ 0x00 ∷ 0x00 ∷ []) (no-cells 0) 0 (rax 1) done (rax 9223372036854775808) 1
     -- P6: by 64
-    ∷ row (0x0e ∷ 0x41 ∷ 0x00 ∷ 0x40 ∷ 0x40 ∷ 0x00 ∷ 0x00 ∷ 0x00 ∷ 0x00 ∷ 0x00 ∷ 0x00 ∷ 0x00 ∷ []) (no-cells 0) 0 (rax 1) (fault 33 0) (rax 1)
+    ∷ row (0x0e ∷ 0x41 ∷ 0x00 ∷ 0x40 ∷ 0x40 ∷ 0x00 ∷ 0x00 ∷ 0x00 ∷ 0x00 ∷ 0x00 ∷ 0x00 ∷ 0x00 ∷ []) (no-cells 0) 0 (rax 1) (fault 33 0) (rax 1) 0
     -- P7: Pslld word 1 by 31
-    ∷ row (0x11 ∷ 0x00 ∷ 0x1f ∷ []) (no-cells 0) 0 (xmm0 1 0 0 0) done (xmm0 2147483648 0 0 0)
+    ∷ row (0x11 ∷ 0x00 ∷ 0x1f ∷ []) (no-cells 0) 0 (xmm0 1 0 0 0) done (xmm0 2147483648 0 0 0) 1
     -- P7: by 32
-    ∷ row (0x11 ∷ 0x00 ∷ 0x20 ∷ []) (no-cells 0) 0 (xmm0 1 0 0 0) (fault 34 0) (xmm0 1 0 0 0)
+    ∷ row (0x11 ∷ 0x00 ∷ 0x20 ∷ []) (no-cells 0) 0 (xmm0 1 0 0 0) (fault 34 0) (xmm0 1 0 0 0) 0
     -- P8: VPSLLDQ (1,2,3,4) by 4
-    ∷ row (0x18 ∷ 0x00 ∷ 0x00 ∷ 0x04 ∷ []) (no-cells 0) 0 (xmm0 1 2 3 4) done (xmm0 0 1 2 3)
+    ∷ row (0x18 ∷ 0x00 ∷ 0x00 ∷ 0x04 ∷ []) (no-cells 0) 0 (xmm0 1 2 3 4) done (xmm0 0 1 2 3) 1
     -- P8: by 5
-    ∷ row (0x18 ∷ 0x00 ∷ 0x00 ∷ 0x05 ∷ []) (no-cells 0) 0 (xmm0 1 2 3 4) (fault 35 0) (xmm0 1 2 3 4)
+    ∷ row (0x18 ∷ 0x00 ∷ 0x00 ∷ 0x05 ∷ []) (no-cells 0) 0 (xmm0 1 2 3 4) (fault 35 0) (xmm0 1 2 3 4) 0
     -- P9: Pshufd (10,11,12,13) by 27
-    ∷ row (0x13 ∷ 0x00 ∷ 0x00 ∷ 0x1b ∷ []) (no-cells 0) 0 (xmm0 10 11 12 13) done (xmm0 13 12 11 10)
+    ∷ row (0x13 ∷ 0x00 ∷ 0x00 ∷ 0x1b ∷ []) (no-cells 0) 0 (xmm0 10 11 12 13) done (xmm0 13 12 11 10) 1
     -- P10: While with a false condition, fuel 0
-    ∷ row never (no-cells 0) 0 zeros (spent 0) zeros
+    ∷ row never (no-cells 0) 0 zeros (spent 0) zeros 0
     -- P10: fuel 1
-    ∷ row never (no-cells 0) 1 zeros done zeros
+    ∷ row never (no-cells 0) 1 zeros done zeros 1
     -- P11: reading MReg Rax, offset 1, into Rbx, Rax 2^64-1, a 64-bit cell at 0
     ∷ row (0x01 ∷ 0x41 ∷ 0x01 ∷ 0x43 ∷ 0x00 ∷ 0x01 ∷ 0x00 ∷ 0x00 ∷ 0x00 ∷ 0x00 ∷ 0x00 ∷ 0x00 ∷ 0x00 ∷ [])
-    (one-cell 0) 0 (with-values (6 ∷ []) (rax 18446744073709551615)) (fault 36 0) (with-values (6 ∷ []) (rax 18446744073709551615))
+    (one-cell 0) 0 (with-values (6 ∷ []) (rax 18446744073709551615)) (fault 36 0) (with-values (6 ∷ []) (rax 18446744073709551615)) 0
     -- P12: Mov64 of 1 to Rsp
-    ∷ row (0x01 ∷ 0x41 ∷ 0x07 ∷ 0x40 ∷ 0x01 ∷ 0x00 ∷ 0x00 ∷ 0x00 ∷ 0x00 ∷ 0x00 ∷ 0x00 ∷ 0x00 ∷ []) (no-cells 0) 0 zeros (fault 32 0) zeros
+    ∷ row (0x01 ∷ 0x41 ∷ 0x07 ∷ 0x40 ∷ 0x01 ∷ 0x00 ∷ 0x00 ∷ 0x00 ∷ 0x00 ∷ 0x00 ∷ 0x00 ∷ 0x00 ∷ []) (no-cells 0) 0 zeros (fault 32 0) zeros 0
     -- P13: Pextrq (1,2,3,4) index 1 into Rax
-    ∷ row (0x15 ∷ 0x00 ∷ 0x01 ∷ 0x41 ∷ 0x00 ∷ []) (no-cells 0) 0 (xmm0 1 2 3 4) done (reg 0 17179869187 (xmm0 1 2 3 4))
+    ∷ row (0x15 ∷ 0x00 ∷ 0x01 ∷ 0x41 ∷ 0x00 ∷ []) (no-cells 0) 0 (xmm0 1 2 3 4) done (reg 0 17179869187 (xmm0 1 2 3 4)) 1
     -- P13: Pinsrd of 7, index 5, fills word 1
-    ∷ row (0x16 ∷ 0x00 ∷ 0x05 ∷ 0x40 ∷ 0x07 ∷ 0x00 ∷ 0x00 ∷ 0x00 ∷ 0x00 ∷ 0x00 ∷ 0x00 ∷ 0x00 ∷ []) (no-cells 0) 0 (xmm0 1 2 3 4) done (xmm0 1 7 3 4)
-    -- P14: from 3, fuel 4
-    ∷ row count-down (no-cells 0) 4 (rax 3) done (rax 0)
+    ∷ row (0x16 ∷ 0x00 ∷ 0x05 ∷ 0x40 ∷ 0x07 ∷ 0x00 ∷ 0x00 ∷ 0x00 ∷ 0x00 ∷ 0x00 ∷ 0x00 ∷ 0x00 ∷ []) (no-cells 0) 0 (xmm0 1 2 3 4) done (xmm0 1 7 3 4) 1
+    -- P14: from 3, fuel 4; three rounds of a comparison and a Sub64, and the comparison that ends the loop
+    ∷ row count-down (no-cells 0) 4 (rax 3) done (rax 0) 7
     -- P14: fuel 3
-    ∷ row count-down (no-cells 0) 3 (rax 3) (spent 0) (rax 0)
+    ∷ row count-down (no-cells 0) 3 (rax 3) (spent 0) (rax 0) 6
+    ∷ []
+
+-- limits at and around the steps that are made
+pub limited : List Kernel
+limited =
+    -- P14: as many as it makes is not Stopped
+    row-at count-down (no-cells 0) 4 7 (rax 3) done (rax 0) 7
+    -- one fewer: at the comparison that would end the loop
+    ∷ row-at count-down (no-cells 0) 4 6 (rax 3) (stopped 37 5) (rax 0) 6
+    -- at the third Sub64
+    ∷ row-at count-down (no-cells 0) 4 5 (rax 3) (stopped 37 17) (rax 1) 5
+    -- one step: at the first Sub64
+    ∷ row-at count-down (no-cells 0) 4 1 (rax 3) (stopped 37 17) (rax 3) 1
+    -- none: at the first comparison
+    ∷ row-at count-down (no-cells 0) 4 0 (rax 3) (stopped 37 5) (rax 3) 0
+    -- fuel 3: as many steps and then no fuel is Spent
+    ∷ row-at count-down (no-cells 0) 3 6 (rax 3) (spent 0) (rax 0) 6
+    -- P10: no fuel and no step is Spent
+    ∷ row-at never (no-cells 0) 0 0 zeros (spent 0) zeros 0
+    -- P1: no step; one
+    ∷ row-at add-one (no-cells 0) 0 0 (rax 5) (stopped 37 0) (rax 5) 0
+    ∷ row-at add-one (no-cells 0) 0 1 (rax 5) done (rax 6) 1
+    -- P8 by 5: Stopped ahead of the check that would fail, and with a step to make the Fault
+    ∷ row-at (0x18 ∷ 0x00 ∷ 0x00 ∷ 0x05 ∷ []) (no-cells 0) 0 0 (xmm0 1 2 3 4) (stopped 37 0) (xmm0 1 2 3 4) 0
+    ∷ row-at (0x18 ∷ 0x00 ∷ 0x00 ∷ 0x05 ∷ []) (no-cells 0) 0 1 (xmm0 1 2 3 4) (fault 35 0) (xmm0 1 2 3 4) 0
     ∷ []
 
 -- Running, with all that it computes with opened
-unfoldable pub ran : Kernel → End
-unfolding run-of run-read run-checked run-code rounds run-ocmp continue check choose
+unfoldable pub ran : Kernel → Ended
+unfolding run-of run-read run-checked run-code rounds choose run-ocmp continue used-up count step check
     cell-of valid-operand eval-operand valid-dst-operand update-operand act run-ins valid-ocmp eval-ocmp add-flags two-word two-flags
     quads-word quads-flags shifts-word inserts-word
     find-cell eqℤ eval-maddr wild wild-operand valid-dst xmm-at set-xmm
@@ -136,15 +169,15 @@ unfolding run-of run-read run-checked run-code rounds run-ocmp continue check ch
     read-block read-if read-while read-structure read-body read-code parse verdict-of check-code
     body-length operand-count register-fields number-at spelled signed-at operand-at behind operands-at ins-at ocmp-at
     is-tag cell-rule check-from check-cells
-ran k = run-of (k .code) (k .env) (k .fuel) (k .start)
+ran k = run-of (k .code) (k .env) (k .fuel) (some (k .limit)) (k .start)
 
 -- what Running makes of each row
-unfoldable pub ends-of : List Kernel → List End
+unfoldable pub ends-of : List Kernel → List Ended
 ends-of [] = []
 ends-of (k ∷ ks) = ran k ∷ ends-of ks
 
--- what document 01 names for each row, and for P11 request 2026-03
-unfoldable pub named : List Kernel → List End
+-- what document 01 names for each row, for P11 request 2026-03, and for the steps request 2026-04
+unfoldable pub named : List Kernel → List Ended
 named [] = []
 named (k ∷ ks) = k .end ∷ named ks
 
@@ -152,6 +185,11 @@ named (k ∷ ks) = k .end ∷ named ks
 pub kernels-hold : ends-of kernels ≡ named kernels
 unfolding ends-of named kernels ran
 kernels-hold = refl
+
+-- and of the limits
+pub limited-hold : ends-of limited ≡ named limited
+unfolding ends-of named limited ran
+limited-hold = refl
 
 -- Add64 Rax, 1, as bytes and as a tree; the first eleven bytes alone give 3 at 3
 pub code-is : parse add-one ≡ got (Ins 0 (Add64 (OReg Rax) (OConst 1))) 12
@@ -179,10 +217,10 @@ cells-hold = refl
 pub job : List Kernel
 job =
     row (0x02 ∷ 0x42 ∷ 0x00 ∷ 0x10 ∷ 0x00 ∷ 0x00 ∷ 0x00 ∷ 0x00 ∷ 0x00 ∷ 0x00 ∷ 0x41 ∷ 0x00 ∷ [])
-    (one-cell 4096) 0 (with-values (7 ∷ []) (rax 5)) done (with-values (12 ∷ []) (rax 5))
+    (one-cell 4096) 0 (with-values (7 ∷ []) (rax 5)) done (with-values (12 ∷ []) (rax 5)) 1
     ∷ []
 
--- done, flags 0, Rax 5, the cell 12, and all else 0
+-- done, 1 step, flags 0, Rax 5, the cell 12, and all else 0
 pub job-holds : ends-of job ≡ named job
 unfolding ends-of named job ran
 job-holds = refl
@@ -197,15 +235,16 @@ job-bytes =
     ++ 0x00 ∷ 0x10 ∷ 0x00 ∷ 0x00 ∷ 0x00 ∷ 0x00 ∷ 0x00 ∷ 0x00 ∷ 64 ∷ 0x07 ∷ replicate 7 0
     ++ 0x02 ∷ 0x42 ∷ 0x00 ∷ 0x10 ∷ 0x00 ∷ 0x00 ∷ 0x00 ∷ 0x00 ∷ 0x00 ∷ 0x00 ∷ 0x41 ∷ 0x00 ∷ []
 
--- what it prints, in bytes: "done", "flags 0", "Rax 5" and "cell 4096 64 12", each with a line feed
+-- what it prints, in bytes: "done", "steps 1", "flags 0", "Rax 5" and "cell 4096 64 12", each with a line feed
 pub job-text : List ℕ
 job-text =
     100 ∷ 111 ∷ 110 ∷ 101 ∷ 10 ∷ []
+    ++ 115 ∷ 116 ∷ 101 ∷ 112 ∷ 115 ∷ 32 ∷ 49 ∷ 10 ∷ []
     ++ 102 ∷ 108 ∷ 97 ∷ 103 ∷ 115 ∷ 32 ∷ 48 ∷ 10 ∷ []
     ++ 82 ∷ 97 ∷ 120 ∷ 32 ∷ 53 ∷ 10 ∷ []
     ++ 99 ∷ 101 ∷ 108 ∷ 108 ∷ 32 ∷ 52 ∷ 48 ∷ 57 ∷ 54 ∷ 32 ∷ 54 ∷ 52 ∷ 32 ∷ 49 ∷ 50 ∷ 10 ∷ []
 
--- the four lines
+-- the five lines
 pub job-prints : output job-bytes ≡ job-text
 unfolding ran job-bytes job-text output check-job end-checked numbers render first-line reg-lines xmm-lines cell-lines name-of digits
 job-prints = refl

@@ -32,16 +32,19 @@ module _ (code : List ℕ) (bytes : Bytes code) (env : Env) (fuel : ℕ) (limit 
   unfolding run-of run-read check-code
   bad-code n p e = rw (read-refused (parse code) n p e)
 
-  bad-cells : (n i : ℕ) → check-code code ≡ accepted → cells code env fuel limit s ≡ cells-refused n i → ran code env fuel limit s ≡ ended (refused n i) s (counted 0)
+  bad-cells : (n i : ℕ) → check-code code ≡ accepted → cells code env fuel limit s ≡ cells-refused n i
+      → ran code env fuel limit s ≡ ended (refused n i) s (counted 0)
   unfolding run-of run-read run-checked
   bad-cells n i e k = rw (reading code .accepts e .1, k)
 
-  stores : (c : Code) → parse code ≡ got c (length code) → cells code env fuel limit s ≡ accepted → OnlyStores env limit c fuel s (ran code env fuel limit s .end .config .values)
+  stores : (c : Code) → parse code ≡ got c (length code) → cells code env fuel limit s ≡ accepted
+      → OnlyStores env limit c fuel s (ran code env fuel limit s .end .config .values)
   stores c r k =
       subst⁻¹ (λ (x : Ended). OnlyStores env limit c fuel s (x .end .config .values)) (runs-tree code env fuel limit s c (length code) r k)
       (only-stores env limit c fuel s)
 
-  runs : check-code code ≡ accepted → cells code env fuel limit s ≡ accepted → (n p : ℕ) (t : Config) → ran code env fuel limit s .end ≡ ends (refused n p) t → ⊥
+  runs : check-code code ≡ accepted → cells code env fuel limit s ≡ accepted → (n p : ℕ) (t : Config)
+      → ran code env fuel limit s .end ≡ ends (refused n p) t → ⊥
   runs e k n p t h =
       let r = reading code .accepts e in
       never-refused env limit (r .0) fuel s t n p (ap (λ (x : Ended). x .end) (sym (runs-tree code env fuel limit s (r .0) (length code) (r .1) k)) ∙ h)
@@ -57,7 +60,8 @@ module _ (code : List ℕ) (bytes : Bytes code) (env : Env) (fuel : ℕ) (limit 
   }
 
   -- what checking said of code and cells that are not refused
-  judged : ((n p : ℕ) → ran code env fuel limit s .end .how ≡ refused n p → ⊥) → (c : Code) × (parse code ≡ got c (length code)) × (cells code env fuel limit s ≡ accepted)
+  judged : ((n p : ℕ) → ran code env fuel limit s .end .how ≡ refused n p → ⊥)
+      → (c : Code) × (parse code ≡ got c (length code)) × (cells code env fuel limit s ≡ accepted)
   judged h = go (check-code code) refl (cells code env fuel limit s) refl
     where
       go : (v : Verdict) → check-code code ≡ v → (w : Verdict) → cells code env fuel limit s ≡ w

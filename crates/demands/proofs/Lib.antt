@@ -1,3 +1,5 @@
 pub mod Demands
 pub mod Counting
 pub mod Telling
+pub mod Bound
+pub mod Stepping

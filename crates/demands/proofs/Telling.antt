@@ -390,7 +390,8 @@ module _ (env : Env) where
         checked accepted c e = code-faults c fuel s (counted 0) e
         checked (cells-refused m i) c e = absurd (is-fault e)
 
-        read : (r : Read Code) → parse code ≡ r → Faults (run-read env r fuel limit s) → (c : Code) × (next : ℕ) × (parse code ≡ got c next) × FailsAt env c p t n
+        read : (r : Read Code) → parse code ≡ r → Faults (run-read env r fuel limit s)
+            → (c : Code) × (next : ℕ) × (parse code ≡ got c next) × FailsAt env c p t n
         read (got c next) is e = (c, next, is, checked (check-cells (env .addresses) (env .tags) (s .values)) c e)
         read (trouble m q) is e = absurd (is-fault e)
 

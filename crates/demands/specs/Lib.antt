@@ -1,3 +1,4 @@
 pub mod Demands
 pub mod Counting
 pub mod Telling
+pub mod Stepping

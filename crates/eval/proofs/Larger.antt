@@ -1,12 +1,11 @@
--- Larger fuel, and a larger limit. Only a While looks at fuel, and ends the run as spent where there is none; only a step looks at the limit, and ends it as
+-- Larger fuel, and no limit. Only a While looks at fuel, and ends the run as spent where there is none; only a step looks at the limit, and ends it as
 -- stopped where that is used up. So a run that ends otherwise goes the same way with more of either.
 use Prim.Native.Nat.{ℕ, zero, suc, _≤_}
 use mathlib.Core.Path.{_≡_, refl, sym, ap, subst⁻¹, _∙_}
 use mathlib.Core.Bool.{Bool, true, false, cond}
-use mathlib.Core.Option.{Option, none, some}
+use mathlib.Core.Option.{Option, none}
 use native.Mathlib.Nat.{le-of-suc-le-suc, not-suc-le-zero}
 use native.Mathlib.Omega.{arith}
-use borrow.Author.Tests.{leb-false, lt-leb}
 use Rattle.code.specs.declared.tree.Ocmp.{Ocmp}
 use Rattle.code.specs.Tree.{Code, Ins, Block, IfElse, While, Codes, ⟨⟩, _∷ᶜ_}
 use Rattle.eval.specs.Config.{Env, Config, Outcome, done, fault, stopped, spent, refused, End, ends}
@@ -121,10 +120,9 @@ pub more-fuel :
     (env : Env) (limit : Option ℕ) (c : Code) (f g : ℕ) → f ≤ g → (s : Config) (k : Counted) →
     ((p : ℕ) → run-code env limit c f s k .end .how ≡ spent p → ⊥) → run-code env limit c g s k ≡ run-code env limit c f s k
 more-fuel env limit c f g le s k n =
-    let e = run-code env limit c f s k in
     not-spent-kept _ _ _ _ (keeps-code ⊥ (Unit {0}) limit limit (λ _ h. h) (λ _. refl) env c f g le (λ z. absurd z) s k) n
 
--- ---- a larger limit
+-- ---- no limit
 not-stopped-kept : (o : Outcome) (t : Config) (k : Counted) (r : Ended) → Kept (Unit {0}) ⊥ o t k r → NotStopped o → r ≡ ended o t k
 unfolding Kept
 not-stopped-kept done t k r h n = h
@@ -133,21 +131,10 @@ not-stopped-kept (stopped m p) t k r h n = absurd (n m p refl)
 not-stopped-kept (spent p) t k r h n = h tt
 not-stopped-kept (refused m p) t k r h n = h
 
-module _ (env : Env) (c : Code) (f : ℕ) (s : Config) (k : Counted) where
-  looser-kept :
-      (limit limit′ : Option ℕ) → Looser limit limit′ → NotStopped (run-code env limit c f s k .end .how) →
-      run-code env limit′ c f s k ≡ run-code env limit c f s k
-  looser-kept limit limit′ looser n =
-      not-stopped-kept _ _ _ _ (keeps-code (Unit {0}) ⊥ limit limit′ looser (λ z. absurd z) env c f f (omega arith) (λ _. refl) s k) n
-
-  -- a run that is not stopped has the same end at every larger limit,
-  pub more-steps :
-      (l m : ℕ) → l ≤ m → NotStopped (run-code env (some l) c f s k .end .how) → run-code env (some m) c f s k ≡ run-code env (some l) c f s k
-  unfolding used-up
-  more-steps l m le = looser-kept (some l) (some m) (λ j e. let h = leb-false l (j .steps) e in lt-leb m (j .steps) (omega (arith, h, le)))
-
-  -- and without a limit
-  pub no-limit :
-      (limit : Option ℕ) → NotStopped (run-code env limit c f s k .end .how) → run-code env none c f s k ≡ run-code env limit c f s k
-  unfolding used-up
-  no-limit limit = looser-kept limit none (λ _ _. refl)
+-- a run that is not stopped has the same end without a limit
+pub no-limit :
+    (env : Env) (c : Code) (f : ℕ) (s : Config) (k : Counted) (limit : Option ℕ) →
+    NotStopped (run-code env limit c f s k .end .how) → run-code env none c f s k ≡ run-code env limit c f s k
+unfolding used-up
+no-limit env c f s k limit n =
+    not-stopped-kept _ _ _ _ (keeps-code (Unit {0}) ⊥ limit none (λ _ _. refl) (λ z. absurd z) env c f f (omega arith) (λ _. refl) s k) n

@@ -70,5 +70,6 @@ module _ (bs : List ℕ) (env : Env) (fuel : ℕ) (limit : Option ℕ) (s : Conf
     unfolding run-checked
     run-ran h r t l ran o x =
         let c = reading bs .accepts here .0 in
-        let ran-code = subst (λ (y : Ended). Reached y (length bs) r t l) (run-one env limit c fuel s (counted 0)) (ran (c ∷ᶜ ⟨⟩) (accepted-codes bs here .spelled)) in
+        let ran-list = ran (c ∷ᶜ ⟨⟩) (accepted-codes bs here .spelled) in
+        let ran-code = subst (λ (y : Ended). Reached y (length bs) r t l) (run-one env limit c fuel s (counted 0)) ran-list in
         ap (λ (y : Outcome). ended y t l) x ∙ ran-code .ends ∙ sym (run-here ∙ rw h)

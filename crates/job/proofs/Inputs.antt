@@ -2,6 +2,7 @@
 use Prim.Native.Nat.{ℕ, zero, suc, _+_, _^_, _<_}
 use mathlib.Core.List.{List}
 use native.Mathlib.Nat.{one-le-pow, zero-lt-suc}
+use native.Mathlib.Omega.{arith}
 use lib.ListN.{getD}
 use lib.Seq.{getD-drop}
 use Rattle.machine.specs.Registers.{WordsBelow}
@@ -32,4 +33,5 @@ module _ (bs : List ℕ) (bytes : Bytes bs) where
               flags-word = number-lt bs bytes 8 12;
             };
         fill-word = number-lt bs bytes 8 4;
+        limit-word = omega arith;
       }

@@ -2,6 +2,7 @@
 use Prim.Native.Nat.{ℕ, zero, suc, _+_, _-_, _≤_}
 use mathlib.Core.Path.{_≡_, refl, sym, ap, _∙_}
 use mathlib.Core.List.{List, _++_, append-nil}
+use mathlib.Core.Option.{some}
 use native.Mathlib.Omega.{arith}
 use lib.ListN.{length, take, drop, length-drop}
 use lib.Seq.{sets-eq, length-sets, take-at, drop-at, take-all}
@@ -9,10 +10,11 @@ use Rattle.machine.specs.Cells.{accepted}
 use Rattle.machine.specs.Cells.{refused as turned-away}
 use Rattle.machine.specs.declared.State.{State}
 use Rattle.eval.specs.declared.answer.Setting.{Setting}
-use Rattle.eval.specs.Config.{config, refused, End}
+use Rattle.eval.specs.Config.{config, refused}
+use Rattle.eval.specs.Counted.{Ended}
 use Rattle.eval.specs.Running.{run-of}
 use Rattle.job.specs.Text.{first-line, render}
-use Rattle.job.specs.Job.{numbers, fuel-of, fill-of, env-of, start-of, Holding, code-at, check-job, end-checked, run-of-job, printed, output, lent-list}
+use Rattle.job.specs.Job.{numbers, fuel-of, fill-of, largest-limit, env-of, start-of, Holding, code-at, check-job, end-checked, run-of-job, printed, output, lent-list}
 use Rattle.job.specs.Written.{Wrote, Printed}
 
 pub length-numbers : (size stride n : ℕ) (bs : List ℕ) (at : ℕ) → length (numbers size stride n bs at) ≡ n
@@ -62,18 +64,18 @@ output-run bs e = sym (ap (λ v. printed bs (end-checked v bs)) e)
 
 -- the run of what was read is the run of the job
 pub ran :
-    (bs code xs ts vs : List ℕ) (s : State) (g : Setting) (e : End)
+    (bs code xs ts vs : List ℕ) (s : State) (g : Setting) (e : Ended)
     → code ≡ drop (code-at bs) bs
     → Holding bs (start-of bs .values) xs ts vs
     → (s .regs ≡ start-of bs .regs) × (s .xmms ≡ start-of bs .xmms) × (s .flags ≡ start-of bs .flags)
-    → (g .fill ≡ fill-of bs) × (g .fuel ≡ fuel-of bs)
-    → e ≡ run-of code (record { addresses = xs; tags = ts; fill = g .fill }) (g .fuel) (config s vs)
+    → (g .fill ≡ fill-of bs) × (g .fuel ≡ fuel-of bs) × (g .limit ≡ largest-limit)
+    → e ≡ run-of code (record { addresses = xs; tags = ts; fill = g .fill }) (g .fuel) (some (g .limit)) (config s vs)
     → e ≡ run-of-job bs
 ran bs code xs ts vs s g e of-code of-cells of-state of-setting of-run = cc
 
 -- and so is what is printed of it
 pub render-run :
-    (bs xs ts : List ℕ) (e : End)
+    (bs xs ts : List ℕ) (e : Ended)
     → (xs ≡ env-of bs .addresses) × (ts ≡ env-of bs .tags)
     → e ≡ run-of-job bs → render xs ts e ≡ printed bs (run-of-job bs)
 render-run bs xs ts e of-cells of-run = cc

@@ -3,13 +3,15 @@ use Prim.Native.Nat.{ℕ, zero, suc, _+_, _*_, _≤_}
 use mathlib.Core.Bool.{cond}
 use mathlib.Core.Path.{_≡_}
 use mathlib.Core.List.{List, [], _∷_, _++_}
+use mathlib.Core.Option.{some}
 use lib.Dec.{ltb}
 use lib.ListN.{length, drop}
 use Rattle.machine.specs.Cells.{Verdict}
 use Rattle.machine.specs.Cells.{accepted as job-accepted, refused as job-refused}
 use Rattle.code.specs.Records.{number-at}
 use Rattle.machine.specs.declared.State.{State}
-use Rattle.eval.specs.Config.{Env, Config, config, End, ends, refused}
+use Rattle.eval.specs.Config.{Env, Config, config, refused}
+use Rattle.eval.specs.Counted.{counted, Ended, ended}
 use Rattle.eval.specs.declared.answer.Setting.{Setting}
 use Rattle.eval.specs.Running.{run-of}
 use Rattle.job.specs.Text.{render}
@@ -26,6 +28,10 @@ fuel-of bs = number-at 4 bs 0
 -- the fill word
 abbrev pub fill-of : List ℕ → ℕ
 fill-of bs = number-at 8 bs 4
+
+-- the step limit of every job, the largest: 2^64 - 1
+abbrev pub largest-limit : ℕ
+largest-limit = 18446744073709551615
 
 -- the number of cells
 abbrev pub count-of : List ℕ → ℕ
@@ -46,7 +52,7 @@ state-of bs = record { regs = numbers 8 8 16 bs 20; xmms = numbers 4 4 64 bs 148
 
 -- what the job names for the run beside code, cells and start
 abbrev pub setting-of : List ℕ → Setting
-setting-of bs = record { fill = fill-of bs; fuel = fuel-of bs }
+setting-of bs = record { fill = fill-of bs; fuel = fuel-of bs; limit = largest-limit }
 
 -- the start, with the cells' values
 abbrev pub start-of : List ℕ → Config
@@ -83,20 +89,20 @@ abbrev pub Holding : List ℕ → List ℕ → List ℕ → List ℕ → List �
 Holding bs vs addresses tags values = (addresses ≡ env-of bs .addresses) × (tags ≡ env-of bs .tags) × (values ≡ vs)
 
 -- the end of an accepted job: the run's
-abbrev pub run-of-job : List ℕ → End
-run-of-job bs = run-of (code-of bs) (env-of bs) (fuel-of bs) (start-of bs)
+abbrev pub run-of-job : List ℕ → Ended
+run-of-job bs = run-of (code-of bs) (env-of bs) (fuel-of bs) (some largest-limit) (start-of bs)
 
 -- the end of a job that was checked
-unfoldable pub end-checked : Verdict → List ℕ → End
+unfoldable pub end-checked : Verdict → List ℕ → Ended
 end-checked job-accepted bs = run-of-job bs
-end-checked (job-refused n p) bs = ends (refused n p) (start-of bs)
+end-checked (job-refused n p) bs = ended (refused n p) (start-of bs) (counted 0)
 
 -- the end of a job
-abbrev pub end-of-job : List ℕ → End
+abbrev pub end-of-job : List ℕ → Ended
 end-of-job bs = end-checked (check-job bs) bs
 
 -- what is printed of an end of a job
-abbrev pub printed : List ℕ → End → List ℕ
+abbrev pub printed : List ℕ → Ended → List ℕ
 printed bs e = render (env-of bs .addresses) (env-of bs .tags) e
 
 -- what the job program prints
@@ -112,4 +118,4 @@ lent-list (job-refused n p) xs l = l
 pub record Lists (bs addresses tags values addresses′ tags′ values′ : List ℕ) : Type 0 where
   pub of-addresses : addresses′ ≡ lent-list (check-job bs) (env-of bs .addresses) addresses
   pub of-tags : tags′ ≡ lent-list (check-job bs) (env-of bs .tags) tags
-  pub of-values : values′ ≡ lent-list (check-job bs) (run-of-job bs .config .values) values
+  pub of-values : values′ ≡ lent-list (check-job bs) (run-of-job bs .end .config .values) values

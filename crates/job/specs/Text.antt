@@ -4,7 +4,8 @@ use mathlib.Core.Bool.{Bool, true, false, _&&_, cond}
 use mathlib.Core.List.{List, [], _∷_, _++_}
 use lib.Dec.{eqb, ltb}
 use lib.ListN.{getD}
-use Rattle.eval.specs.Config.{Config, Outcome, done, fault, spent, refused, End}
+use Rattle.eval.specs.Config.{Config, Outcome, done, fault, stopped, spent, refused}
+use Rattle.eval.specs.Counted.{Counted, Ended}
 
 -- at most k decimal digits of n
 unfoldable pub digits : ℕ → ℕ → List ℕ
@@ -31,6 +32,10 @@ word-done = 100 ∷ 111 ∷ 110 ∷ 101 ∷ []
 abbrev pub word-fault : List ℕ
 word-fault = 102 ∷ 97 ∷ 117 ∷ 108 ∷ 116 ∷ []
 
+-- "stopped"
+abbrev pub word-stopped : List ℕ
+word-stopped = 115 ∷ 116 ∷ 111 ∷ 112 ∷ 112 ∷ 101 ∷ 100 ∷ []
+
 -- "spent"
 abbrev pub word-spent : List ℕ
 word-spent = 115 ∷ 112 ∷ 101 ∷ 110 ∷ 116 ∷ []
@@ -42,6 +47,10 @@ word-refused = 114 ∷ 101 ∷ 102 ∷ 117 ∷ 115 ∷ 101 ∷ 100 ∷ []
 -- " at"
 abbrev pub word-at : List ℕ
 word-at = 32 ∷ 97 ∷ 116 ∷ []
+
+-- "steps"
+abbrev pub word-steps : List ℕ
+word-steps = 115 ∷ 116 ∷ 101 ∷ 112 ∷ 115 ∷ []
 
 -- "flags"
 abbrev pub word-flags : List ℕ
@@ -62,12 +71,21 @@ name-of i =
     (82 ∷ getD (97 ∷ 98 ∷ 99 ∷ 100 ∷ 115 ∷ 100 ∷ 98 ∷ 115 ∷ []) i 0 ∷ getD (120 ∷ 120 ∷ 120 ∷ 120 ∷ 105 ∷ 105 ∷ 112 ∷ 112 ∷ []) i 0 ∷ [])
     (82 ∷ decimal i)
 
+-- a word and a number to the end of the line
+abbrev pub line : List ℕ → ℕ → List ℕ
+line word n = word ++ field n ++ newline
+
+-- a word, a number and a place
+abbrev pub numbered-line : List ℕ → ℕ → ℕ → List ℕ
+numbered-line word n p = word ++ field n ++ line word-at p
+
 -- the first line
 unfoldable pub first-line : Outcome → List ℕ
 first-line done = word-done ++ newline
-first-line (fault n p) = word-fault ++ field n ++ word-at ++ field p ++ newline
-first-line (spent p) = word-spent ++ word-at ++ field p ++ newline
-first-line (refused n p) = word-refused ++ field n ++ word-at ++ field p ++ newline
+first-line (fault n p) = numbered-line word-fault n p
+first-line (stopped n p) = numbered-line word-stopped n p
+first-line (spent p) = word-spent ++ line word-at p
+first-line (refused n p) = numbered-line word-refused n p
 
 -- the registers from number i on, each that is not 0: name and number
 unfoldable pub reg-lines : ℕ → List ℕ → List ℕ
@@ -95,19 +113,20 @@ cell-lines (a ∷ xs) (t ∷ ts) [] = []
 cell-lines (a ∷ xs) (t ∷ ts) (v ∷ vs) = word-cell ++ field a ++ field t ++ field v ++ newline ++ cell-lines xs ts vs
 
 -- the lines behind the first
-abbrev pub end-lines : List ℕ → List ℕ → Config → List ℕ
-end-lines addresses tags s =
-    word-flags ++ field (s .flags) ++ newline
+abbrev pub end-lines : List ℕ → List ℕ → Config → Counted → List ℕ
+end-lines addresses tags s k =
+    line word-steps (k .steps) ++ line word-flags (s .flags)
     ++ reg-lines 0 (s .regs) ++ xmm-lines 16 0 (s .xmms) ++ cell-lines addresses tags (s .values)
 
 -- whether an outcome prints its first line alone
 abbrev pub is-refused : Outcome → Bool
 is-refused done = false
 is-refused (fault n p) = false
+is-refused (stopped n p) = false
 is-refused (spent p) = false
 is-refused (refused n p) = true
 
 -- what is printed of an end
-unfoldable pub render : List ℕ → List ℕ → End → List ℕ
+unfoldable pub render : List ℕ → List ℕ → Ended → List ℕ
 render addresses tags e =
-    first-line (e .how) ++ cond (is-refused (e .how)) [] (end-lines addresses tags (e .config))
+    first-line (e .end .how) ++ cond (is-refused (e .end .how)) [] (end-lines addresses tags (e .end .config) (e .counted))

@@ -6,7 +6,7 @@ ghost use Prim.Native.Nat.{_+_, _*_, _≤_, _<_};
 ghost use lib.Dec.{eqb};
 ghost use lib.ListN.{length};
 ghost use Rattle.eval.specs.Config.{outcome};
-ghost use Rattle.job.specs.Text.{field, newline, word-cell, name-of, first-line, reg-lines, xmm-line, xmm-lines, cell-lines};
+ghost use Rattle.job.specs.Text.{field, newline, word-cell, name-of, line, numbered-line, first-line, reg-lines, xmm-line, xmm-lines, cell-lines};
 ghost use Rattle.job.specs.Written.{Wrote};
 use crate::text::put_byte;
 use crate::text::put_decimal;
@@ -144,14 +144,24 @@ pub fn put_cells(
     next
 }
 
-// A word and a number to the end of the line: the flags' line, or the place that ends a first line.
+// A word and a number to the end of the line: that of the steps or the flags, or the place that ends a first line.
 pub fn put_line(out: &mut [u8; 65536], at: usize, word: &[u8], n: u64) -> usize
     requires { ⌜ at + length (now word) + 22 ≤ 65536 ⌝ }
-    ensures { λ r. ⌜ Wrote (length (now (word .entry)) + 22) (now (out .entry)) at (now (word .entry) ++ field n ++ newline) (now (out .exit)) r ⌝ }
+    ensures { λ r. ⌜ Wrote (length (now (word .entry)) + 22) (now (out .entry)) at (line (now (word .entry)) n) (now (out .exit)) r ⌝ }
 {
     let next = put_word(out, at, word);
     let next = put_field(out, next, n);
     put_byte(out, next, b'\n')
+}
+
+// The first line of an answer with a number and a place.
+fn put_numbered(out: &mut [u8; 65536], word: &[u8], number: u8, place: usize) -> usize
+    requires { ⌜ length (now word) ≤ 7 ⌝ }
+    ensures { λ r. ⌜ Wrote 53 (now (out .entry)) 0 (numbered-line (now (word .entry)) number place) (now (out .exit)) r ⌝ }
+{
+    let next = put_word(out, 0, word);
+    let next = put_field(out, next, number as u64);
+    put_line(out, next, b" at", place as u64)
 }
 
 pub fn put_answer(out: &mut [u8; 65536], answer: Answer) -> usize
@@ -159,19 +169,12 @@ pub fn put_answer(out: &mut [u8; 65536], answer: Answer) -> usize
 {
     match answer {
         Answer::Done => put_word(out, 0, b"done\n"),
-        Answer::Fault(number, place) => {
-            let next = put_word(out, 0, b"fault");
-            let next = put_field(out, next, number as u64);
-            put_line(out, next, b" at", place as u64)
-        }
+        Answer::Fault(number, place) => put_numbered(out, b"fault", number, place),
+        Answer::Stopped(number, place) => put_numbered(out, b"stopped", number, place),
         Answer::Spent(place) => {
             let next = put_word(out, 0, b"spent");
             put_line(out, next, b" at", place as u64)
         }
-        Answer::Refused(number, place) => {
-            let next = put_word(out, 0, b"refused");
-            let next = put_field(out, next, number as u64);
-            put_line(out, next, b" at", place as u64)
-        }
+        Answer::Refused(number, place) => put_numbered(out, b"refused", number, place),
     }
 }

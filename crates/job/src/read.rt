@@ -3,7 +3,7 @@ ghost use mathlib.Core.Path.{_≡_};
 ghost use Prim.Native.Nat.{_+_, _*_, _≤_};
 ghost use lib.ListN.{length};
 ghost use Rattle.machine.specs.Cells.{verdict};
-ghost use Rattle.job.specs.Job.{numbers, fuel-of, fill-of, start-of, check-job};
+ghost use Rattle.job.specs.Job.{numbers, fuel-of, fill-of, largest-limit, start-of, check-job};
 use code::number2;
 use code::number4;
 use code::number8;
@@ -64,11 +64,12 @@ pub fn read_state(input: &[u8]) -> State
 
 pub fn read_setting(input: &[u8]) -> Setting
     requires { ⌜ 406 ≤ length (now input) ⌝ }
-    ensures { λ r. ⌜ (r .fill ≡ fill-of (now (input .entry))) × (r .fuel ≡ fuel-of (now (input .entry))) ⌝ }
+    ensures { λ r. ⌜ (r .fill ≡ fill-of (now (input .entry))) × (r .fuel ≡ fuel-of (now (input .entry))) × (r .limit ≡ largest-limit) ⌝ }
 {
     let fuel = number4(input, 0) as u32;
     let fill = number8(input, 4);
-    Setting { fill, fuel }
+    let limit = 18446744073709551615u64;
+    Setting { fill, fuel, limit }
 }
 
 pub fn check_job(input: &[u8]) -> Checked

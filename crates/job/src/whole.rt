@@ -27,7 +27,7 @@ fn finish(
     requires { ⌜ Complete (now input) ⌝ }
     requires { ⌜ Holding (now input) (start-of (now input) .values) (now addresses) (now tags) (now values) ⌝ }
     ensures { λ r. ⌜ Wrote 65536 (now (out .entry)) 0 (printed (now (input .entry)) (run-of-job (now (input .entry)))) (now (out .exit)) r ⌝ }
-    ensures { λ _. ⌜ now (values .exit) ≡ run-of-job (now (input .entry)) .config .values ⌝ }
+    ensures { λ _. ⌜ now (values .exit) ≡ run-of-job (now (input .entry)) .end .config .values ⌝ }
 {
     let start = read_state(input);
     let setting = read_setting(input);
@@ -48,7 +48,7 @@ fn run_job(
     requires { ⌜ Room (now input) (now addresses) (now tags) (now values) ⌝ }
     ensures { λ r. ⌜ Wrote 65536 (now (out .entry)) 0 (printed (now (input .entry)) (run-of-job (now (input .entry)))) (now (out .exit)) r ⌝ }
     ensures { λ _. ⌜
-        Holding (now (input .entry)) (run-of-job (now (input .entry)) .config .values)
+        Holding (now (input .entry)) (run-of-job (now (input .entry)) .end .config .values)
         (now (addresses .exit)) (now (tags .exit)) (now (values .exit)) ⌝ }
 {
     read_cells(input, addresses, tags, values);

@@ -178,7 +178,8 @@ module _ (env : Env) where
         go false true = record { judged = tt; made = refl }
         go false false = record { judged = tt; made = refl }
 
-    traced-way : (q : ℕ) (c : Ocmp) (f g : Part) (l m : Completes) → AllTraced l f → AllTraced m g → AllTraced (way env limit q c l m) (choose env limit q c f g)
+    traced-way : (q : ℕ) (c : Ocmp) (f g : Part) (l m : Completes) → AllTraced l f → AllTraced m g
+        → AllTraced (way env limit q c l m) (choose env limit q c f g)
     unfolding choose way
     traced-way q c f g l m F G s k =
         let e = step limit q (run-ocmp env q c) s k in

@@ -1,14 +1,16 @@
 -- The end that is handed back in numbers and lent arrays is the end of `run`, which is the definition's.
+use Prim.Native.Nat.{ℕ}
 use mathlib.Core.Path.{_≡_, ap, _∙_}
 use borrow.Author.Needs.{needs}
-use Rattle.eval.specs.Config.{Config, Outcome, End, ends}
+use Rattle.eval.specs.Config.{Config, Outcome}
+use Rattle.eval.specs.Counted.{counted, Ended, ended}
 use Rattle.capi.specs.Told.{Told, told-of, ending, ending-of}
 use Rattle.capi.proofs.pokchrei_run.Statement.{statement}
 use Rattle.capi.proofs.pokchrei_run.Tie as tie
 
 -- the numbers of an end, from those of its outcome
-numbered : {t : Told} {o : Outcome} {s : Config} {e : End} → t ≡ told-of o → ends o s ≡ e → ending t s ≡ ending-of e
-numbered {t} {o} {s} {e} p q = ap (λ (x : Told). ending x s) p ∙ ap ending-of q
+numbered : {t : Told} {o : Outcome} {s : Config} {n : ℕ} {e : Ended} → t ≡ told-of o → ended o s (counted n) ≡ e → ending t s n ≡ ending-of e
+numbered {t} {o} {s} {n} {e} p q = ap (λ (x : Told). ending x s n) p ∙ ap ending-of q
 
 run-requires : tie.Need-run-requires
 run-requires c κs = search needs

@@ -5,7 +5,7 @@ use Rattle.eval.proofs.step.step_instruction.Statement.{statement}
 use Rattle.eval.proofs.step.step_instruction.Tie as tie
 
 pub step-instruction-spec : {M : Type 1} → statement M
-step-instruction-spec = 
+step-instruction-spec =
     tie.close
     (tie.spec
     (λ c κs. search needs) (λ c. search ins-stopped)

@@ -2,7 +2,7 @@
 use Prim.Native.Nat.{_+_, _*_}
 use mathlib.Core.Path.{_≡_, sym, ap, _∙_}
 use native.Mathlib.Omega.{arith}
-use Rattle.eval.specs.Config.{End}
+use Rattle.eval.specs.Counted.{Ended}
 use Rattle.job.specs.Job.{count-of, code-at}
 use Rattle.job.proofs.Writing.{spelled}
 use Rattle.job.proofs.Outputs.{length-read, behind-cells, ran, render-run}
@@ -63,7 +63,7 @@ returns c =
     let set = setting .read-setting .ensures in
     let ended = ran bs _ _ _ _ _ _ _ (behind-cells bs place) (start .pre .1) started set (run .run .ensures .0) in (
       spelled (render-run bs _ _ _ (start .pre .1 .0, start .pre .1 .1) ended) (c .render .ensures),
-      ap (λ (e : End). e .config .values) ended,
+      ap (λ (e : Ended). e .end .config .values) ended,
     )
 
 pub finish-spec : {M : Type 1} → statement M

@@ -1,0 +1,417 @@
+-- A run under a limit beside the run without one: they go the same way, until a step is tried with the limit used up. Assumes nothing.
+use Prim.Native.Nat.{ℕ, zero, suc, _+_, _≤_, _<_}
+use mathlib.Core.Path.{_≡_, refl, sym, ap, subst, subst⁻¹, _∙_}
+use mathlib.Core.Bool.{Bool, true, false, cond}
+use mathlib.Core.List.{List, [], _∷_}
+use mathlib.Core.Logic.{_⊎_, inl, inr, ⊎-elim}
+use mathlib.Core.Option.{Option, none, some}
+use native.Mathlib.Omega.{arith}
+use borrow.Author.Tests.{leb-true, leb-false}
+use lib.Dec.{leb}
+use Rattle.machine.specs.Cells.{Verdict, accepted, check-cells}
+use Rattle.machine.specs.Cells.{refused as cells-refused}
+use Rattle.machine.specs.declared.Operand.{Operand}
+use Rattle.code.specs.declared.tree.Instruction.{Instruction}
+use Rattle.code.specs.declared.tree.Ocmp.{Ocmp}
+use Rattle.code.specs.Tree.{Code, Ins, Block, IfElse, While, Codes, ⟨⟩, _∷ᶜ_}
+use Rattle.code.specs.Reader.{Read, got, trouble, parse}
+use Rattle.eval.specs.Config.{Env, Config, with-flags, Outcome, done, fault, stopped, spent, refused, End, ends, check}
+use Rattle.eval.specs.Counted.{Counted, counted, Ended, ended, Part, continue, and-then, used-up, count, step, NotStopped}
+use Rattle.eval.specs.Instructions.{readable, ruled, written, update-operand, act, run-ins, valid-ocmp, eval-ocmp}
+use Rattle.eval.specs.Running.{run-ocmp, choose, rounds, run-code, run-codes, run-checked, run-read, run-of}
+use Rattle.eval.proofs.StepLaws.{step-stopped, step-tried}
+use Rattle.demands.specs.Stepping.{StepAt, StepIn, tried, DoneOrFails, is-done, fails, Stepping}
+use Rattle.demands.proofs.Bound.{bounded}
+
+-- ---- what is tried is done, or fails where it stands
+module _ (p : ℕ) (s : Config) where
+  either-check : (b : Bool) (n : ℕ) (k : End) → DoneOrFails p s k → DoneOrFails p s (check b n p s k)
+  unfolding check
+  either-check true n k h = h
+  either-check false n k h = fails n refl
+
+  either-ruled : (cs : List (Bool × ℕ)) (k : End) → DoneOrFails p s k → DoneOrFails p s (ruled p cs s k)
+  either-ruled [] k h = h
+  either-ruled (c ∷ cs) k h = either-check (c .0) (c .1) _ (either-ruled cs k h)
+
+  module _ (env : Env) where
+    either-readable : (os : List Operand) (k : End) → DoneOrFails p s k → DoneOrFails p s (readable env p os s k)
+    either-readable [] k h = h
+    either-readable (o ∷ os) k h = either-check _ _ _ (either-readable os k h)
+
+    either-written : (ws : List (Operand × ℕ)) (f : Config → Config) (t : Config) → DoneOrFails p s (written env p ws s (λ u. ends done (f u)) t)
+    either-written [] f t = is-done (f t) refl
+    either-written (w ∷ ws) f t = either-check _ _ _ (either-written ws f (update-operand env (w .0) (w .1) t))
+
+    either-ins : (i : Instruction) → DoneOrFails p s (run-ins env p i s)
+    unfolding run-ins
+    either-ins i =
+        let a = act env i s in
+        either-readable (a .sources) _ (either-ruled (a .rules) _ (either-written (a .words) _ s))
+
+    either-ocmp : (c : Ocmp) → DoneOrFails p s (run-ocmp env p c s)
+    unfolding run-ocmp
+    either-ocmp c = either-check (valid-ocmp env c s) _ _ (is-done _ refl)
+
+-- the steps made are among those tried
+steps-tried : (o : Outcome) (k : Counted) → k .steps ≤ tried o k
+unfolding tried
+steps-tried done k = omega arith
+steps-tried (fault n p) k = omega arith
+steps-tried (stopped n p) k = omega arith
+steps-tried (spent p) k = omega arith
+steps-tried (refused n p) k = omega arith
+
+-- a failed one is not counted
+uncounted : (n p : ℕ) (s : Config) (k : Counted) → ended (fault n p) s (count (fault n p) k) ≡ ended (fault n p) s k
+unfolding count
+uncounted n p s k = refl
+
+-- ---- the run e under the limit L beside the run u without one
+module _ (L : ℕ) where
+  -- they are the same, with no more tried than the limit allows; or e is stopped with all of it used up, where u tries more, and if that is a fault with as
+  -- many steps, at its place and with what it leaves
+  data Against (e u : Ended) : Type 0 where
+    same : e ≡ u → tried (u .end .how) (u .counted) ≤ L → Against e u
+    cut : (p : ℕ) (t : Config) → e ≡ ended (stopped 37 p) t (counted L) → L < tried (u .end .how) (u .counted)
+        → ((n q : ℕ) (v : Config) → u ≡ ended (fault n q) v (counted L) → (p ≡ q) × (t ≡ v)) → Against e u
+
+  -- u counts on from k and is not stopped, and e is so beside it, where k leaves the limit unsurpassed
+  record Beside (k : Counted) (e u : Ended) : Type 0 where
+    grows : k .steps ≤ u .counted .steps
+    unstopped : NotStopped (u .end .how)
+    against : k .steps ≤ L → Against e u
+
+  abbrev AllBeside : Part → Part → Type 0
+  AllBeside f g = (s : Config) (k : Counted) → Beside k (f s k) (g s k)
+
+  -- an end that is done, spent, or a fault, beside itself
+  beside-done : AllBeside (ended done) (ended done)
+  unfolding tried
+  beside-done s k = record { grows = omega arith; unstopped = λ n p e. let z : _≡_ {A = ℕ} 0 1 = cc in omega arith; against = λ le. same refl le }
+
+  beside-spent : (p : ℕ) → AllBeside (ended (spent p)) (ended (spent p))
+  unfolding tried
+  beside-spent p s k = record { grows = omega arith; unstopped = λ n q e. let z : _≡_ {A = ℕ} 0 1 = cc in omega arith; against = λ le. same refl le }
+
+  beside-cond : (b : Bool) (f g f′ g′ : Part) → AllBeside f f′ → AllBeside g g′ → AllBeside (cond b f g) (cond b f′ g′)
+  beside-cond true f g f′ g′ F G = F
+  beside-cond false f g f′ g′ F G = G
+
+  -- an end that is stopped stays so
+  still : (e : Ended) (f : Part) (p : ℕ) (t : Config) → e ≡ ended (stopped 37 p) t (counted L) → and-then e f ≡ ended (stopped 37 p) t (counted L)
+  unfolding continue
+  still e f p t x = ap (λ y. and-then y f) x
+
+  -- behind an end u that nothing follows
+  stays : (e u : Ended) (f : Part) → and-then u f ≡ u → Against e u → Against (and-then e f) u
+  stays e u f w (same x m) = same (ap (λ y. and-then y f) x ∙ w) m
+  stays e u f w (cut q v x m z) = cut q v (still e f q v x) m z
+
+  -- behind one that is done
+  goes-on : (e : Ended) (t : Config) (l : Counted) (f g : Part) → Beside l (f t l) (g t l) → Against e (ended done t l) → Against (and-then e f) (g t l)
+  unfolding continue tried
+  goes-on e t l f g rest (same x n) = subst⁻¹ (λ (y : Ended). Against (and-then y f) (g t l)) x (rest .against n)
+  goes-on e t l f g rest (cut p v x n z) =
+      cut p v (still e f p v x) (omega (arith, n, rest .grows, steps-tried (g t l .end .how) (g t l .counted)))
+      (λ m q w y. absurd (omega (arith, n, rest .grows, ap (λ (r : Ended). r .counted .steps) y)))
+
+  beside-then : (k : Counted) (e u : Ended) (f g : Part) → Beside k e u → AllBeside f g → Beside k (and-then e f) (and-then u g)
+  unfolding continue
+  beside-then k e u f g h F = go (u .end .how) (u .end .config) (u .counted) h
+    where
+      go : (o : Outcome) (t : Config) (l : Counted) → Beside k e (ended o t l) → Beside k (and-then e f) (continue o t l g)
+      go done t l b =
+          let rest = F t l in
+          record {
+            grows = omega (arith, b .grows, rest .grows);
+            unstopped = rest .unstopped;
+            against = λ le. goes-on e t l f g rest (b .against le);
+          }
+      go (fault n p) t l b = record { grows = b .grows; unstopped = b .unstopped; against = λ le. stays e _ f refl (b .against le) }
+      go (stopped n p) t l b = absurd (b .unstopped n p refl)
+      go (spent p) t l b = record { grows = b .grows; unstopped = b .unstopped; against = λ le. stays e _ f refl (b .against le) }
+      go (refused n p) t l b = record { grows = b .grows; unstopped = b .unstopped; against = λ le. stays e _ f refl (b .against le) }
+
+  -- a step that is done, or fails
+  module _ (p : ℕ) (act : Config → End) (s : Config) (k : Counted) where
+    -- with the limit used up, and without it
+    stopped-there : used-up (some L) k ≡ true → k .steps ≤ L → step (some L) p act s k ≡ ended (stopped 37 p) s (counted L)
+    unfolding used-up
+    stopped-there b le =
+        let m : k .steps ≡ L = omega (arith, le, leb-true L (k .steps) b) in
+        step-stopped (some L) p act s k b ∙ ap (λ n. ended (stopped 37 p) s (counted n)) m
+
+    tried-there : (o : Outcome) (t : Config) → act s ≡ ends o t → step none p act s k ≡ ended o t (count o k)
+    unfolding used-up
+    tried-there o t e = step-tried none p act s k refl o t (sym e)
+
+    beside-made : (t : Config) → act s ≡ ends done t → Beside k (step (some L) p act s k) (ended done t (count done k))
+    unfolding count tried used-up
+    beside-made t e = record {
+      grows = omega arith;
+      unstopped = λ n q x. let z : _≡_ {A = ℕ} 0 1 = cc in omega arith;
+      against = λ le. go (used-up (some L) k) refl le;
+    }
+      where
+        go : (b : Bool) → used-up (some L) k ≡ b → k .steps ≤ L → Against (step (some L) p act s k) (ended done t (count done k))
+        go true b le =
+            cut p s (stopped-there b le) (omega (arith, leb-true L (k .steps) b, le))
+            (λ m q v y. let x : done ≡ fault m q = ap (λ (r : Ended). r .end .how) y in absurd (let z : _≡_ {A = ℕ} 0 1 = cc in omega arith))
+        go false b le = same (step-tried (some L) p act s k b done t (sym e)) (omega (arith, leb-false L (k .steps) b))
+
+    beside-failed : (n : ℕ) → act s ≡ ends (fault n p) s → Beside k (step (some L) p act s k) (ended (fault n p) s k)
+    unfolding count tried used-up
+    beside-failed n e = record {
+      grows = omega arith;
+      unstopped = λ m q x. let z : _≡_ {A = ℕ} 0 1 = cc in omega arith;
+      against = λ le. go (used-up (some L) k) refl le;
+    }
+      where
+        go : (b : Bool) → used-up (some L) k ≡ b → k .steps ≤ L → Against (step (some L) p act s k) (ended (fault n p) s k)
+        go true b le =
+            cut p s (stopped-there b le) (omega (arith, leb-true L (k .steps) b, le))
+            (λ m q v y.
+            let x : fault n p ≡ fault m q = ap (λ (r : Ended). r .end .how) y in
+            (cc, ap (λ (r : Ended). r .end .config) y))
+        go false b le = same (step-tried (some L) p act s k b (fault n p) s (sym e)) (omega (arith, leb-false L (k .steps) b))
+
+  beside-step : (p : ℕ) (act : Config → End) → ((s : Config) → DoneOrFails p s (act s)) → AllBeside (step (some L) p act) (step none p act)
+  beside-step p act h s k = go (h s)
+    where
+      go : DoneOrFails p s (act s) → Beside k (step (some L) p act s k) (step none p act s k)
+      go (is-done t e) = subst⁻¹ (λ (x : Ended). Beside k (step (some L) p act s k) x) (tried-there p act s k done t e) (beside-made p act s k t e)
+      go (fails n e) =
+          subst⁻¹ (λ (x : Ended). Beside k (step (some L) p act s k) x) (tried-there p act s k (fault n p) s e ∙ uncounted n p s k)
+          (beside-failed p act s k n e)
+
+  module _ (env : Env) where
+    beside-choose : (q : ℕ) (c : Ocmp) (f g f′ g′ : Part) → AllBeside f f′ → AllBeside g g′
+        → AllBeside (choose env (some L) q c f g) (choose env none q c f′ g′)
+    unfolding choose
+    beside-choose q c f g f′ g′ F G s k =
+        beside-then k _ _ _ _ (beside-step q (run-ocmp env q c) (λ t. either-ocmp q t env c) s k) (beside-cond (eval-ocmp env c s) f g f′ g′ F G)
+
+    beside-rounds : (body body′ : ℕ → Part) → ((f : ℕ) → AllBeside (body f) (body′ f)) → (p q : ℕ) (c : Ocmp) (f : ℕ)
+        → AllBeside (rounds env (some L) body p q c f) (rounds env none body′ p q c f)
+    unfolding rounds
+    beside-rounds body body′ h p q c zero s k = beside-spent p s k
+    beside-rounds body body′ h p q c (suc f) s k =
+        beside-choose q c _ _ _ _ (λ t l. beside-then l _ _ _ _ (h f t l) (beside-rounds body body′ h p q c f)) beside-done s k
+
+    mutual
+      unfolding run-code run-codes
+
+      beside-code : (c : Code) (f : ℕ) → AllBeside (run-code env (some L) c f) (run-code env none c f)
+      beside-code (Ins p i) f s k = beside-step p (run-ins env p i) (λ t. either-ins p t env i) s k
+      beside-code (Block p cs) f s k = beside-codes cs f s k
+      beside-code (IfElse p q c a b) f s k = beside-choose q c _ _ _ _ (beside-code a f) (beside-code b f) s k
+      beside-code (While p q c b) f s k = beside-rounds _ _ (beside-code b) p q c f s k
+
+      beside-codes : (cs : Codes) (f : ℕ) → AllBeside (run-codes env (some L) cs f) (run-codes env none cs f)
+      beside-codes ⟨⟩ f s k = beside-done s k
+      beside-codes (c ∷ᶜ cs) f s k = beside-then k _ _ _ _ (beside-code c f s k) (beside-codes cs f)
+
+    -- Running, of which refusals have no steps
+    beside-run : (code : List ℕ) (fuel : ℕ) (s : Config) → Beside (counted 0) (run-of code env fuel (some L) s) (run-of code env fuel none s)
+    unfolding run-of run-read run-checked tried
+    beside-run code fuel s = read (parse code)
+      where
+        refuses : (n p : ℕ) → Beside (counted 0) (ended (refused n p) s (counted 0)) (ended (refused n p) s (counted 0))
+        refuses n p = record { grows = omega arith; unstopped = λ m q e. let z : _≡_ {A = ℕ} 0 1 = cc in omega arith; against = λ le. same refl le }
+
+        checked : (v : Verdict) (c : Code) → Beside (counted 0) (run-checked env v c fuel (some L) s) (run-checked env v c fuel none s)
+        checked accepted c = beside-code c fuel s (counted 0)
+        checked (cells-refused n i) c = refuses n i
+
+        read : (r : Read Code) → Beside (counted 0) (run-read env r fuel (some L) s) (run-read env r fuel none s)
+        read (trouble n p) = refuses n p
+        read (got c next) = checked (check-cells (env .addresses) (env .tags) (s .values)) c
+
+-- ---- what follows of a run under a limit and the run u without
+module _ (code : List ℕ) (env : Env) (fuel l : ℕ) (s : Config) where
+  abbrev e : Ended
+  e = run-of code env fuel (some l) s
+
+  abbrev u : Ended
+  u = run-of code env fuel none s
+
+  both : Beside l (counted 0) e u
+  both = beside-run l env code fuel s
+
+  whole : Against l e u
+  whole = both .against (omega arith)
+
+  not-met : NotStopped (e .end .how) → e ≡ u
+  not-met n = go whole
+    where
+      go : Against l e u → e ≡ u
+      go (same x m) = x
+      go (cut p t x m z) = absurd (n 37 p (ap (λ (r : Ended). r .end .how) x))
+
+  stopped-when : l < tried (u .end .how) (u .counted) → (p : ℕ) × (t : Config) × (e ≡ ended (stopped 37 p) t (counted l))
+  stopped-when h = go whole
+    where
+      go : Against l e u → (p : ℕ) × (t : Config) × (e ≡ ended (stopped 37 p) t (counted l))
+      go (same x m) = absurd (omega (arith, h, m))
+      go (cut p t x m z) = (p, t, x)
+
+  stopped-only : (n p : ℕ) → e .end .how ≡ stopped n p → l < tried (u .end .how) (u .counted)
+  stopped-only n p h = go whole
+    where
+      go : Against l e u → l < tried (u .end .how) (u .counted)
+      go (same x m) = absurd (both .unstopped n p (ap (λ (r : Ended). r .end .how) (sym x) ∙ h))
+      go (cut q t x m z) = m
+
+  before-fault : (n p : ℕ) (t : Config) → u ≡ ended (fault n p) t (counted l) → e ≡ ended (stopped 37 p) t (counted l)
+  unfolding tried
+  before-fault n p t h = go whole
+    where
+      tries : tried (u .end .how) (u .counted) ≡ suc l
+      tries = ap (λ (r : Ended). tried (r .end .how) (r .counted)) h
+
+      go : Against l e u → e ≡ ended (stopped 37 p) t (counted l)
+      go (same x m) = absurd (omega (arith, m, tries))
+      go (cut q v x m z) = let w = z n p t h in x ∙ (λ i. ended (stopped 37 (w .0 i)) (w .1 i) (counted l))
+
+  -- the same under a larger limit, by way of the run without
+  larger : (m : ℕ) → l ≤ m → NotStopped (e .end .how) → run-of code env fuel (some m) s ≡ e
+  larger m le n = go whole
+    where
+      other : Against l e u → Against m (run-of code env fuel (some m) s) u → run-of code env fuel (some m) s ≡ e
+      other (same x a) (same y b) = y ∙ sym x
+      other (same x a) (cut p t y b z) = absurd (omega (arith, a, b, le))
+      other (cut p t x a z) w = absurd (n 37 p (ap (λ (r : Ended). r .end .how) x))
+
+      go : Against l e u → run-of code env fuel (some m) s ≡ e
+      go w = other w (beside-run m env code fuel s .against (omega arith))
+
+-- ---- the place of a stopped run
+abbrev IsStopped : Outcome → Type 0
+IsStopped done = ⊥
+IsStopped (fault n p) = ⊥
+IsStopped (stopped n p) = Unit {0}
+IsStopped (spent p) = ⊥
+IsStopped (refused n p) = ⊥
+
+module _ (limit : Option ℕ) (n p : ℕ) where
+  abbrev Stops : Ended → Type 0
+  Stops e = e .end .how ≡ stopped n p
+
+  -- the number is 37, and A is so of the place
+  abbrev Says : Type 0 → Type 0
+  Says A = (n ≡ 37) × A
+
+  is-stopped : {o : Outcome} → o ≡ stopped n p → IsStopped o
+  is-stopped e = subst⁻¹ IsStopped e tt
+
+  -- a step stops only at its own place, and what is tried never does
+  step-stops : (q : ℕ) (act : Config → End) (s : Config) (k : Counted) → DoneOrFails q s (act s) → Stops (step limit q act s k) → Says (q ≡ p)
+  unfolding step
+  step-stops q act s k h e = go (used-up limit k) e
+    where
+      ends-otherwise : DoneOrFails q s (act s) → IsStopped (act s .how) → ⊥
+      ends-otherwise (is-done t x) w = subst (λ (y : End). IsStopped (y .how)) x w
+      ends-otherwise (fails m x) w = subst (λ (y : End). IsStopped (y .how)) x w
+
+      go : (b : Bool) → Stops (cond b (ended (stopped 37 q) s k) (record { end = act s; counted = count (act s .how) k })) → Says (q ≡ p)
+      go true x = (cc, cc)
+      go false x = absurd (ends-otherwise h (is-stopped x))
+
+  -- somewhere a part of a run is stopped
+  abbrev StopsIn : Part → Type 0
+  StopsIn f = (t : Config) × (l : Counted) × Stops (f t l)
+
+  then-stops : (e : Ended) (f : Part) → Stops (and-then e f) → Stops e ⊎ StopsIn f
+  unfolding continue
+  then-stops e f h = go (e .end .how) (e .end .config) (e .counted) h
+    where
+      go : (o : Outcome) (t : Config) (l : Counted) → Stops (continue o t l f) → Stops (ended o t l) ⊎ StopsIn f
+      go done t l h = inr (t, l, h)
+      go (fault m q) t l h = inl h
+      go (stopped m q) t l h = inl h
+      go (spent q) t l h = inl h
+      go (refused m q) t l h = inl h
+
+  module _ (env : Env) where
+    choose-stops : (q : ℕ) (c : Ocmp) (f g : Part) (A B : Type 0) → (StopsIn f → Says A) → (StopsIn g → Says B)
+        → (s : Config) (k : Counted) → Stops (choose env limit q c f g s k) → Says ((q ≡ p) ⊎ (A ⊎ B))
+    unfolding choose
+    choose-stops q c f g A B F G s k e =
+        ⊎-elim
+        (λ h. let w = step-stops q (run-ocmp env q c) s k (either-ocmp q s env c) h in (w .0, inl (w .1)))
+        (λ h. go (eval-ocmp env c s) h)
+        (then-stops (step limit q (run-ocmp env q c) s k) (cond (eval-ocmp env c s) f g) e)
+      where
+        go : (b : Bool) → StopsIn (cond b f g) → Says ((q ≡ p) ⊎ (A ⊎ B))
+        go true h = let w = F h in (w .0, inr (inl (w .1)))
+        go false h = let w = G h in (w .0, inr (inr (w .1)))
+
+    rounds-stop : (body : ℕ → Part) (r q : ℕ) (c : Ocmp) (A : Type 0) → ((f : ℕ) → StopsIn (body f) → Says A)
+        → (f : ℕ) (s : Config) (k : Counted) → Stops (rounds env limit body r q c f s k) → Says ((q ≡ p) ⊎ A)
+    unfolding rounds
+    rounds-stop body r q c A inside zero s k e = absurd (is-stopped e)
+    rounds-stop body r q c A inside (suc f) s k e =
+        let w = choose-stops q c _ _ ((q ≡ p) ⊎ A) A
+        (λ h. ⊎-elim
+        (λ x. let y = inside f (h .0, h .1, x) in (y .0, inr (y .1)))
+        (λ x. rounds-stop body r q c A inside f (x .0) (x .1) (x .2))
+        (then-stops (body f (h .0) (h .1)) (rounds env limit body r q c f) (h .2)))
+        (λ h. absurd (is-stopped (h .2))) s k e
+        in
+        (w .0, ⊎-elim (λ h. inl h) (λ h. ⊎-elim (λ x. x) (λ x. inr x) h) (w .1))
+
+    mutual
+      unfolding run-code run-codes
+
+      code-stops : (c : Code) (f : ℕ) (s : Config) (k : Counted) → Stops (run-code env limit c f s k) → Says (StepAt c p)
+      code-stops (Ins q i) f s k e = step-stops q (run-ins env q i) s k (either-ins q s env i) e
+      code-stops (Block q cs) f s k e = codes-stop cs f s k e
+      code-stops (IfElse r q c a b) f s k e =
+          choose-stops q c _ _ (StepAt a p) (StepAt b p) (λ h. code-stops a f (h .0) (h .1) (h .2)) (λ h. code-stops b f (h .0) (h .1) (h .2)) s k e
+      code-stops (While r q c b) f s k e =
+          rounds-stop (run-code env limit b) r q c (StepAt b p) (λ g h. code-stops b g (h .0) (h .1) (h .2)) f s k e
+
+      codes-stop : (cs : Codes) (f : ℕ) (s : Config) (k : Counted) → Stops (run-codes env limit cs f s k) → Says (StepIn cs p)
+      codes-stop ⟨⟩ f s k e = absurd (is-stopped e)
+      codes-stop (c ∷ᶜ cs) f s k e =
+          ⊎-elim
+          (λ h. let w = code-stops c f s k h in (w .0, inl (w .1)))
+          (λ h. let w = codes-stop cs f (h .0) (h .1) (h .2) in (w .0, inr (w .1)))
+          (then-stops (run-code env limit c f s k) (run-codes env limit cs f) e)
+
+    -- Running, which is stopped only where code was read and cells were accepted
+    run-stops : (code : List ℕ) (fuel : ℕ) (s : Config) → Stops (run-of code env fuel limit s)
+        → Says ((c : Code) × (next : ℕ) × (parse code ≡ got c next) × StepAt c p)
+    unfolding run-of run-read run-checked
+    run-stops code fuel s e = read (parse code) refl e
+      where
+        checked : (v : Verdict) (c : Code) → Stops (run-checked env v c fuel limit s) → Says (StepAt c p)
+        checked accepted c e = code-stops c fuel s (counted 0) e
+        checked (cells-refused m i) c e = absurd (is-stopped e)
+
+        read : (r : Read Code) → parse code ≡ r → Stops (run-read env r fuel limit s)
+            → Says ((c : Code) × (next : ℕ) × (parse code ≡ got c next) × StepAt c p)
+        read (got c next) is e =
+            let w = checked (check-cells (env .addresses) (env .tags) (s .values)) c e in
+            (w .0, (c, next, is, w .1))
+        read (trouble m q) is e = absurd (is-stopped e)
+
+pub stepping : Stepping
+unfolding run-code rounds count
+stepping = record {
+  instruction = λ env p i s. either-ins p s env i;
+  comparison = λ env q c s. either-ocmp q s env c;
+  counts = λ limit p act s t k h e. step-tried limit p act s k h done t (sym e) ∙ ap (λ n. ended done t (counted n)) (omega arith);
+  counts-none = λ limit p act s t k n q h e. step-tried limit p act s k h (fault n q) t (sym e);
+  stops = step-stopped;
+  spent-first = λ env limit p q c b s k. refl;
+  bounded = bounded;
+  not-met = not-met;
+  larger = λ code env fuel l m s le. larger code env fuel l s m le;
+  never = λ code env fuel s. both code env fuel 0 s .unstopped;
+  stopped-when = stopped-when;
+  stopped-only = λ code env fuel l n p s. stopped-only code env fuel l s n p;
+  before-fault = λ code env fuel l n p s t. before-fault code env fuel l s n p t;
+  placed = λ code env fuel limit n p s. run-stops limit n p env code fuel s;
+}

@@ -1,0 +1,106 @@
+-- The claims of request 2026-04, in one record: `Stepping`. A step is one completed instruction or one comparison that passed its check. That the steps of
+-- an answer are those of the definition is the contract of `run`; that the Done, Fault and Spent rules, the byte machine and larger fuel hold of runs that
+-- are not Stopped, and "only stores" of every run, is the demands'.
+use Prim.Native.Nat.{ℕ, suc, _+_, _*_, _^_, _≤_, _<_, max}
+use mathlib.Core.Path.{_≡_}
+use mathlib.Core.Bool.{true, false}
+use mathlib.Core.List.{List}
+use mathlib.Core.Logic.{_⊎_}
+use mathlib.Core.Option.{Option, none, some}
+use Rattle.code.specs.declared.tree.Instruction.{Instruction}
+use Rattle.code.specs.declared.tree.Ocmp.{Ocmp}
+use Rattle.code.specs.Tree.{Code, Ins, Block, IfElse, While, Codes, ⟨⟩, _∷ᶜ_}
+use Rattle.code.specs.Reader.{got, parse}
+use Rattle.eval.specs.Config.{Env, Config, Outcome, done, fault, stopped, spent, refused, End, ends}
+use Rattle.eval.specs.Counted.{Counted, counted, Ended, ended, used-up, step, NotStopped}
+use Rattle.eval.specs.Instructions.{run-ins}
+use Rattle.eval.specs.Running.{run-ocmp, run-code, run-of}
+
+unfoldable mutual
+  -- how many codes a code is made of, itself too: instructions, Blocks, IfElses and Whiles
+  pub codes : Code → ℕ
+  codes (Ins p i) = 1
+  codes (Block p cs) = suc (codes-in cs)
+  codes (IfElse p q c a b) = suc (codes a + codes b)
+  codes (While p q c b) = suc (codes b)
+
+  -- those of a list
+  pub codes-in : Codes → ℕ
+  codes-in ⟨⟩ = 0
+  codes-in (c ∷ᶜ cs) = codes c + codes-in cs
+
+unfoldable mutual
+  -- how deep its Whiles are nested: a lone While is 1
+  pub whiles : Code → ℕ
+  whiles (Ins p i) = 0
+  whiles (Block p cs) = whiles-in cs
+  whiles (IfElse p q c a b) = max (whiles a) (whiles b)
+  whiles (While p q c b) = suc (whiles b)
+
+  -- those of a list
+  pub whiles-in : Codes → ℕ
+  whiles-in ⟨⟩ = 0
+  whiles-in (c ∷ᶜ cs) = max (whiles c) (whiles-in cs)
+
+abbrev mutual
+  -- an instruction or a comparison stands at p in a code
+  pub StepAt : Code → ℕ → Type 0
+  StepAt (Ins q i) p = q ≡ p
+  StepAt (Block q cs) p = StepIn cs p
+  StepAt (IfElse r q c a b) p = (q ≡ p) ⊎ (StepAt a p ⊎ StepAt b p)
+  StepAt (While r q c b) p = (q ≡ p) ⊎ StepAt b p
+
+  -- in one of these codes
+  pub StepIn : Codes → ℕ → Type 0
+  StepIn ⟨⟩ p = ⊥
+  StepIn (c ∷ᶜ cs) p = StepAt c p ⊎ StepIn cs p
+
+-- how many instructions and comparisons a run has tried: its steps, and one more where it ends in a fault
+unfoldable pub tried : Outcome → Counted → ℕ
+tried done k = k .steps
+tried (fault n p) k = suc (k .steps)
+tried (stopped n p) k = k .steps
+tried (spent p) k = k .steps
+tried (refused n p) k = k .steps
+
+-- an instruction or a comparison at a place that is done, or fails where it stands and has changed nothing
+pub data DoneOrFails (p : ℕ) (s : Config) (e : End) : Type 0 where
+  is-done : (t : Config) → e ≡ ends done t → DoneOrFails p s e
+  fails : (n : ℕ) → e ≡ ends (fault n p) s → DoneOrFails p s e
+
+-- ---- the claims
+pub record Stepping : Type 0 where
+  -- an instruction or a comparison completes, and is a step, or fails, and is none; where the limit is used up neither is tried
+  pub instruction : (env : Env) (p : ℕ) (i : Instruction) (s : Config) → DoneOrFails p s (run-ins env p i s)
+  pub comparison : (env : Env) (q : ℕ) (c : Ocmp) (s : Config) → DoneOrFails q s (run-ocmp env q c s)
+  pub counts : (limit : Option ℕ) (p : ℕ) (act : Config → End) (s t : Config) (k : Counted) → used-up limit k ≡ false → act s ≡ ends done t
+      → step limit p act s k ≡ ended done t (counted (k .steps + 1))
+  pub counts-none : (limit : Option ℕ) (p : ℕ) (act : Config → End) (s t : Config) (k : Counted) (n q : ℕ) → used-up limit k ≡ false
+      → act s ≡ ends (fault n q) t → step limit p act s k ≡ ended (fault n q) t k
+  pub stops : (limit : Option ℕ) (p : ℕ) (act : Config → End) (s : Config) (k : Counted) → used-up limit k ≡ true
+      → step limit p act s k ≡ ended (stopped 37 p) s k
+  -- a While at fuel 0 is Spent whatever the limit
+  pub spent-first : (env : Env) (limit : Option ℕ) (p q : ℕ) (c : Ocmp) (b : Code) (s : Config) (k : Counted)
+      → run-code env limit (While p q c b) 0 s k ≡ ended (spent p) s k
+  -- the bound: n codes, Whiles nested d deep and fuel F make at most n * (F + 1) ^ d steps
+  pub bounded : (code : List ℕ) (env : Env) (fuel : ℕ) (limit : Option ℕ) (s : Config) (c : Code) (next : ℕ) → parse code ≡ got c next
+      → run-of code env fuel limit s .counted .steps ≤ codes c * (fuel + 1) ^ whiles c
+  -- where the limit is not met, the end is that of the run without a limit, and the same under every larger limit
+  pub not-met : (code : List ℕ) (env : Env) (fuel l : ℕ) (s : Config) → NotStopped (run-of code env fuel (some l) s .end .how)
+      → run-of code env fuel (some l) s ≡ run-of code env fuel none s
+  pub larger : (code : List ℕ) (env : Env) (fuel l m : ℕ) (s : Config) → l ≤ m → NotStopped (run-of code env fuel (some l) s .end .how)
+      → run-of code env fuel (some m) s ≡ run-of code env fuel (some l) s
+  -- a run without a limit is never Stopped
+  pub never : (code : List ℕ) (env : Env) (fuel : ℕ) (s : Config) → NotStopped (run-of code env fuel none s .end .how)
+  -- Stopped exactly when that run tries more than the limit, and then with 37 and as many steps as the limit
+  pub stopped-when : (code : List ℕ) (env : Env) (fuel l : ℕ) (s : Config)
+      → let u = run-of code env fuel none s in l < tried (u .end .how) (u .counted)
+      → (p : ℕ) × (t : Config) × (run-of code env fuel (some l) s ≡ ended (stopped 37 p) t (counted l))
+  pub stopped-only : (code : List ℕ) (env : Env) (fuel l n p : ℕ) (s : Config) → run-of code env fuel (some l) s .end .how ≡ stopped n p
+      → let u = run-of code env fuel none s in l < tried (u .end .how) (u .counted)
+  -- as many steps and then a check that would fail: Stopped at its place, with the state and cells that the Fault would have
+  pub before-fault : (code : List ℕ) (env : Env) (fuel l n p : ℕ) (s t : Config) → run-of code env fuel none s ≡ ended (fault n p) t (counted l)
+      → run-of code env fuel (some l) s ≡ ended (stopped 37 p) t (counted l)
+  -- the place is that of an instruction or a comparison
+  pub placed : (code : List ℕ) (env : Env) (fuel : ℕ) (limit : Option ℕ) (n p : ℕ) (s : Config) → run-of code env fuel limit s .end .how ≡ stopped n p
+      → (n ≡ 37) × ((c : Code) × (next : ℕ) × (parse code ≡ got c next) × StepAt c p)
