@@ -2,6 +2,7 @@
  * Times two libraries in one program, in turn, over jobs: before_job and after_job are pokchrei_job of each, renamed by
  * beside.sh. Arguments are jobs and their steps. A line for each: its name, and the least nanoseconds a step of both. A
  * job that the earlier library refuses and the later one runs, since it has an instruction that came later, is left out.
+ * The earlier library may print no line of steps.
  */
 #include <stdint.h>
 #include <stdio.h>
@@ -27,6 +28,23 @@ static double least(double best, job_function *job, size_t input_length, uint8_t
     return time < best ? time : best;
 }
 
+static int alike(const size_t lengths[2])
+{
+    return lengths[0] == lengths[1] && !memcmp(texts[0], texts[1], lengths[0]);
+}
+
+/* Takes the line of steps, which is the second, out of a text that has one. Returns the length that is left. */
+static size_t without_steps(uint8_t *text, size_t length)
+{
+    uint8_t *end = text + length, *line = memchr(text, '\n', length);
+    if (!line || end - ++line < 6 || memcmp(line, "steps ", 6)) return length;
+    uint8_t *next = memchr(line, '\n', end - line);
+    if (!next) return length;
+    next++;
+    memmove(line, next, end - next);
+    return length - (next - line);
+}
+
 static void compare(const char *path, double steps)
 {
     FILE *file = fopen(path, "rb");
@@ -41,7 +59,8 @@ static void compare(const char *path, double steps)
     }
     const char *name = strrchr(path, '/') + 1;
     if (!memcmp(texts[0], "refused", 7) && !memcmp(texts[1], "done", 4)) return;
-    if (lengths[0] != lengths[1] || memcmp(texts[0], texts[1], lengths[0])) {
+    if (!alike(lengths)) lengths[1] = without_steps(texts[1], lengths[1]);
+    if (!alike(lengths)) {
         fprintf(stderr, "%s: the two end otherwise\n", name);
         exit(1);
     }

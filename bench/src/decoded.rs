@@ -334,7 +334,8 @@ impl Program {
         let mut outer = Vec::new();
         let mut next = 0;
         while let Some(op) = self.ops.get(next) {
-            let fault = |number| Stop::Fault(number, self.places[next] as usize);
+            let place = || self.places[next] as usize;
+            let fault = |number| Stop::Fault(number, place());
             let mut to = next + 1;
             match op {
                 Op::Jump(end) => to = *end as usize,
@@ -343,9 +344,7 @@ impl Program {
                     to = *test as usize;
                 }
                 Op::Test(_, _, place) if left == 0 => return Err(Stop::Spent(*place as usize)),
-                _ if machine.steps == machine.limit => {
-                    return Err(Stop::Limit(self.places[next] as usize));
-                }
+                _ if machine.steps == machine.limit => return Err(Stop::Limit(place())),
                 Op::IfElse(test, otherwise) => {
                     if !compare(machine, test).map_err(fault)? {
                         to = *otherwise as usize;

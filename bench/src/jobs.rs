@@ -97,7 +97,8 @@ fn follows(limited: &End, limit: u64, free: &End) -> bool {
     *limited == last
 }
 
-/// Runs a job again under limits of 0, of one step less than it makes, and of its steps. Answers how many runs they are.
+/// Runs a job again under limits of 0, of one step less than it makes, and of its steps; answers how many these are, of
+/// which equal ones count once.
 fn under_limits(mut kernel: Kernel, free: &End) -> usize {
     let mut limits = vec![0, free.steps.saturating_sub(1), free.steps];
     limits.dedup();

@@ -33,8 +33,8 @@ pub fn kernel(name: &str, code: Code) -> Kernel {
     }
 }
 
-/// A loop, counted down in Rcx, over codes that take `inner` steps: as many rounds as `steps` have room for, and then the
-/// comparison that ends it, which is one step more.
+/// A loop, counted down in Rcx, over codes that take `inner` steps: as many rounds as `steps` have room for. The
+/// comparison that ends it is one step more.
 fn looped(name: &str, steps: u64, inner: u64, body: Vec<Code>) -> Kernel {
     let rounds = steps / (inner + 2);
     let mut codes = body;

@@ -612,20 +612,19 @@ module _ (env : Env) (limit : Option ℕ) (bs : List ℕ) (from e fuel : ℕ) (s
       (r : Exit) (t : Config) (l : Counted) → StepsIns env limit bs at s k r t l → byte-at bs at < 0x20 → r .number ≡ 0 → e - r .place < e - at
   rest-less-ins r t l ran kind z = rest-less r t l (ins-ran env limit bs at fuel s k r t l kind ran) z
 
--- ---- a comparison as a step, which answers x whatever the xmms are
-abbrev Answers : ℕ → List ℕ → List ℕ → ℕ → List ℕ → ℕ → List ℕ → List ℕ → ℕ → Counted → Compared → ℕ → Counted → Type 0
-Answers limit addresses tags fill bs at regs values flags k x flags′ l =
-    (xmms : List ℕ) →
-    DecidesAt (environment addresses tags fill) (some limit) bs at (held regs xmms flags values) k x (held regs xmms flags′ values) l
+-- ---- a comparison as a step, which answers x whatever fill word, flags and xmms are
+abbrev Answers : ℕ → List ℕ → List ℕ → List ℕ → ℕ → List ℕ → List ℕ → Counted → Compared → Counted → Type 0
+Answers limit addresses tags bs at regs values k x l =
+    (fill flags : ℕ) (xmms : List ℕ) → DecidesAt (environment addresses tags fill) (some limit) bs at (held regs xmms flags values) k x l
 
 -- x goes on behind it
 pub record GoesOn (bs : List ℕ) (at : ℕ) (x : Compared) : Type 0 where
   pub next : (e : ℕ) → Stands is-ocmp bs at e → x .next ≡ e
 
 pub goes-on :
-    {addresses tags bs regs values : List ℕ} {limit fill at flags flags′ : ℕ} {k l : Counted} {x : Compared} →
-    Answers limit addresses tags fill bs at regs values flags k x flags′ l → x .how ≤ 1 → GoesOn bs at x
-goes-on a read = record { next = λ e h. a [] e h .next read }
+    {addresses tags bs regs values : List ℕ} {limit at : ℕ} {k l : Counted} {x : Compared} →
+    Answers limit addresses tags bs at regs values k x l → x .how ≤ 1 → GoesOn bs at x
+goes-on a read = record { next = λ e h. a 0 0 [] e h .next read }
 
 -- ---- an IfElse
 module _ (bs : List ℕ) (at : ℕ) (kind : byte-at bs at ≡ 0x21) where
@@ -652,26 +651,26 @@ module _ (bs : List ℕ) (at : ℕ) (kind : byte-at bs at ≡ 0x21) where
         choice-fits o other = let w = choice-inside bs at c kind in omega (arith, w .within, g .next (w .mid) (w .stands))
 
 pub choice-stops :
-    (limit : ℕ) (addresses tags bs regs xmms values : List ℕ) (fill at fuel flags flags′ : ℕ) (k l : Counted) (x : Compared) →
-    byte-at bs at ≡ 0x21 → Answers limit addresses tags fill bs (at + 9) regs values flags k x flags′ l → 1 < x .how →
+    (limit : ℕ) (addresses tags bs regs xmms values : List ℕ) (fill at fuel flags : ℕ) (k l : Counted) (x : Compared) →
+    byte-at bs at ≡ 0x21 → Answers limit addresses tags bs (at + 9) regs values k x l → 1 < x .how →
     Runs (environment addresses tags fill) (some limit) bs at fuel (held regs xmms flags values) k (exit (x .how) (at + 9))
-    (held regs xmms flags′ values) l
-choice-stops limit addresses tags bs regs xmms values fill at fuel flags flags′ k l x kind a h =
-    if-stops _ _ bs at fuel _ _ kind x _ _ (a xmms) h
+    (held regs xmms flags values) l
+choice-stops limit addresses tags bs regs xmms values fill at fuel flags k l x kind a h =
+    if-stops _ _ bs at fuel _ _ kind x _ (a fill flags xmms) h
 
 -- the part that it goes on with, where the evaluator has come to it with the measure m
-pub record Branch (env : Env) (limit : Option ℕ) (bs : List ℕ) (at fuel m : ℕ) (s : Config) (k : Counted) (x : Compared) (u : Config) (j : Counted)
+pub record Branch (env : Env) (limit : Option ℕ) (bs : List ℕ) (at fuel m : ℕ) (s : Config) (k : Counted) (x : Compared) (j : Counted)
     (part behind end : ℕ) : Type 0 where
-  pub chosen : Chosen env limit bs at s k x u j part behind end
+  pub chosen : Chosen env limit bs at s k x j part behind end
   pub code : CodeAt bs at
   pub cells : Cells (env .addresses) (env .tags) (s .values)
   pub measured : fuel + (length bs - (at + 5)) ≡ m
 
-module _ (env : Env) (limit : Option ℕ) (bs : List ℕ) (at fuel m : ℕ) (s : Config) (k : Counted) (x : Compared) (u : Config) (j : Counted)
-    (part behind end : ℕ) (w : Branch env limit bs at fuel m s k x u j part behind end) where
+module _ (env : Env) (limit : Option ℕ) (bs : List ℕ) (at fuel m : ℕ) (s : Config) (k : Counted) (x : Compared) (j : Counted)
+    (part behind end : ℕ) (w : Branch env limit bs at fuel m s k x j part behind end) where
   -- its code, and that there are codes to its end, which begin behind the test
   there : CodeAt bs part × CodesAt bs (codes-from bs part) behind × (at + 9 < part)
-  there = chosen-there env limit bs at fuel s k x u j part behind end (w .chosen) (w .code)
+  there = chosen-there env limit bs at fuel s k x j part behind end (w .chosen) (w .code)
 
   pub branch-code : CodeAt bs part
   branch-code = there .0
@@ -683,14 +682,14 @@ module _ (env : Env) (limit : Option ℕ) (bs : List ℕ) (at fuel m : ℕ) (s :
     pub branch-less : fuel + (length bs - p) < m
     branch-less = omega (arith, w .measured, starts bs part (there .0), there .2, codes-past bs part)
 
-    module _ (r : Exit) (t : Config) (l : Counted) (ran : RunsAll env limit bs p behind fuel u j r t l) where
+    module _ (r : Exit) (t : Config) (l : Counted) (ran : RunsAll env limit bs p behind fuel (with-flags (env .fill) s) j r t l) where
       pub branch-stops : (r .number ≡ 0 → ⊥) → Runs env limit bs at fuel s k r t l
       branch-stops h =
-          chosen-ran env limit bs at fuel s k x u j part behind end (w .chosen) r t l (rw is at ran) r refl (λ z. absurd (h z))
+          chosen-ran env limit bs at fuel s k x j part behind end (w .chosen) r t l (rw is at ran) r refl (λ z. absurd (h z))
 
       pub branch-done : r .number ≡ 0 → Runs env limit bs at fuel s k (exit 0 end) t l
       branch-done h =
-          chosen-ran env limit bs at fuel s k x u j part behind end (w .chosen) r t l (rw is at ran)
+          chosen-ran env limit bs at fuel s k x j part behind end (w .chosen) r t l (rw is at ran)
           (exit 0 end) (sym (how-done r h)) (λ _. refl)
 
 -- ---- a While
@@ -712,25 +711,25 @@ loop-is-spent env limit bs at fuel s₀ k₀ left s k w kind z =
     loop-ran env limit bs at fuel s₀ k₀ left s k w (exit 1 at) s k (loop-spent env limit bs at left s k kind z) (λ _ _ _ y. absurd (omega (arith, y)))
 
 pub loop-is-stopped :
-    (limit : ℕ) (addresses tags bs regs xmms values : List ℕ) (fill at fuel left flags flags′ : ℕ) (s₀ : Config) (k₀ k l : Counted) (x : Compared) →
+    (limit : ℕ) (addresses tags bs regs xmms values : List ℕ) (fill at fuel left flags : ℕ) (s₀ : Config) (k₀ k l : Counted) (x : Compared) →
     Looping (environment addresses tags fill) (some limit) bs at fuel s₀ k₀ left (held regs xmms flags values) k →
-    byte-at bs at ≡ 0x22 → (left ≡ 0 → ⊥) → Answers limit addresses tags fill bs (at + 5) regs values flags k x flags′ l → 1 < x .how →
-    Runs (environment addresses tags fill) (some limit) bs at fuel s₀ k₀ (exit (x .how) (at + 5)) (held regs xmms flags′ values) l
-loop-is-stopped limit addresses tags bs regs xmms values fill at fuel left flags flags′ s₀ k₀ k l x w kind some-fuel a h =
-    loop-ran _ _ bs at fuel s₀ k₀ left _ _ w _ _ _ (loop-stopped _ _ bs at left _ _ kind some-fuel x _ _ (a xmms) h)
+    byte-at bs at ≡ 0x22 → (left ≡ 0 → ⊥) → Answers limit addresses tags bs (at + 5) regs values k x l → 1 < x .how →
+    Runs (environment addresses tags fill) (some limit) bs at fuel s₀ k₀ (exit (x .how) (at + 5)) (held regs xmms flags values) l
+loop-is-stopped limit addresses tags bs regs xmms values fill at fuel left flags s₀ k₀ k l x w kind some-fuel a h =
+    loop-ran _ _ bs at fuel s₀ k₀ left _ _ w _ _ _ (loop-stopped _ _ bs at left _ _ kind some-fuel x _ (a fill flags xmms) h)
     (λ _ _ _ z. absurd (omega (arith, z)))
 
 -- a round, where the evaluator has come to it with the measure m
 pub record Turn (env : Env) (limit : Option ℕ) (bs : List ℕ) (at fuel m : ℕ) (s₀ : Config) (k₀ : Counted) (left : ℕ) (s : Config) (k : Counted)
-    (x : Compared) (u : Config) (j : Counted) (end : ℕ) : Type 0 where
-  pub round : Round env limit bs at left s k x u j end
+    (x : Compared) (j : Counted) (end : ℕ) : Type 0 where
+  pub round : Round env limit bs at left s k x j end
   pub looping : Looping env limit bs at fuel s₀ k₀ left s k
   pub code : CodeAt bs at
   pub cells : Cells (env .addresses) (env .tags) (s₀ .values)
   pub measured : fuel + (length bs - (at + 5)) ≡ m
 
 module _ (env : Env) (limit : Option ℕ) (bs : List ℕ) (at fuel m : ℕ) (s₀ : Config) (k₀ : Counted) (left : ℕ) (s : Config) (k : Counted)
-    (x : Compared) (u : Config) (j : Counted) (end : ℕ) (w : Turn env limit bs at fuel m s₀ k₀ left s k x u j end) where
+    (x : Compared) (j : Counted) (end : ℕ) (w : Turn env limit bs at fuel m s₀ k₀ left s k x j end) where
   pub turn-fits : length bs * 1 < 2 ^ 63 → Fits w64 end
   turn-fits room =
       let l = loop-inside bs at (w .code) (w .round .kind) in
@@ -742,7 +741,7 @@ module _ (env : Env) (limit : Option ℕ) (bs : List ℕ) (at fuel m : ℕ) (s�
 
   -- the body's code, and that there are codes to its end, which begin behind the test
   body-there : CodeAt bs (x .next) × CodesAt bs (codes-from bs (x .next)) end × (at + 5 < x .next)
-  body-there = round-there env limit bs at left s k x u j end (w .round) (w .code)
+  body-there = round-there env limit bs at left s k x j end (w .round) (w .code)
 
   pub body-code : CodeAt bs (x .next)
   body-code = body-there .0
@@ -755,27 +754,32 @@ module _ (env : Env) (limit : Option ℕ) (bs : List ℕ) (at fuel m : ℕ) (s�
     body-less =
         omega (arith, w .measured, w .looping .less, starts bs (x .next) (body-there .0), body-there .2, codes-past bs (x .next))
 
-    module _ (holds : x .how ≡ 0 → ⊥) (r : Exit) (t : Config) (l : Counted) (ran : RunsAll env limit bs p end (left - 1) u j r t l) where
+    module _ (holds : x .how ≡ 0 → ⊥) (r : Exit) (t : Config) (l : Counted)
+        (ran : RunsAll env limit bs p end (left - 1) (with-flags (env .fill) s) j r t l) where
       pub turn-stops : (r .number ≡ 0 → ⊥) → Runs env limit bs at fuel s₀ k₀ r t l
       turn-stops h =
           loop-ran env limit bs at fuel s₀ k₀ left s k (w .looping) r t l
-          (round-stops env limit bs at left s k x u j end (w .round) holds r t l (rw is at ran) h) (λ _ _ _ z. absurd (h z))
+          (round-stops env limit bs at left s k x j end (w .round) holds r t l (rw is at ran) h) (λ _ _ _ z. absurd (h z))
 
       pub turn-goes : r .number ≡ 0 → length (t .values) ≡ length (s .values) → Looping env limit bs at fuel s₀ k₀ (left - 1) t l
       turn-goes h long =
-          let goes = round-goes env limit bs at left s k x u j end (w .round) holds r t l (rw is at ran) h in
+          let goes = round-goes env limit bs at left s k x j end (w .round) holds r t l (rw is at ran) h in
           record {
             same = λ c e y. w .looping .same c e y ∙ goes c e y;
             long = long ∙ w .looping .long;
             less = omega (arith, w .looping .less);
           }
 
-  pub turn-done : x .how ≡ 0 → Runs env limit bs at fuel s₀ k₀ (exit 0 end) u j
-  turn-done h =
-      let r = w .round in
-      loop-ran env limit bs at fuel s₀ k₀ left s k (w .looping) _ _ _
-      (loop-done env limit bs at left s k (r .kind) (r .some-fuel) x u j (r .compared) h)
-      (λ c e y _. round-ends env limit bs at left s k x u j end r c e y)
+pub turn-done :
+    (env : Env) (limit : Option ℕ) (bs : List ℕ) (at fuel m : ℕ) (s₀ : Config) (k₀ : Counted) (left : ℕ) (regs xmms values : List ℕ) (flags : ℕ)
+    (k : Counted) (x : Compared) (j : Counted) (end : ℕ) → Turn env limit bs at fuel m s₀ k₀ left (held regs xmms flags values) k x j end →
+    x .how ≡ 0 → Runs env limit bs at fuel s₀ k₀ (exit 0 end) (held regs xmms (env .fill) values) j
+turn-done env limit bs at fuel m s₀ k₀ left regs xmms values flags k x j end w h =
+    let r = w .round in
+    let s = held regs xmms flags values in
+    loop-ran env limit bs at fuel s₀ k₀ left s k (w .looping) _ _ _
+    (loop-done env limit bs at left s k (r .kind) (r .some-fuel) x j (r .compared) h)
+    (λ c e y _. round-ends env limit bs at left s k x j end r c e y)
 
 -- ---- what a check answered is the verdict of its definition
 pub is-accepted : (v : Checked) (w : Verdict) → verdict v ≡ w → v ≡ Accepted → w ≡ accepted

@@ -16,7 +16,7 @@ use Rattle.code.specs.Records.{is-ocmp, byte-at, number-at, ocmp-at}
 use Rattle.code.specs.Spells.{Stands, Spells, SpellsAll}
 use Rattle.code.proofs.Sound.{stands-past}
 use Rattle.code.proofs.CodeFrames.{Frame, frame, ins-there, block-there, if-there, while-there, first-there, none-there, list-of-one, structure-long}
-use Rattle.eval.specs.Config.{Env, Config, Outcome, done, fault, stopped, spent, refused}
+use Rattle.eval.specs.Config.{Env, Config, with-flags, Outcome, done, fault, stopped, spent, refused}
 use Rattle.eval.specs.Instructions.{eval-ocmp}
 use Rattle.eval.specs.Counted.{Counted, Ended, ended, Part, continue, and-then}
 use Rattle.eval.specs.Running.{choose, rounds, run-code, run-codes}
@@ -250,25 +250,25 @@ decided : (b : Bool) (n : ℕ) → n ≡ cond b 1 0 → ((n ≡ 0 → ⊥) → b
 decided true n e = (λ _. refl, λ h. absurd (h e))
 decided false n e = (λ h. absurd (h e), λ _. refl)
 
-module _ (env : Env) (limit : Option ℕ) (q : ℕ) (c : Ocmp) (s : Config) (k : Counted) (m : ℕ) (x : Compared) (t : Config) (l : Counted)
-    (w : Decides env limit s k c q m x t l) (f g : Part) where
-  ocmp-stops : 1 < x .how → choose env limit q c f g s k ≡ ended (how (exit (x .how) q)) t l
+module _ (env : Env) (limit : Option ℕ) (q : ℕ) (c : Ocmp) (s : Config) (k : Counted) (m : ℕ) (x : Compared) (l : Counted)
+    (w : Decides env limit s k c q m x l) (f g : Part) where
+  ocmp-stops : 1 < x .how → choose env limit q c f g s k ≡ ended (how (exit (x .how) q)) s l
   unfolding choose
   ocmp-stops h =
       ap (λ (e : Ended). and-then e (cond (eval-ocmp env c s) f g)) (w .stops h)
-      ∙ how-stops (exit (x .how) q) t l _ (λ z. omega (arith, z, h))
+      ∙ how-stops (exit (x .how) q) s l _ (λ z. omega (arith, z, h))
 
-  ocmp-holds : x .how ≤ 1 → (x .how ≡ 0 → ⊥) → choose env limit q c f g s k ≡ f t l
+  ocmp-holds : x .how ≤ 1 → (x .how ≡ 0 → ⊥) → choose env limit q c f g s k ≡ f (with-flags (env .fill) s) l
   unfolding choose continue
   ocmp-holds h y =
       ap (λ (e : Ended). and-then e (cond (eval-ocmp env c s) f g)) (w .goes h)
-      ∙ ap (λ (b : Bool). cond b f g t l) (decided (eval-ocmp env c s) (x .how) (w .holds h) .0 y)
+      ∙ ap (λ (b : Bool). cond b f g (with-flags (env .fill) s) l) (decided (eval-ocmp env c s) (x .how) (w .holds h) .0 y)
 
-  ocmp-fails : x .how ≤ 1 → (x .how ≡ 1 → ⊥) → choose env limit q c f g s k ≡ g t l
+  ocmp-fails : x .how ≤ 1 → (x .how ≡ 1 → ⊥) → choose env limit q c f g s k ≡ g (with-flags (env .fill) s) l
   unfolding choose continue
   ocmp-fails h y =
       ap (λ (e : Ended). and-then e (cond (eval-ocmp env c s) f g)) (w .goes h)
-      ∙ ap (λ (b : Bool). cond b f g t l) (decided (eval-ocmp env c s) (x .how) (w .holds h) .1 y)
+      ∙ ap (λ (b : Bool). cond b f g (with-flags (env .fill) s) l) (decided (eval-ocmp env c s) (x .how) (w .holds h) .1 y)
 
 -- two choices by one test
 pub both-ways : {A P Q R S : Type 0} → (A × P) ⊎ ((A → ⊥) × Q) → (A × R) ⊎ ((A → ⊥) × S) → (A × P × R) ⊎ ((A → ⊥) × Q × S)
@@ -283,7 +283,7 @@ respelled c bs a e x y p q h = rw (← p, ← q) h
 
 -- ---- an IfElse, whose comparison has answered x
 module _ (env : Env) (limit : Option ℕ) (bs : List ℕ) (at fuel : ℕ) (s : Config) (k : Counted) (kind : byte-at bs at ≡ 0x21) (x : Compared)
-    (u : Config) (j : Counted) (compared : DecidesAt env limit bs (at + 9) s k x u j) where
+    (j : Counted) (compared : DecidesAt env limit bs (at + 9) s k x j) where
   -- it is that comparison, and then the one or the other part
   if-starts :
       (c : Code) (e : ℕ) (sp : Spells c bs at e) →
@@ -296,14 +296,14 @@ module _ (env : Env) (limit : Option ℕ) (bs : List ℕ) (at fuel : ℕ) (s : C
       ap (λ (b : Code). run-code env limit b fuel s k) (w .is)
       ∙ ap (λ (o : Ocmp). choose env limit (at + 9) o (run-code env limit (w .yes-part) fuel) (run-code env limit (w .no-part) fuel) s k) (w .says)
 
-  pub if-stops : 1 < x .how → Runs env limit bs at fuel s k (exit (x .how) (at + 9)) u j
+  pub if-stops : 1 < x .how → Runs env limit bs at fuel s k (exit (x .how) (at + 9)) s j
   if-stops h c e sp =
       let w = if-there c bs at e sp kind in
       record {
         ends =
             sym
             (if-starts c e sp
-            ∙ ocmp-stops env limit (at + 9) (ocmp-at bs (at + 9)) s k (w .mid) x u j (compared (w .mid) (w .stands))
+            ∙ ocmp-stops env limit (at + 9) (ocmp-at bs (at + 9)) s k (w .mid) x j (compared (w .mid) (w .stands))
             (run-code env limit (w .yes-part) fuel) (run-code env limit (w .no-part) fuel) h);
         next = λ z. absurd (omega arith);
       }
@@ -346,7 +346,7 @@ module _ (env : Env) (limit : Option ℕ) (bs : List ℕ) (at fuel : ℕ) (s : C
 
     if-ran :
         (r : Exit) (t : Config) (l : Counted) →
-        RunsAll env limit bs (codes-from bs part) behind fuel u j r t l →
+        RunsAll env limit bs (codes-from bs part) behind fuel (with-flags (env .fill) s) j r t l →
         (r′ : Exit) →
         how r′ ≡ how r →
         (r′ .number ≡ 0 → r′ .place ≡ end) →
@@ -357,17 +357,17 @@ module _ (env : Env) (limit : Option ℕ) (bs : List ℕ) (at fuel : ℕ) (s : C
         let here = compared (w .mid) (w .stands) in
         let one = run-code env limit (w .yes-part) fuel in
         let other = run-code env limit (w .no-part) fuel in
-        let ran-part : (d : Code) → Spells d bs part behind → run-code env limit d fuel u j ≡ ended (how r) t l =
-        λ d h. sym (part-ran bs part env limit behind fuel u j r t l ran d h .ends)
+        let ran-part : (d : Code) → Spells d bs part behind → run-code env limit d fuel (with-flags (env .fill) s) j ≡ ended (how r) t l =
+        λ d h. sym (part-ran bs part env limit behind fuel (with-flags (env .fill) s) j r t l ran d h .ends)
         in
         let whole : run-code env limit c fuel s k ≡ ended (how r) t l =
         if-starts c e sp
         ∙ ⊎-elim
         (λ h.
-        ocmp-holds env limit (at + 9) (ocmp-at bs (at + 9)) s k (w .mid) x u j here one other read (λ z. omega (arith, h .0, z))
+        ocmp-holds env limit (at + 9) (ocmp-at bs (at + 9)) s k (w .mid) x j here one other read (λ z. omega (arith, h .0, z))
         ∙ ran-part (w .yes-part) (rw (h .1, h .2) (p .2)))
         (λ h.
-        ocmp-fails env limit (at + 9) (ocmp-at bs (at + 9)) s k (w .mid) x u j here one other read (h .0)
+        ocmp-fails env limit (at + 9) (ocmp-at bs (at + 9)) s k (w .mid) x j here one other read (h .0)
         ∙ ran-part (w .no-part) (rw (h .1, h .2) (p .3)))
         way
         in
@@ -376,29 +376,29 @@ module _ (env : Env) (limit : Option ℕ) (bs : List ℕ) (at fuel : ℕ) (s : C
           next = λ z. n z ∙ sym (p .1);
         }
 
--- the part that an IfElse goes on with, as the evaluator finds it: its comparison has left u and j
-pub record Chosen (env : Env) (limit : Option ℕ) (bs : List ℕ) (at : ℕ) (s : Config) (k : Counted) (x : Compared) (u : Config) (j : Counted)
+-- the part that an IfElse goes on with, as the evaluator finds it: its comparison has left j counted
+pub record Chosen (env : Env) (limit : Option ℕ) (bs : List ℕ) (at : ℕ) (s : Config) (k : Counted) (x : Compared) (j : Counted)
     (part behind end : ℕ) : Type 0 where
   pub kind : byte-at bs at ≡ 0x21
-  pub compared : DecidesAt env limit bs (at + 9) s k x u j
+  pub compared : DecidesAt env limit bs (at + 9) s k x j
   pub read : x .how ≤ 1
   pub mid : ℕ
   pub mid-is : mid ≡ x .next + number-at 4 bs (at + 1)
   pub end-is : end ≡ mid + number-at 4 bs (at + 5)
   pub way : ((x .how ≡ 1) × (part ≡ x .next) × (behind ≡ mid)) ⊎ ((x .how ≡ 1 → ⊥) × (part ≡ mid) × (behind ≡ end))
 
-module _ (env : Env) (limit : Option ℕ) (bs : List ℕ) (at fuel : ℕ) (s : Config) (k : Counted) (x : Compared) (u : Config) (j : Counted)
-    (part behind end : ℕ) (w : Chosen env limit bs at s k x u j part behind end) where
+module _ (env : Env) (limit : Option ℕ) (bs : List ℕ) (at fuel : ℕ) (s : Config) (k : Counted) (x : Compared) (j : Counted)
+    (part behind end : ℕ) (w : Chosen env limit bs at s k x j part behind end) where
   pub chosen-there : CodeAt bs at → CodeAt bs part × CodesAt bs (codes-from bs part) behind × (at + 9 < part)
   chosen-there =
-      part-there env limit bs at fuel s k (w .kind) x u j (w .compared) (w .read) (w .mid) end part behind (w .mid-is) (w .end-is) (w .way)
+      part-there env limit bs at fuel s k (w .kind) x j (w .compared) (w .read) (w .mid) end part behind (w .mid-is) (w .end-is) (w .way)
 
   -- the exit of the part, with another place where it is done
   pub chosen-ran :
-      (r : Exit) (t : Config) (l : Counted) → RunsAll env limit bs (codes-from bs part) behind fuel u j r t l →
+      (r : Exit) (t : Config) (l : Counted) → RunsAll env limit bs (codes-from bs part) behind fuel (with-flags (env .fill) s) j r t l →
       (r′ : Exit) → how r′ ≡ how r → (r′ .number ≡ 0 → r′ .place ≡ end) → Runs env limit bs at fuel s k r′ t l
   chosen-ran =
-      if-ran env limit bs at fuel s k (w .kind) x u j (w .compared) (w .read) (w .mid) end part behind (w .mid-is) (w .end-is) (w .way)
+      if-ran env limit bs at fuel s k (w .kind) x j (w .compared) (w .read) (w .mid) end part behind (w .mid-is) (w .end-is) (w .way)
 
 -- ---- a While: what holds at the head of the loop over its rounds
 pub record Looping (env : Env) (limit : Option ℕ) (bs : List ℕ) (at fuel : ℕ) (s₀ : Config) (k₀ : Counted) (left : ℕ) (s : Config) (k : Counted) : Type 0 where
@@ -440,7 +440,7 @@ module _ (env : Env) (limit : Option ℕ) (bs : List ℕ) (at left : ℕ) (s : C
       ap (λ (b : Code). run-code env limit b left s k) (w .is)
       ∙ rounds-spent env limit (run-code env limit (w .body)) at (at + 5) (w .test) s k left z
 
-  module _ (inn : left ≡ 0 → ⊥) (x : Compared) (u : Config) (j : Counted) (compared : DecidesAt env limit bs (at + 5) s k x u j) where
+  module _ (inn : left ≡ 0 → ⊥) (x : Compared) (j : Counted) (compared : DecidesAt env limit bs (at + 5) s k x j) where
     -- the next round, and those that follow, behind its comparison
     tested :
         (c : Code) (e : ℕ) (h : Spells c bs at e) →
@@ -458,19 +458,19 @@ module _ (env : Env) (limit : Option ℕ) (bs : List ℕ) (at left : ℕ) (s : C
 
     pub loop-stopped :
         1 < x .how → (c : Code) (e : ℕ) → Spells c bs at e →
-        run-code env limit c left s k ≡ ended (how (exit (x .how) (at + 5))) u j
+        run-code env limit c left s k ≡ ended (how (exit (x .how) (at + 5))) s j
     loop-stopped z c e h =
         let w = while-there c bs at e h kind in
         tested c e h
-        ∙ ocmp-stops env limit (at + 5) (ocmp-at bs (at + 5)) s k (w .mid) x u j (compared (w .mid) (w .stands))
+        ∙ ocmp-stops env limit (at + 5) (ocmp-at bs (at + 5)) s k (w .mid) x j (compared (w .mid) (w .stands))
         (round env limit (run-code env limit (w .body)) at (at + 5) (w .test) s k (left - 1)) (ended done) z
 
     pub loop-done :
-        x .how ≡ 0 → (c : Code) (e : ℕ) → Spells c bs at e → run-code env limit c left s k ≡ ended done u j
+        x .how ≡ 0 → (c : Code) (e : ℕ) → Spells c bs at e → run-code env limit c left s k ≡ ended done (with-flags (env .fill) s) j
     loop-done z c e h =
         let w = while-there c bs at e h kind in
         tested c e h
-        ∙ ocmp-fails env limit (at + 5) (ocmp-at bs (at + 5)) s k (w .mid) x u j (compared (w .mid) (w .stands))
+        ∙ ocmp-fails env limit (at + 5) (ocmp-at bs (at + 5)) s k (w .mid) x j (compared (w .mid) (w .stands))
         (round env limit (run-code env limit (w .body)) at (at + 5) (w .test) s k (left - 1)) (ended done)
         (omega (arith, z)) (λ y. omega (arith, y, z))
 
@@ -497,27 +497,27 @@ module _ (env : Env) (limit : Option ℕ) (bs : List ℕ) (at left : ℕ) (s : C
           (there, part-codes bs (x .next) (w .body) end (p .2) l, omega (arith, p .1, stands-past is-ocmp bs (at + 5) (w .mid) (w .stands)))
 
       module _ (y : x .how ≡ 0 → ⊥) (r : Exit) (t : Config) (l : Counted)
-          (ran : RunsAll env limit bs (codes-from bs (x .next)) end (left - 1) u j r t l) where
+          (ran : RunsAll env limit bs (codes-from bs (x .next)) end (left - 1) (with-flags (env .fill) s) j r t l) where
         body-ran :
             (c : Code) (e : ℕ) (h : Spells c bs at e) →
             let w = while-there c bs at e h kind in
             run-code env limit c left s k
-            ≡ and-then (run-code env limit (w .body) (left - 1) u j)
+            ≡ and-then (run-code env limit (w .body) (left - 1) (with-flags (env .fill) s) j)
             (rounds env limit (run-code env limit (w .body)) at (at + 5) (w .test) (left - 1))
         unfolding round
         body-ran c e h =
             let w = while-there c bs at e h kind in
             tested c e h
-            ∙ ocmp-holds env limit (at + 5) (ocmp-at bs (at + 5)) s k (w .mid) x u j (compared (w .mid) (w .stands))
+            ∙ ocmp-holds env limit (at + 5) (ocmp-at bs (at + 5)) s k (w .mid) x j (compared (w .mid) (w .stands))
             (round env limit (run-code env limit (w .body)) at (at + 5) (w .test) s k (left - 1)) (ended done) read y
 
         body-exit :
             (c : Code) (e : ℕ) (h : Spells c bs at e) →
             let w = while-there c bs at e h kind in
-            Reached (run-code env limit (w .body) (left - 1) u j) end r t l
+            Reached (run-code env limit (w .body) (left - 1) (with-flags (env .fill) s) j) end r t l
         body-exit c e h =
             let w = while-there c bs at e h kind in
-            part-ran bs (x .next) env limit end (left - 1) u j r t l ran (w .body) (body-spelled c e h .2)
+            part-ran bs (x .next) env limit end (left - 1) (with-flags (env .fill) s) j r t l ran (w .body) (body-spelled c e h .2)
 
         loop-goes :
             r .number ≡ 0 → (c : Code) (e : ℕ) → Spells c bs at e → run-code env limit c left s k ≡ run-code env limit c (left - 1) t l
@@ -525,7 +525,7 @@ module _ (env : Env) (limit : Option ℕ) (bs : List ℕ) (at left : ℕ) (s : C
         loop-goes z c e h =
             let w = while-there c bs at e h kind in
             body-ran c e h
-            ∙ goes-on (run-code env limit (w .body) (left - 1) u j) end r t l (body-exit c e h)
+            ∙ goes-on (run-code env limit (w .body) (left - 1) (with-flags (env .fill) s) j) end r t l (body-exit c e h)
             (rounds env limit (run-code env limit (w .body)) at (at + 5) (w .test) (left - 1)) z
             ∙ ap (λ (b : Code). run-code env limit b (left - 1) t l) (sym (w .is))
 
@@ -534,30 +534,30 @@ module _ (env : Env) (limit : Option ℕ) (bs : List ℕ) (at left : ℕ) (s : C
         loop-stops z c e h =
             let w = while-there c bs at e h kind in
             body-ran c e h
-            ∙ stops (run-code env limit (w .body) (left - 1) u j) end r t l (body-exit c e h)
+            ∙ stops (run-code env limit (w .body) (left - 1) (with-flags (env .fill) s) j) end r t l (body-exit c e h)
             (rounds env limit (run-code env limit (w .body)) at (at + 5) (w .test) (left - 1)) z
 
--- a round of a While whose comparison has answered x and left u and j, and where the While ends
-pub record Round (env : Env) (limit : Option ℕ) (bs : List ℕ) (at left : ℕ) (s : Config) (k : Counted) (x : Compared) (u : Config) (j : Counted) (end : ℕ)
+-- a round of a While whose comparison has answered x and left j counted, and where the While ends
+pub record Round (env : Env) (limit : Option ℕ) (bs : List ℕ) (at left : ℕ) (s : Config) (k : Counted) (x : Compared) (j : Counted) (end : ℕ)
     : Type 0 where
   pub kind : byte-at bs at ≡ 0x22
   pub some-fuel : left ≡ 0 → ⊥
-  pub compared : DecidesAt env limit bs (at + 5) s k x u j
+  pub compared : DecidesAt env limit bs (at + 5) s k x j
   pub read : x .how ≤ 1
   pub end-is : end ≡ x .next + number-at 4 bs (at + 1)
 
-module _ (env : Env) (limit : Option ℕ) (bs : List ℕ) (at left : ℕ) (s : Config) (k : Counted) (x : Compared) (u : Config) (j : Counted) (end : ℕ)
-    (w : Round env limit bs at left s k x u j end) where
+module _ (env : Env) (limit : Option ℕ) (bs : List ℕ) (at left : ℕ) (s : Config) (k : Counted) (x : Compared) (j : Counted) (end : ℕ)
+    (w : Round env limit bs at left s k x j end) where
   pub round-ends : (c : Code) (e : ℕ) → Spells c bs at e → end ≡ e
-  round-ends = loop-ends env limit bs at left s k (w .kind) (w .some-fuel) x u j (w .compared) (w .read) end (w .end-is)
+  round-ends = loop-ends env limit bs at left s k (w .kind) (w .some-fuel) x j (w .compared) (w .read) end (w .end-is)
 
   pub round-there : CodeAt bs at → CodeAt bs (x .next) × CodesAt bs (codes-from bs (x .next)) end × (at + 5 < x .next)
-  round-there = body-there env limit bs at left s k (w .kind) (w .some-fuel) x u j (w .compared) (w .read) end (w .end-is)
+  round-there = body-there env limit bs at left s k (w .kind) (w .some-fuel) x j (w .compared) (w .read) end (w .end-is)
 
   module _ (y : x .how ≡ 0 → ⊥) (r : Exit) (t : Config) (l : Counted)
-      (ran : RunsAll env limit bs (codes-from bs (x .next)) end (left - 1) u j r t l) where
+      (ran : RunsAll env limit bs (codes-from bs (x .next)) end (left - 1) (with-flags (env .fill) s) j r t l) where
     pub round-goes : r .number ≡ 0 → (c : Code) (e : ℕ) → Spells c bs at e → run-code env limit c left s k ≡ run-code env limit c (left - 1) t l
-    round-goes = loop-goes env limit bs at left s k (w .kind) (w .some-fuel) x u j (w .compared) (w .read) end (w .end-is) y r t l ran
+    round-goes = loop-goes env limit bs at left s k (w .kind) (w .some-fuel) x j (w .compared) (w .read) end (w .end-is) y r t l ran
 
     pub round-stops : (r .number ≡ 0 → ⊥) → (c : Code) (e : ℕ) → Spells c bs at e → run-code env limit c left s k ≡ ended (how r) t l
-    round-stops = loop-stops env limit bs at left s k (w .kind) (w .some-fuel) x u j (w .compared) (w .read) end (w .end-is) y r t l ran
+    round-stops = loop-stops env limit bs at left s k (w .kind) (w .some-fuel) x j (w .compared) (w .read) end (w .end-is) y r t l ran

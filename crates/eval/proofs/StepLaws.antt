@@ -98,7 +98,7 @@ module _ (env : Env) (limit : Option ℕ) (bs : List ℕ) (at : ℕ) (s : Config
   pub ins-stopped : b ≡ true → StepsIns env limit bs at s k (exit 37 at) s k
   ins-stopped h e stands = record { ends = sym (step-stopped limit at _ s k (sym is ∙ h)); next = λ z. absurd (omega (arith, z)) }
 
-  pub ocmp-stopped : b ≡ true → DecidesAt env limit bs at s k (record { how = 37; next = at }) s k
+  pub ocmp-stopped : b ≡ true → DecidesAt env limit bs at s k (record { how = 37; next = at }) k
   ocmp-stopped h e stands = record {
     stops = λ _. step-stopped limit at _ s k (sym is ∙ h);
     goes = λ l. absurd (omega (arith, l));
@@ -127,7 +127,7 @@ module _ (env : Env) (limit : Option ℕ) (bs : List ℕ) (at : ℕ) (s : Config
           }
 
     module _ (x : Compared) (compares : ComparesAt env bs at s x) where
-      pub ocmp-ended : 1 < x .how → DecidesAt env limit bs at s k x s k
+      pub ocmp-ended : 1 < x .how → DecidesAt env limit bs at s k x k
       ocmp-ended l e stands =
           let c = ocmp-at bs at in
           let ends-so = ocmp-unread env at c s e x (compares e stands) l in
@@ -140,7 +140,7 @@ module _ (env : Env) (limit : Option ℕ) (bs : List ℕ) (at : ℕ) (s : Config
             next = λ m. absurd (omega (arith, l, m));
           }
 
-      pub ocmp-counted : x .how ≤ 1 → (l : Counted) → l ≡ count done k → DecidesAt env limit bs at s k x (with-flags (env .fill) s) l
+      pub ocmp-counted : x .how ≤ 1 → (l : Counted) → l ≡ count done k → DecidesAt env limit bs at s k x l
       ocmp-counted m l more e stands =
           let c = ocmp-at bs at in
           let w = compares e stands in

@@ -18,7 +18,7 @@ use Rattle.code.specs.declared.tree.Ocmp.{Ocmp}
 use Rattle.code.specs.Tree.{Code, Codes}
 use Rattle.code.specs.Records.{is-ins, is-ocmp, byte-at, ins-at, ocmp-at}
 use Rattle.code.specs.Spells.{Stands, Spells, SpellsAll}
-use Rattle.eval.specs.Config.{Env, Config, with-regs, with-values, Outcome, done, fault, stopped, spent, End}
+use Rattle.eval.specs.Config.{Env, Config, with-regs, with-flags, with-values, Outcome, done, fault, stopped, spent, End}
 use Rattle.eval.specs.Config as Config
 use Rattle.eval.specs.Instructions.{valid-operand, eval-operand, valid-dst-operand, update-operand, valid-ocmp, ocmp-number, eval-ocmp, run-ins}
 use Rattle.eval.specs.Counted.{Counted, counted, Ended, ended, step}
@@ -149,17 +149,17 @@ abbrev pub StepsIns : Env → Option ℕ → List ℕ → ℕ → Config → Cou
 StepsIns env limit bs at s k r t l =
     (e : ℕ) → Stands is-ins bs at e → Reached (step limit at (run-ins env at (ins-at bs at)) s k) e r t l
 
--- what a Compared says of a comparison at q, as a step from s and k that leaves t and l: 1 where it holds, 0 where it does not, or the number with
--- which the run ends there; where it goes on, the place behind
-pub record Decides (env : Env) (limit : Option ℕ) (s : Config) (k : Counted) (c : Ocmp) (q end : ℕ) (r : Compared) (t : Config) (l : Counted) : Type 0 where
-  pub stops : 1 < r .how → step limit q (run-ocmp env q c) s k ≡ ended (how (record { number = r .how; place = q })) t l
-  pub goes : r .how ≤ 1 → step limit q (run-ocmp env q c) s k ≡ ended done t l
+-- what a Compared says of a comparison at q, as a step from s and k that leaves l counted: 1 where it holds, 0 where it does not, or the number with which
+-- the run ends there; where it goes on, with the flags that it sets, the place behind
+pub record Decides (env : Env) (limit : Option ℕ) (s : Config) (k : Counted) (c : Ocmp) (q end : ℕ) (r : Compared) (l : Counted) : Type 0 where
+  pub stops : 1 < r .how → step limit q (run-ocmp env q c) s k ≡ ended (how (record { number = r .how; place = q })) s l
+  pub goes : r .how ≤ 1 → step limit q (run-ocmp env q c) s k ≡ ended done (with-flags (env .fill) s) l
   pub holds : r .how ≤ 1 → r .how ≡ cond (eval-ocmp env c s) 1 0
   pub next : r .how ≤ 1 → r .next ≡ end
 
 -- a Compared is that of the comparison that stands at a place, as a step
-abbrev pub DecidesAt : Env → Option ℕ → List ℕ → ℕ → Config → Counted → Compared → Config → Counted → Type 0
-DecidesAt env limit bs at s k r t l = (e : ℕ) → Stands is-ocmp bs at e → Decides env limit s k (ocmp-at bs at) at e r t l
+abbrev pub DecidesAt : Env → Option ℕ → List ℕ → ℕ → Config → Counted → Compared → Counted → Type 0
+DecidesAt env limit bs at s k r l = (e : ℕ) → Stands is-ocmp bs at e → Decides env limit s k (ocmp-at bs at) at e r l
 
 -- ---- codes
 -- a code stands at a place, inside the bytes

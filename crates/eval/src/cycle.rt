@@ -177,24 +177,14 @@ fn eval_if_else(
     ensures { λ r. ⌜ Evaluates code fill regs xmms flags addresses tags values counted limit at fuel r ⌝ }
 {
     let test = at + 9;
-    let compared = step_comparison(
-        code,
-        test,
-        fill,
-        regs,
-        flags,
-        addresses,
-        tags,
-        values,
-        counted,
-        limit,
-    );
+    let compared = step_comparison(code, test, regs, addresses, tags, values, counted, limit);
     if 1 < compared.how {
         return Exit {
             number: compared.how,
             place: test,
         };
     }
+    *flags = fill;
     let first = compared.next;
     let second = first + number4(code, at + 1);
     let end = second + number4(code, at + 5);
@@ -249,9 +239,7 @@ fn eval_while(
         let compared = step_comparison(
             code,
             condition,
-            fill,
             regs,
-            flags,
             addresses,
             tags,
             values,
@@ -264,6 +252,7 @@ fn eval_while(
                 place: condition,
             };
         }
+        *flags = fill;
         let body = compared.next;
         let end = body + number4(code, at + 1);
         if compared.how == 0 {

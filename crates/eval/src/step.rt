@@ -57,13 +57,12 @@ pub fn step_instruction(
     ran
 }
 
-// The comparison of an IfElse or a While. One that completes sets flags to the fill word.
+// The comparison of an IfElse or a While. One that completes sets flags to the fill word: that is the caller's, so that two
+// parameters less go over the stack.
 pub fn step_comparison(
     code: &[u8],
     at: usize,
-    fill: u64,
     regs: &[u64; 16],
-    flags: &mut u64,
     addresses: &[u64],
     tags: &[u8],
     values: &[u64],
@@ -73,10 +72,9 @@ pub fn step_comparison(
     requires { ⌜ OcmpAt (now code) at ⌝ }
     requires { ⌜ Cells (now addresses) (now tags) (now values) ⌝ }
     ensures { λ r. ⌜
-        ((xmms : List ℕ) →
+        ((fill flags : ℕ) (xmms : List ℕ) →
         DecidesAt (environment (now (addresses .entry)) (now (tags .entry)) fill) (some limit) (now (code .entry)) at
-        (held (now (regs .entry)) xmms (now (flags .entry)) (now (values .entry))) (tally (now (counted .entry))) r
-        (held (now (regs .entry)) xmms (now (flags .exit)) (now (values .entry))) (tally (now (counted .exit))))
+        (held (now (regs .entry)) xmms flags (now (values .entry))) (tally (now (counted .entry))) r (tally (now (counted .exit))))
         ⌝ }
 {
     if used_up(counted, limit) {
@@ -87,6 +85,5 @@ pub fn step_comparison(
         return compared;
     }
     counted[STEPS] += 1;
-    *flags = fill;
     compared
 }

@@ -118,17 +118,17 @@ if-else-claims t = (
 branch :
     (t : ℕ) (c : eval-if-else-lts.Joined3 (if-else-claims t) (at one of-parts eval-if-else.Pre t) eval-if-else.Post) →
     let answer = c .before .before .before .before .before .before .before .before in
-    let a = answer .before .before .before .before .before .before .before .before .before .args in
+    let a = answer .before .before .before .before .before .before .before .before .args in
     let x = answer .step-comparison in
     let size = c .before .before .before .before .before .number4 in
     let other = c .before .before .before .before .number42 in
     Branch (environment (a .addresses .now) (a .tags .now) (a .fill)) (some (a .limit)) (a .code .now) (a .at) (a .fuel) t
     (held (a .regs .now) (a .xmms .now) (a .flags .now) (a .values .now)) (tally (a .counted .now)) (x .result)
-    (held (a .regs .now) (a .xmms .now) (x .last .1 .1 .1 .1 .0) (a .values .now)) (tally (x .last .1 .1 .1 .1 .1 .1 .1 .1 .0))
+    (tally (x .last .1 .1 .1 .1 .1 .1 .0))
     (c .before .before .if2 .part) (c .if3 .behind) (x .result .next + size .result + other .result)
 branch t c =
     let answer = c .before .before .before .before .before .before .before .before in
-    let start = answer .before .before .before .before .before .before .before .before .before in
+    let start = answer .before .before .before .before .before .before .before .before in
     let x = answer .step-comparison in
     let size = c .before .before .before .before .before .number4 in
     let other = c .before .before .before .before .number42 in
@@ -136,7 +136,7 @@ branch t c =
       chosen =
           record {
             kind = start .pre .1 .1 .0;
-            compared = x .ensures (start .args .xmms .now);
+            compared = x .ensures (start .args .fill) (start .args .flags .now) (start .args .xmms .now);
             read = c .before .before .before .before .before .before .if1 .left;
             mid = x .result .next + size .result;
             mid-is = ap (λ (n : ℕ). x .result .next + n) (size .ensures .0);
@@ -192,25 +192,25 @@ abbrev μ-while : eval-while-lts.MeasureT-loop
 turn :
     (t : ℕ) (c : eval-while-lts.After-number4 (while-claims t) (at one of-parts eval-while.Pre t) eval-while.Post Inv-while μ-while) →
     let answer = c .before .before .before in
-    let head = answer .before .before .before .before .before .before in
+    let head = answer .before .before .before .before .before in
     let a = head .before .before .before .before .before .args in
     let x = answer .step-comparison in
     let l = head .loop in
     Turn (environment (a .addresses .now) (a .tags .now) (a .fill)) (some (a .limit)) (a .code .now) (a .at) (a .fuel) t
     (held (a .regs .now) (a .xmms .now) (a .flags .now) (a .values .now)) (tally (a .counted .now)) (l .left)
     (held (l .regs) (l .xmms) (l .flags) (l .values)) (tally (l .counted)) (x .result)
-    (held (l .regs) (l .xmms) (x .last .1 .1 .1 .1 .0) (l .values)) (tally (x .last .1 .1 .1 .1 .1 .1 .1 .1 .0)) (x .result .next + c .number4 .result)
+    (tally (x .last .1 .1 .1 .1 .1 .1 .0)) (x .result .next + c .number4 .result)
 turn t c =
     let answer = c .before .before .before in
-    let head = answer .before .before .before .before .before .before in
+    let head = answer .before .before .before .before .before in
     let start = head .before .before .before .before .before in
     let x = answer .step-comparison in
     record {
       round =
           record {
             kind = start .pre .1 .1 .0;
-            some-fuel = answer .before .before .before .before .before .loop-test .taken;
-            compared = x .ensures (head .loop .xmms);
+            some-fuel = answer .before .before .before .before .loop-test .taken;
+            compared = x .ensures (start .args .fill) (head .loop .flags) (head .loop .xmms);
             read = c .before .if1 .left;
             end-is = ap (λ (n : ℕ). x .result .next + n) (c .number4 .ensures .0);
           };
