@@ -22,7 +22,7 @@ extern "C" {
 /* How a run ended. */
 enum pokchrei_kind {
     POKCHREI_DONE = 0,    /* after the last code */
-    POKCHREI_FAULT = 1,   /* a check failed: its number (a pokchrei_fault), and the place of what it is a check of */
+    POKCHREI_FAULT = 1,   /* a check failed: number (a pokchrei_fault), and place of its instruction or comparison */
     POKCHREI_SPENT = 2,   /* a While was met without fuel: its place */
     POKCHREI_REFUSED = 3, /* code (1 to 6) or cells (11 to 15) were not accepted: number, and place or index */
     POKCHREI_STOPPED = 4  /* the limit was used up: its number (a pokchrei_stop), and the place of what came next */

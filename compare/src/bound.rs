@@ -1,5 +1,5 @@
-//! How many steps a run of some code can make at most: n times (F+1) to the
-//! power d, for n codes, Whiles nested d deep and fuel F.
+//! An upper bound of a run's steps, from its fuel, the number of its codes and
+//! how deep its Whiles stand in each other.
 
 use crate::tree::{Code, Node};
 

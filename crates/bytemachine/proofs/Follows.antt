@@ -18,7 +18,7 @@ use Rattle.code.specs.Reader.{Read, got, trouble, parse}
 use Rattle.code.specs.WellFormed.{Bytes, WfCode}
 use Rattle.code.proofs.Accepted.{parse-wf}
 use Rattle.eval.specs.Config.{Env, Config, config, Outcome, End, ends, done, stopped, spent, refused}
-use Rattle.eval.specs.Counted.{counted, Ended}
+use Rattle.eval.specs.Counted.{nothing-counted, Ended}
 use Rattle.eval.specs.Running.{run-code, run-checked, run-read, run-of}
 use Rattle.eval.proofs.Larger.{more-fuel, no-limit}
 use Rattle.stores.proofs.OnlyStores.{only-stores, runs-tree}
@@ -29,7 +29,7 @@ use Rattle.bytemachine.proofs.Runs.{Reaches, both-code}
 
 module _ (env : Env) (limit : Option ℕ) (c : Code) (fuel : ℕ) (s t : Config) (m : ByteMemory) (fits : WfCode c) (start : IsStart s)
     (cells : check-cells (env .addresses) (env .tags) (s .values) ≡ accepted) (agrees : Agree (env .addresses) (env .tags) (s .values) m)
-    (is-done : run-code env limit c fuel s (counted 0) .end ≡ ends done t) where
+    (is-done : run-code env limit c fuel s nothing-counted .end ≡ ends done t) where
   kept : Kept env s
   kept = record { regs-words = start .regs-words; xmms-words = start .xmms-words; cells = accepted-of _ _ _ cells }
 
@@ -37,24 +37,24 @@ module _ (env : Env) (limit : Option ℕ) (c : Code) (fuel : ℕ) (s t : Config)
   laid = agree-over 0 (env .addresses) (env .tags) (s .values) m (kept .cells .ordered) agrees
 
   -- it is neither spent nor stopped
-  other : (o : Outcome) → (o ≡ done → ⊥) → run-code env limit c fuel s (counted 0) .end .how ≡ o → ⊥
+  other : (o : Outcome) → (o ≡ done → ⊥) → run-code env limit c fuel s nothing-counted .end .how ≡ o → ⊥
   other o is-not e = is-not (sym e ∙ ap (λ (x : End). x .how) is-done)
 
-  more : (g : ℕ) → fuel ≤ g → run-code env limit c g s (counted 0) ≡ run-code env limit c fuel s (counted 0)
-  more g le = more-fuel env limit c fuel g le s (counted 0) (λ p. other (spent p) (λ z. let y : _≡_ {A = ℕ} 0 1 = cc in omega arith))
+  more : (g : ℕ) → fuel ≤ g → run-code env limit c g s nothing-counted ≡ run-code env limit c fuel s nothing-counted
+  more g le = more-fuel env limit c fuel g le s nothing-counted (λ p. other (spent p) (λ z. let y : _≡_ {A = ℕ} 0 1 = cc in omega arith))
 
   -- so without a limit, and at every larger fuel, it ends as it does
-  unlimited : (g : ℕ) → fuel ≤ g → run-code env none c g s (counted 0) .end ≡ ends done t
+  unlimited : (g : ℕ) → fuel ≤ g → run-code env none c g s nothing-counted .end ≡ ends done t
   unlimited g le =
       ap (λ (x : Ended). x .end)
-      (no-limit env c g s (counted 0) limit
+      (no-limit env c g s nothing-counted limit
       (λ n p e.
       other (stopped n p) (λ z. let y : _≡_ {A = ℕ} 0 1 = cc in omega arith) (ap (λ (x : Ended). x .end .how) (sym (more g le)) ∙ e))
       ∙ more g le)
       ∙ is-done
 
   reached : (g : ℕ) → fuel ≤ g → Reaches env m (exec (env .fill) c g (lay env m s)) s t
-  reached g le = both-code env m c g fits s t (counted 0) kept (unlimited g le)
+  reached g le = both-code env m c g fits s t nothing-counted kept (unlimited g le)
 
   machine : (g : ℕ) → fuel ≤ g → exec (env .fill) c g (over-bytes s m) ≡ some (lay env m t)
   machine g le = ap (λ (b : ByteMemory). exec (env .fill) c g (over-bytes s b)) (sym laid) ∙ reached g le .same
@@ -89,7 +89,7 @@ record Ran (code : List ℕ) (env : Env) (fuel : ℕ) (limit : Option ℕ) (s t 
   next : ℕ
   is-read : parse code ≡ got tree next
   cells : check-cells (env .addresses) (env .tags) (s .values) ≡ accepted
-  ran : run-code env limit tree fuel s (counted 0) .end ≡ ends done t
+  ran : run-code env limit tree fuel s nothing-counted .end ≡ ends done t
 
 ran-of : (code : List ℕ) (env : Env) (fuel : ℕ) (limit : Option ℕ) (s t : Config)
     → run-of code env fuel limit s .end ≡ ends done t → Ran code env fuel limit s t
@@ -114,7 +114,7 @@ follows-of code env fuel limit s t m bytes start agrees e =
     let r = ran-of code env fuel limit s t e in
     let fits = parse-wf code bytes (r .tree) (r .next) (r .is-read) in
     let d = follows env limit (r .tree) fuel s t m fits start (r .cells) agrees (r .ran) in
-    let tree : (g : ℕ) → run-of code env g limit s ≡ run-code env limit (r .tree) g s (counted 0) =
+    let tree : (g : ℕ) → run-of code env g limit s ≡ run-code env limit (r .tree) g s nothing-counted =
     λ g. runs-tree code env g limit s (r .tree) (r .next) (r .is-read) (r .cells)
     in
     record {

@@ -15,7 +15,7 @@ use Rattle.code.specs.WellFormed.{WfCode, WfCodes}
 use Rattle.eval.specs.Config.{Env, Config, with-flags, End, ends, Outcome, done, fault, stopped, spent, refused, check}
 use Rattle.eval.specs.Instructions.{valid-operand, eval-operand, valid-ocmp, ocmp-number, eval-ocmp}
 use Rattle.eval.specs.Counted.{Counted, ended, Part, continue, used-up, count, step}
-use Rattle.eval.specs.Running.{run-ocmp, choose, rounds, run-code, run-codes}
+use Rattle.eval.specs.Running.{run-ocmp, decide, rounds, run-code, run-codes}
 use Rattle.bytemachine.specs.ByteMachine.{BState, read, test, branch, go-on, loop, exec, execs}
 use Rattle.bytemachine.proofs.Operands.{Kept, with-flags-kept, lay, reads}
 use Rattle.bytemachine.proofs.Instructions.{is-done, follows-ins}
@@ -75,8 +75,8 @@ module _ (env : Env) (memory : ByteMemory) where
 
   -- of the run without a limit, which tries each step
   both-ocmp : (q : ℕ) (c : Ocmp) (f g : Part) (l m : BState → Option BState) → Both f l → Both g m
-      → Both (choose env none q c f g) (λ b. branch (env .fill) (test (env .fill) c b) l m b)
-  unfolding choose run-ocmp check step used-up count continue branch
+      → Both (decide env none q c f g) (λ b. branch (env .fill) (test (env .fill) c b) l m b)
+  unfolding decide run-ocmp check step used-up count continue branch
   both-ocmp q c f g l m F G s t j k e = checked (valid-ocmp env c s) refl e
     where
       after : Config

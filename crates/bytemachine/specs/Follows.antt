@@ -8,7 +8,7 @@ use Rattle.machine.specs.Bytes.{ByteMemory, Agree, Outside64}
 use Rattle.code.specs.Tree.{Code}
 use Rattle.code.specs.Reader.{got, parse}
 use Rattle.eval.specs.Config.{Env, Config}
-use Rattle.eval.specs.Counted.{counted}
+use Rattle.eval.specs.Counted.{nothing-counted}
 use Rattle.eval.specs.Running.{run-code, run-of}
 use Rattle.bytemachine.specs.ByteMachine.{BState, exec}
 
@@ -21,7 +21,7 @@ pub record IsStart (s : Config) : Type 0 where
 abbrev pub over-bytes : Config → ByteMemory → BState
 over-bytes s m = record { regs = s .regs; xmms = s .xmms; flags = s .flags; bytes = m }
 
--- the machine, from the start s over the memory m, beside a run from s that is done with t
+-- the machine, from the start s over the memory m, beside a run from s that is done with t: that it is, the third demand asks before this
 pub record Follows (env : Env) (limit : Option ℕ) (c : Code) (fuel : ℕ) (s t : Config) (m : ByteMemory) : Type 0 where
   -- the machine ends
   pub end : BState
@@ -38,7 +38,7 @@ pub record Follows (env : Env) (limit : Option ℕ) (c : Code) (fuel : ℕ) (s t
   pub rsp-run : reg-at (t .regs) Rsp ≡ reg-at (s .regs) Rsp
   pub rsp-machine : reg-at (end .regs) Rsp ≡ reg-at (s .regs) Rsp
   -- at every larger fuel both have the same end
-  pub more-run : (g : ℕ) → fuel ≤ g → run-code env limit c g s (counted 0) ≡ run-code env limit c fuel s (counted 0)
+  pub more-run : (g : ℕ) → fuel ≤ g → run-code env limit c g s nothing-counted ≡ run-code env limit c fuel s nothing-counted
   pub more-machine : (g : ℕ) → fuel ≤ g → exec (env .fill) c g (over-bytes s m) ≡ some end
 
 -- the same of Running: the code that was read is what the machine takes

@@ -24,8 +24,8 @@ use Rattle.eval.specs.Config.{Env, Config, with-flags, with-values, Outcome, do
 use Rattle.eval.specs.Counted.{counted, Ended, ended, continue, used-up, count, step}
 use Rattle.eval.specs.Instructions.{add-flags, two-word, two-flags, quads-word, quads-flags, shifts-word, inserts-word, cell-of, valid-operand, eval-operand, valid-dst-operand, update-operand, act, run-ins, valid-ocmp, eval-ocmp}
 use Rattle.job.specs.Text.{digits, name-of, first-line, reg-lines, xmm-lines, cell-lines, render}
-use Rattle.job.specs.Job.{numbers, check-job, end-checked, output}
-use Rattle.eval.specs.Running.{run-ocmp, choose, rounds, run-code, run-checked, run-read, run-of}
+use Rattle.job.specs.Job.{numbers, largest-limit, check-job, end-checked, output}
+use Rattle.eval.specs.Running.{run-ocmp, decide, rounds, run-code, run-checked, run-read, run-of}
 
 -- what document 01 gives to a kernel, with the step limit of request 2026-04, and the end that they name
 pub record Kernel : Type 0 where
@@ -148,7 +148,7 @@ limited =
     ∷ row-at count-down (no-cells 0) 3 6 (rax 3) (spent 0) (rax 0) 6
     -- P10: no fuel and no step is Spent
     ∷ row-at never (no-cells 0) 0 0 zeros (spent 0) zeros 0
-    -- P1: no step; one
+    -- Add64 Rax, 1, with no step and with one
     ∷ row-at add-one (no-cells 0) 0 0 (rax 5) (stopped 37 0) (rax 5) 0
     ∷ row-at add-one (no-cells 0) 0 1 (rax 5) done (rax 6) 1
     -- P8 by 5: Stopped ahead of the check that would fail, and with a step to make the Fault
@@ -158,7 +158,7 @@ limited =
 
 -- Running, with all that it computes with opened
 unfoldable pub ran : Kernel → Ended
-unfolding run-of run-read run-checked run-code rounds choose run-ocmp continue used-up count step check
+unfolding run-of run-read run-checked run-code rounds decide run-ocmp continue used-up count step check
     cell-of valid-operand eval-operand valid-dst-operand update-operand act run-ins valid-ocmp eval-ocmp add-flags two-word two-flags
     quads-word quads-flags shifts-word inserts-word
     find-cell eqℤ eval-maddr wild wild-operand valid-dst xmm-at set-xmm
@@ -216,8 +216,8 @@ cells-hold = refl
 -- the run of the job: Add64 of Rax, 5, to a cell at 4096 tagged 64 with value 7
 pub job : List Kernel
 job =
-    row (0x02 ∷ 0x42 ∷ 0x00 ∷ 0x10 ∷ 0x00 ∷ 0x00 ∷ 0x00 ∷ 0x00 ∷ 0x00 ∷ 0x00 ∷ 0x41 ∷ 0x00 ∷ [])
-    (one-cell 4096) 0 (with-values (7 ∷ []) (rax 5)) done (with-values (12 ∷ []) (rax 5)) 1
+    row-at (0x02 ∷ 0x42 ∷ 0x00 ∷ 0x10 ∷ 0x00 ∷ 0x00 ∷ 0x00 ∷ 0x00 ∷ 0x00 ∷ 0x00 ∷ 0x41 ∷ 0x00 ∷ [])
+    (one-cell 4096) 0 largest-limit (with-values (7 ∷ []) (rax 5)) done (with-values (12 ∷ []) (rax 5)) 1
     ∷ []
 
 -- done, 1 step, flags 0, Rax 5, the cell 12, and all else 0

@@ -1,7 +1,7 @@
 -- The bound on steps. With fuel at most F each code of a list, each way of an IfElse and each round of a While adds its own share; a While of fuel f has at
 -- most f rounds. Assumes nothing.
-use Prim.Native.Nat.{ℕ, zero, suc, _+_, _*_, _^_, _≤_, _<_, max}
-use mathlib.Core.Path.{_≡_, refl, sym, ap, subst, _∙_}
+use Prim.Native.Nat.{ℕ, zero, suc, _+_, _*_, _^_, _≤_}
+use mathlib.Core.Path.{_≡_, sym, ap, _∙_}
 use mathlib.Core.Bool.{Bool, true, false, cond}
 use mathlib.Core.List.{List}
 use mathlib.Core.Option.{Option}
@@ -13,9 +13,9 @@ use Rattle.code.specs.declared.tree.Ocmp.{Ocmp}
 use Rattle.code.specs.Tree.{Code, Ins, Block, IfElse, While, Codes, ⟨⟩, _∷ᶜ_}
 use Rattle.code.specs.Reader.{got, parse}
 use Rattle.eval.specs.Config.{Env, Config, Outcome, done, fault, stopped, spent, refused, End}
-use Rattle.eval.specs.Counted.{Counted, counted, Ended, ended, Part, continue, and-then, used-up, count, step}
+use Rattle.eval.specs.Counted.{Counted, nothing-counted, Ended, ended, Part, continue, and-then, used-up, count, step}
 use Rattle.eval.specs.Instructions.{run-ins, eval-ocmp}
-use Rattle.eval.specs.Running.{run-ocmp, choose, rounds, run-code, run-codes, run-checked, run-read, run-of}
+use Rattle.eval.specs.Running.{run-ocmp, decide, rounds, run-code, run-codes, run-checked, run-read, run-of}
 use Rattle.demands.specs.Stepping.{codes, codes-in, whiles, whiles-in}
 
 -- a part makes at most n steps
@@ -55,9 +55,9 @@ module _ (limit : Option ℕ) where
       go false o = counts o
 
   module _ (env : Env) where
-    at-most-choose : (q : ℕ) (c : Ocmp) (n : ℕ) (f g : Part) → AtMost n f → AtMost n g → AtMost (1 + n) (choose env limit q c f g)
-    unfolding choose
-    at-most-choose q c n f g F G s k =
+    at-most-decide : (q : ℕ) (c : Ocmp) (n : ℕ) (f g : Part) → AtMost n f → AtMost n g → AtMost (1 + n) (decide env limit q c f g)
+    unfolding decide
+    at-most-decide q c n f g F G s k =
         let h = at-most-then (k .steps + 1) n (step limit q (run-ocmp env q c) s k) (cond (eval-ocmp env c s) f g)
         (at-most-step q (run-ocmp env q c) s k) (at-most-cond (eval-ocmp env c s) n f g F G)
         in
@@ -75,7 +75,7 @@ module _ (limit : Option ℕ) where
         let w = at-most-then (l .steps + n) (f * suc n) (body f t l) (rounds env limit body p q c f) (h f (omega arith) t l) rest in
         omega (arith, w)
         in
-        let all = at-most-choose q c (n + f * suc n) round (ended done) one (λ t l. omega arith) s k in
+        let all = at-most-decide q c (n + f * suc n) round (ended done) one (λ t l. omega arith) s k in
         omega (arith, all, suc-mul f (suc n))
 
     -- a code of n codes whose Whiles are nested at most d deep, with fuel at most F
@@ -88,8 +88,8 @@ module _ (limit : Option ℕ) where
       some-share d = one-le-pow d (F + 1) (omega arith)
 
       -- a code more has its share
-      one-more : (n d : ℕ) → suc n * Share d ≡ n * Share d + Share d
-      one-more n d = suc-mul n (Share d)
+      code-more : (n d : ℕ) → suc n * Share d ≡ n * Share d + Share d
+      code-more n d = suc-mul n (Share d)
 
       -- F + 1 times as much is the share one While deeper
       deeper : (n d : ℕ) → (F + 1) * (n * Share d) ≡ n * Share (suc d)
@@ -99,24 +99,24 @@ module _ (limit : Option ℕ) where
         unfolding codes codes-in whiles whiles-in run-code run-codes
 
         at-most-code : (c : Code) (d : ℕ) → whiles c ≤ d → (f : ℕ) → f ≤ F → AtMost (codes c * Share d) (run-code env limit c f)
-        at-most-code (Ins p i) d le f lf s k = omega (arith, at-most-step p (run-ins env p i) s k, some-share d, one-more 0 d)
-        at-most-code (Block p cs) d le f lf s k = omega (arith, at-most-codes cs d le f lf s k, one-more (codes-in cs) d)
+        at-most-code (Ins p i) d le f lf s k = omega (arith, at-most-step p (run-ins env p i) s k, some-share d, code-more 0 d)
+        at-most-code (Block p cs) d le f lf s k = omega (arith, at-most-codes cs d le f lf s k, code-more (codes-in cs) d)
         at-most-code (IfElse p q c a b) d le f lf s k =
             let m = (codes a + codes b) * Share d in
             let both : m ≡ codes a * Share d + codes b * Share d = add-mul (codes a) (codes b) (Share d) in
             let A = at-most-code a d (omega (arith, le, le-max-left (whiles a) (whiles b))) f lf in
             let B = at-most-code b d (omega (arith, le, le-max-right (whiles a) (whiles b))) f lf in
-            let w = at-most-choose q c m (run-code env limit a f) (run-code env limit b f)
+            let w = at-most-decide q c m (run-code env limit a f) (run-code env limit b f)
             (λ t l. omega (arith, A t l, both)) (λ t l. omega (arith, B t l, both)) s k
             in
-            omega (arith, w, some-share d, one-more (codes a + codes b) d)
+            omega (arith, w, some-share d, code-more (codes a + codes b) d)
         at-most-code (While p q c b) zero le f lf s k = absurd (omega (arith, le))
         at-most-code (While p q c b) (suc d) le f lf s k =
             let n = codes b * Share d in
             let w = at-most-rounds (run-code env limit b) p q c n f (λ g lg. at-most-code b d (omega (arith, le)) g (omega (arith, lg, lf))) s k in
             let rounds-fewer : f * suc n ≤ (F + 1) * suc n = mul-le-mul-right (suc n) (omega (arith, lf)) in
             let share-more : (F + 1) * suc n ≤ (F + 1) * (suc (codes b) * Share d) =
-            mul-le-mul-left (F + 1) (omega (arith, some-share d, one-more (codes b) d))
+            mul-le-mul-left (F + 1) (omega (arith, some-share d, code-more (codes b) d))
             in
             omega (arith, w, rounds-fewer, share-more, deeper (suc (codes b)) d)
 
@@ -135,6 +135,6 @@ bounded code env fuel limit s c next e = rw e (go (check-cells (env .addresses) 
   where
     go : (v : Verdict) → run-checked env v c fuel limit s .counted .steps ≤ codes c * (fuel + 1) ^ whiles c
     go accepted =
-        let h = at-most-code limit env fuel c (whiles c) (omega arith) fuel (omega arith) s (counted 0) in
+        let h = at-most-code limit env fuel c (whiles c) (omega arith) fuel (omega arith) s nothing-counted in
         omega (arith, h)
     go (cells-refused n i) = omega arith

@@ -12,7 +12,7 @@ use Rattle.code.specs.Reader.{Read, got, trouble, parse, verdict-of, check-code
 use Rattle.code.specs.WellFormed.{Bytes}
 use Rattle.code.proofs.Reading.{reading}
 use Rattle.eval.specs.Config.{Env, Config, config, ends, refused}
-use Rattle.eval.specs.Counted.{counted, Ended, ended}
+use Rattle.eval.specs.Counted.{nothing-counted, Ended, ended}
 use Rattle.eval.specs.Running.{run-checked, run-read, run-of}
 use Rattle.stores.specs.OnlyStores.{OnlyStores}
 use Rattle.stores.proofs.OnlyStores.{only-stores, fault-writes-nothing, never-refused, runs-tree}
@@ -28,12 +28,12 @@ read-refused (got c next) n p e = cc
 read-refused (trouble m q) n p e = cc
 
 module _ (code : List ℕ) (bytes : Bytes code) (env : Env) (fuel : ℕ) (limit : Option ℕ) (s : Config) where
-  bad-code : (n p : ℕ) → check-code code ≡ cells-refused n p → ran code env fuel limit s ≡ ended (refused n p) s (counted 0)
+  bad-code : (n p : ℕ) → check-code code ≡ cells-refused n p → ran code env fuel limit s ≡ ended (refused n p) s nothing-counted
   unfolding run-of run-read check-code
   bad-code n p e = rw (read-refused (parse code) n p e)
 
   bad-cells : (n i : ℕ) → check-code code ≡ accepted → cells code env fuel limit s ≡ cells-refused n i
-      → ran code env fuel limit s ≡ ended (refused n i) s (counted 0)
+      → ran code env fuel limit s ≡ ended (refused n i) s nothing-counted
   unfolding run-of run-read run-checked
   bad-cells n i e k = rw (reading code .accepts e .1, k)
 

@@ -1,5 +1,5 @@
 -- A run under a limit beside the run without one: they go the same way, until a step is tried with the limit used up. Assumes nothing.
-use Prim.Native.Nat.{ℕ, zero, suc, _+_, _≤_, _<_}
+use Prim.Native.Nat.{ℕ, zero, suc, _≤_, _<_}
 use mathlib.Core.Path.{_≡_, refl, sym, ap, subst, subst⁻¹, _∙_}
 use mathlib.Core.Bool.{Bool, true, false, cond}
 use mathlib.Core.List.{List, [], _∷_}
@@ -7,7 +7,6 @@ use mathlib.Core.Logic.{_⊎_, inl, inr, ⊎-elim}
 use mathlib.Core.Option.{Option, none, some}
 use native.Mathlib.Omega.{arith}
 use borrow.Author.Tests.{leb-true, leb-false}
-use lib.Dec.{leb}
 use Rattle.machine.specs.Cells.{Verdict, accepted, check-cells}
 use Rattle.machine.specs.Cells.{refused as cells-refused}
 use Rattle.machine.specs.declared.Operand.{Operand}
@@ -15,10 +14,10 @@ use Rattle.code.specs.declared.tree.Instruction.{Instruction}
 use Rattle.code.specs.declared.tree.Ocmp.{Ocmp}
 use Rattle.code.specs.Tree.{Code, Ins, Block, IfElse, While, Codes, ⟨⟩, _∷ᶜ_}
 use Rattle.code.specs.Reader.{Read, got, trouble, parse}
-use Rattle.eval.specs.Config.{Env, Config, with-flags, Outcome, done, fault, stopped, spent, refused, End, ends, check}
-use Rattle.eval.specs.Counted.{Counted, counted, Ended, ended, Part, continue, and-then, used-up, count, step, NotStopped}
+use Rattle.eval.specs.Config.{Env, Config, Outcome, done, fault, stopped, spent, refused, End, ends, check, NotStopped}
+use Rattle.eval.specs.Counted.{Counted, nothing-counted, Ended, ended, Part, continue, and-then, used-up, count, step}
 use Rattle.eval.specs.Instructions.{readable, ruled, written, update-operand, act, run-ins, valid-ocmp, eval-ocmp}
-use Rattle.eval.specs.Running.{run-ocmp, choose, rounds, run-code, run-codes, run-checked, run-read, run-of}
+use Rattle.eval.specs.Running.{run-ocmp, decide, rounds, run-code, run-codes, run-checked, run-read, run-of}
 use Rattle.eval.proofs.StepLaws.{step-stopped, step-tried}
 use Rattle.demands.specs.Stepping.{StepAt, StepIn, tried, DoneOrFails, is-done, fails, Stepping}
 use Rattle.demands.proofs.Bound.{bounded}
@@ -63,9 +62,9 @@ steps-tried (spent p) k = omega arith
 steps-tried (refused n p) k = omega arith
 
 -- a failed one is not counted
-uncounted : (n p : ℕ) (s : Config) (k : Counted) → ended (fault n p) s (count (fault n p) k) ≡ ended (fault n p) s k
+fault-uncounted : (n p : ℕ) (s : Config) (k : Counted) → ended (fault n p) s (count (fault n p) k) ≡ ended (fault n p) s k
 unfolding count
-uncounted n p s k = refl
+fault-uncounted n p s k = refl
 
 -- ---- the run e under the limit L beside the run u without one
 module _ (L : ℕ) where
@@ -73,8 +72,8 @@ module _ (L : ℕ) where
   -- many steps, at its place and with what it leaves
   data Against (e u : Ended) : Type 0 where
     same : e ≡ u → tried (u .end .how) (u .counted) ≤ L → Against e u
-    cut : (p : ℕ) (t : Config) → e ≡ ended (stopped 37 p) t (counted L) → L < tried (u .end .how) (u .counted)
-        → ((n q : ℕ) (v : Config) → u ≡ ended (fault n q) v (counted L) → (p ≡ q) × (t ≡ v)) → Against e u
+    cut : (p : ℕ) (t : Config) (k : Counted) → e ≡ ended (stopped 37 p) t k → k .steps ≡ L → L < tried (u .end .how) (u .counted)
+        → ((n q : ℕ) (v : Config) → u .end ≡ ends (fault n q) v → u .counted .steps ≡ L → (p ≡ q) × (t ≡ v)) → Against e u
 
   -- u counts on from k and is not stopped, and e is so beside it, where k leaves the limit unsurpassed
   record Beside (k : Counted) (e u : Ended) : Type 0 where
@@ -99,22 +98,23 @@ module _ (L : ℕ) where
   beside-cond false f g f′ g′ F G = G
 
   -- an end that is stopped stays so
-  still : (e : Ended) (f : Part) (p : ℕ) (t : Config) → e ≡ ended (stopped 37 p) t (counted L) → and-then e f ≡ ended (stopped 37 p) t (counted L)
+  still : (e : Ended) (f : Part) (p : ℕ) (t : Config) (k : Counted) → e ≡ ended (stopped 37 p) t k → and-then e f ≡ ended (stopped 37 p) t k
   unfolding continue
-  still e f p t x = ap (λ y. and-then y f) x
+  still e f p t k x = ap (λ y. and-then y f) x
 
   -- behind an end u that nothing follows
   stays : (e u : Ended) (f : Part) → and-then u f ≡ u → Against e u → Against (and-then e f) u
   stays e u f w (same x m) = same (ap (λ y. and-then y f) x ∙ w) m
-  stays e u f w (cut q v x m z) = cut q v (still e f q v x) m z
+  stays e u f w (cut q v k x y m z) = cut q v k (still e f q v k x) y m z
 
   -- behind one that is done
-  goes-on : (e : Ended) (t : Config) (l : Counted) (f g : Part) → Beside l (f t l) (g t l) → Against e (ended done t l) → Against (and-then e f) (g t l)
+  behind-done :
+      (e : Ended) (t : Config) (l : Counted) (f g : Part) → Beside l (f t l) (g t l) → Against e (ended done t l) → Against (and-then e f) (g t l)
   unfolding continue tried
-  goes-on e t l f g rest (same x n) = subst⁻¹ (λ (y : Ended). Against (and-then y f) (g t l)) x (rest .against n)
-  goes-on e t l f g rest (cut p v x n z) =
-      cut p v (still e f p v x) (omega (arith, n, rest .grows, steps-tried (g t l .end .how) (g t l .counted)))
-      (λ m q w y. absurd (omega (arith, n, rest .grows, ap (λ (r : Ended). r .counted .steps) y)))
+  behind-done e t l f g rest (same x n) = subst⁻¹ (λ (y : Ended). Against (and-then y f) (g t l)) x (rest .against n)
+  behind-done e t l f g rest (cut p v k x i n z) =
+      cut p v k (still e f p v k x) i (omega (arith, n, rest .grows, steps-tried (g t l .end .how) (g t l .counted)))
+      (λ m q w y steps. absurd (omega (arith, n, rest .grows, steps)))
 
   beside-then : (k : Counted) (e u : Ended) (f g : Part) → Beside k e u → AllBeside f g → Beside k (and-then e f) (and-then u g)
   unfolding continue
@@ -126,7 +126,7 @@ module _ (L : ℕ) where
           record {
             grows = omega (arith, b .grows, rest .grows);
             unstopped = rest .unstopped;
-            against = λ le. goes-on e t l f g rest (b .against le);
+            against = λ le. behind-done e t l f g rest (b .against le);
           }
       go (fault n p) t l b = record { grows = b .grows; unstopped = b .unstopped; against = λ le. stays e _ f refl (b .against le) }
       go (stopped n p) t l b = absurd (b .unstopped n p refl)
@@ -135,12 +135,10 @@ module _ (L : ℕ) where
 
   -- a step that is done, or fails
   module _ (p : ℕ) (act : Config → End) (s : Config) (k : Counted) where
-    -- with the limit used up, and without it
-    stopped-there : used-up (some L) k ≡ true → k .steps ≤ L → step (some L) p act s k ≡ ended (stopped 37 p) s (counted L)
+    -- the limit is used up by as many steps
+    full : used-up (some L) k ≡ true → k .steps ≤ L → k .steps ≡ L
     unfolding used-up
-    stopped-there b le =
-        let m : k .steps ≡ L = omega (arith, le, leb-true L (k .steps) b) in
-        step-stopped (some L) p act s k b ∙ ap (λ n. ended (stopped 37 p) s (counted n)) m
+    full b le = omega (arith, le, leb-true L (k .steps) b)
 
     tried-there : (o : Outcome) (t : Config) → act s ≡ ends o t → step none p act s k ≡ ended o t (count o k)
     unfolding used-up
@@ -156,8 +154,8 @@ module _ (L : ℕ) where
       where
         go : (b : Bool) → used-up (some L) k ≡ b → k .steps ≤ L → Against (step (some L) p act s k) (ended done t (count done k))
         go true b le =
-            cut p s (stopped-there b le) (omega (arith, leb-true L (k .steps) b, le))
-            (λ m q v y. let x : done ≡ fault m q = ap (λ (r : Ended). r .end .how) y in absurd (let z : _≡_ {A = ℕ} 0 1 = cc in omega arith))
+            cut p s k (step-stopped (some L) p act s k b) (full b le) (omega (arith, full b le))
+            (λ m q v y _. let x : done ≡ fault m q = ap (λ (r : End). r .how) y in absurd (let z : _≡_ {A = ℕ} 0 1 = cc in omega arith))
         go false b le = same (step-tried (some L) p act s k b done t (sym e)) (omega (arith, leb-false L (k .steps) b))
 
     beside-failed : (n : ℕ) → act s ≡ ends (fault n p) s → Beside k (step (some L) p act s k) (ended (fault n p) s k)
@@ -170,10 +168,10 @@ module _ (L : ℕ) where
       where
         go : (b : Bool) → used-up (some L) k ≡ b → k .steps ≤ L → Against (step (some L) p act s k) (ended (fault n p) s k)
         go true b le =
-            cut p s (stopped-there b le) (omega (arith, leb-true L (k .steps) b, le))
-            (λ m q v y.
-            let x : fault n p ≡ fault m q = ap (λ (r : Ended). r .end .how) y in
-            (cc, ap (λ (r : Ended). r .end .config) y))
+            cut p s k (step-stopped (some L) p act s k b) (full b le) (omega (arith, full b le))
+            (λ m q v y _.
+            let x : fault n p ≡ fault m q = ap (λ (r : End). r .how) y in
+            (cc, ap (λ (r : End). r .config) y))
         go false b le = same (step-tried (some L) p act s k b (fault n p) s (sym e)) (omega (arith, leb-false L (k .steps) b))
 
   beside-step : (p : ℕ) (act : Config → End) → ((s : Config) → DoneOrFails p s (act s)) → AllBeside (step (some L) p act) (step none p act)
@@ -182,14 +180,14 @@ module _ (L : ℕ) where
       go : DoneOrFails p s (act s) → Beside k (step (some L) p act s k) (step none p act s k)
       go (is-done t e) = subst⁻¹ (λ (x : Ended). Beside k (step (some L) p act s k) x) (tried-there p act s k done t e) (beside-made p act s k t e)
       go (fails n e) =
-          subst⁻¹ (λ (x : Ended). Beside k (step (some L) p act s k) x) (tried-there p act s k (fault n p) s e ∙ uncounted n p s k)
+          subst⁻¹ (λ (x : Ended). Beside k (step (some L) p act s k) x) (tried-there p act s k (fault n p) s e ∙ fault-uncounted n p s k)
           (beside-failed p act s k n e)
 
   module _ (env : Env) where
-    beside-choose : (q : ℕ) (c : Ocmp) (f g f′ g′ : Part) → AllBeside f f′ → AllBeside g g′
-        → AllBeside (choose env (some L) q c f g) (choose env none q c f′ g′)
-    unfolding choose
-    beside-choose q c f g f′ g′ F G s k =
+    beside-decide : (q : ℕ) (c : Ocmp) (f g f′ g′ : Part) → AllBeside f f′ → AllBeside g g′
+        → AllBeside (decide env (some L) q c f g) (decide env none q c f′ g′)
+    unfolding decide
+    beside-decide q c f g f′ g′ F G s k =
         beside-then k _ _ _ _ (beside-step q (run-ocmp env q c) (λ t. either-ocmp q t env c) s k) (beside-cond (eval-ocmp env c s) f g f′ g′ F G)
 
     beside-rounds : (body body′ : ℕ → Part) → ((f : ℕ) → AllBeside (body f) (body′ f)) → (p q : ℕ) (c : Ocmp) (f : ℕ)
@@ -197,7 +195,7 @@ module _ (L : ℕ) where
     unfolding rounds
     beside-rounds body body′ h p q c zero s k = beside-spent p s k
     beside-rounds body body′ h p q c (suc f) s k =
-        beside-choose q c _ _ _ _ (λ t l. beside-then l _ _ _ _ (h f t l) (beside-rounds body body′ h p q c f)) beside-done s k
+        beside-decide q c _ _ _ _ (λ t l. beside-then l _ _ _ _ (h f t l) (beside-rounds body body′ h p q c f)) beside-done s k
 
     mutual
       unfolding run-code run-codes
@@ -205,7 +203,7 @@ module _ (L : ℕ) where
       beside-code : (c : Code) (f : ℕ) → AllBeside (run-code env (some L) c f) (run-code env none c f)
       beside-code (Ins p i) f s k = beside-step p (run-ins env p i) (λ t. either-ins p t env i) s k
       beside-code (Block p cs) f s k = beside-codes cs f s k
-      beside-code (IfElse p q c a b) f s k = beside-choose q c _ _ _ _ (beside-code a f) (beside-code b f) s k
+      beside-code (IfElse p q c a b) f s k = beside-decide q c _ _ _ _ (beside-code a f) (beside-code b f) s k
       beside-code (While p q c b) f s k = beside-rounds _ _ (beside-code b) p q c f s k
 
       beside-codes : (cs : Codes) (f : ℕ) → AllBeside (run-codes env (some L) cs f) (run-codes env none cs f)
@@ -213,18 +211,18 @@ module _ (L : ℕ) where
       beside-codes (c ∷ᶜ cs) f s k = beside-then k _ _ _ _ (beside-code c f s k) (beside-codes cs f)
 
     -- Running, of which refusals have no steps
-    beside-run : (code : List ℕ) (fuel : ℕ) (s : Config) → Beside (counted 0) (run-of code env fuel (some L) s) (run-of code env fuel none s)
+    beside-run : (code : List ℕ) (fuel : ℕ) (s : Config) → Beside nothing-counted (run-of code env fuel (some L) s) (run-of code env fuel none s)
     unfolding run-of run-read run-checked tried
     beside-run code fuel s = read (parse code)
       where
-        refuses : (n p : ℕ) → Beside (counted 0) (ended (refused n p) s (counted 0)) (ended (refused n p) s (counted 0))
+        refuses : (n p : ℕ) → Beside nothing-counted (ended (refused n p) s nothing-counted) (ended (refused n p) s nothing-counted)
         refuses n p = record { grows = omega arith; unstopped = λ m q e. let z : _≡_ {A = ℕ} 0 1 = cc in omega arith; against = λ le. same refl le }
 
-        checked : (v : Verdict) (c : Code) → Beside (counted 0) (run-checked env v c fuel (some L) s) (run-checked env v c fuel none s)
-        checked accepted c = beside-code c fuel s (counted 0)
+        checked : (v : Verdict) (c : Code) → Beside nothing-counted (run-checked env v c fuel (some L) s) (run-checked env v c fuel none s)
+        checked accepted c = beside-code c fuel s nothing-counted
         checked (cells-refused n i) c = refuses n i
 
-        read : (r : Read Code) → Beside (counted 0) (run-read env r fuel (some L) s) (run-read env r fuel none s)
+        read : (r : Read Code) → Beside nothing-counted (run-read env r fuel (some L) s) (run-read env r fuel none s)
         read (trouble n p) = refuses n p
         read (got c next) = checked (check-cells (env .addresses) (env .tags) (s .values)) c
 
@@ -236,43 +234,59 @@ module _ (code : List ℕ) (env : Env) (fuel l : ℕ) (s : Config) where
   abbrev u : Ended
   u = run-of code env fuel none s
 
-  both : Beside l (counted 0) e u
+  both : Beside l nothing-counted e u
   both = beside-run l env code fuel s
 
   whole : Against l e u
   whole = both .against (omega arith)
+
+  within : e .counted .steps ≤ l
+  within = go whole
+    where
+      go : Against l e u → e .counted .steps ≤ l
+      go (same x m) = omega (arith, m, steps-tried (u .end .how) (u .counted), ap (λ (r : Ended). r .counted .steps) x)
+      go (cut p t k x i m z) = omega (arith, i, ap (λ (r : Ended). r .counted .steps) x)
 
   not-met : NotStopped (e .end .how) → e ≡ u
   not-met n = go whole
     where
       go : Against l e u → e ≡ u
       go (same x m) = x
-      go (cut p t x m z) = absurd (n 37 p (ap (λ (r : Ended). r .end .how) x))
+      go (cut p t k x i m z) = absurd (n 37 p (ap (λ (r : Ended). r .end .how) x))
 
-  stopped-when : l < tried (u .end .how) (u .counted) → (p : ℕ) × (t : Config) × (e ≡ ended (stopped 37 p) t (counted l))
+  enough : tried (u .end .how) (u .counted) ≤ l → e ≡ u
+  enough h = go whole
+    where
+      go : Against l e u → e ≡ u
+      go (same x m) = x
+      go (cut p t k x i m z) = absurd (omega (arith, h, m))
+
+  stopped-when : l < tried (u .end .how) (u .counted) → (p : ℕ) × (t : Config) × (e .end ≡ ends (stopped 37 p) t) × (e .counted .steps ≡ l)
   stopped-when h = go whole
     where
-      go : Against l e u → (p : ℕ) × (t : Config) × (e ≡ ended (stopped 37 p) t (counted l))
+      go : Against l e u → (p : ℕ) × (t : Config) × (e .end ≡ ends (stopped 37 p) t) × (e .counted .steps ≡ l)
       go (same x m) = absurd (omega (arith, h, m))
-      go (cut p t x m z) = (p, t, x)
+      go (cut p t k x i m z) = (p, t, ap (λ (r : Ended). r .end) x, ap (λ (r : Ended). r .counted .steps) x ∙ i)
 
   stopped-only : (n p : ℕ) → e .end .how ≡ stopped n p → l < tried (u .end .how) (u .counted)
   stopped-only n p h = go whole
     where
       go : Against l e u → l < tried (u .end .how) (u .counted)
       go (same x m) = absurd (both .unstopped n p (ap (λ (r : Ended). r .end .how) (sym x) ∙ h))
-      go (cut q t x m z) = m
+      go (cut q t k x i m z) = m
 
-  before-fault : (n p : ℕ) (t : Config) → u ≡ ended (fault n p) t (counted l) → e ≡ ended (stopped 37 p) t (counted l)
+  before-fault : (n p : ℕ) (t : Config) → u .end ≡ ends (fault n p) t → u .counted .steps ≡ l → (e .end ≡ ends (stopped 37 p) t) × (e .counted .steps ≡ l)
   unfolding tried
-  before-fault n p t h = go whole
+  before-fault n p t h steps = go whole
     where
       tries : tried (u .end .how) (u .counted) ≡ suc l
-      tries = ap (λ (r : Ended). tried (r .end .how) (r .counted)) h
+      tries = ap (λ (o : Outcome). tried o (u .counted)) (ap (λ (r : End). r .how) h) ∙ ap suc steps
 
-      go : Against l e u → e ≡ ended (stopped 37 p) t (counted l)
+      go : Against l e u → (e .end ≡ ends (stopped 37 p) t) × (e .counted .steps ≡ l)
       go (same x m) = absurd (omega (arith, m, tries))
-      go (cut q v x m z) = let w = z n p t h in x ∙ (λ i. ended (stopped 37 (w .0 i)) (w .1 i) (counted l))
+      go (cut q v k x i m z) =
+          let w = z n p t h steps in
+          (ap (λ (r : Ended). r .end) x ∙ (λ j. ends (stopped 37 (w .0 j)) (w .1 j)), ap (λ (r : Ended). r .counted .steps) x ∙ i)
 
   -- the same under a larger limit, by way of the run without
   larger : (m : ℕ) → l ≤ m → NotStopped (e .end .how) → run-of code env fuel (some m) s ≡ e
@@ -280,8 +294,8 @@ module _ (code : List ℕ) (env : Env) (fuel l : ℕ) (s : Config) where
     where
       other : Against l e u → Against m (run-of code env fuel (some m) s) u → run-of code env fuel (some m) s ≡ e
       other (same x a) (same y b) = y ∙ sym x
-      other (same x a) (cut p t y b z) = absurd (omega (arith, a, b, le))
-      other (cut p t x a z) w = absurd (n 37 p (ap (λ (r : Ended). r .end .how) x))
+      other (same x a) (cut p t k y i b z) = absurd (omega (arith, a, b, le))
+      other (cut p t k x i a z) w = absurd (n 37 p (ap (λ (r : Ended). r .end .how) x))
 
       go : Against l e u → run-of code env fuel (some m) s ≡ e
       go w = other w (beside-run m env code fuel s .against (omega arith))
@@ -334,10 +348,10 @@ module _ (limit : Option ℕ) (n p : ℕ) where
       go (refused m q) t l h = inl h
 
   module _ (env : Env) where
-    choose-stops : (q : ℕ) (c : Ocmp) (f g : Part) (A B : Type 0) → (StopsIn f → Says A) → (StopsIn g → Says B)
-        → (s : Config) (k : Counted) → Stops (choose env limit q c f g s k) → Says ((q ≡ p) ⊎ (A ⊎ B))
-    unfolding choose
-    choose-stops q c f g A B F G s k e =
+    decide-stops : (q : ℕ) (c : Ocmp) (f g : Part) (A B : Type 0) → (StopsIn f → Says A) → (StopsIn g → Says B)
+        → (s : Config) (k : Counted) → Stops (decide env limit q c f g s k) → Says ((q ≡ p) ⊎ (A ⊎ B))
+    unfolding decide
+    decide-stops q c f g A B F G s k e =
         ⊎-elim
         (λ h. let w = step-stops q (run-ocmp env q c) s k (either-ocmp q s env c) h in (w .0, inl (w .1)))
         (λ h. go (eval-ocmp env c s) h)
@@ -352,7 +366,7 @@ module _ (limit : Option ℕ) (n p : ℕ) where
     unfolding rounds
     rounds-stop body r q c A inside zero s k e = absurd (is-stopped e)
     rounds-stop body r q c A inside (suc f) s k e =
-        let w = choose-stops q c _ _ ((q ≡ p) ⊎ A) A
+        let w = decide-stops q c _ _ ((q ≡ p) ⊎ A) A
         (λ h. ⊎-elim
         (λ x. let y = inside f (h .0, h .1, x) in (y .0, inr (y .1)))
         (λ x. rounds-stop body r q c A inside f (x .0) (x .1) (x .2))
@@ -368,7 +382,7 @@ module _ (limit : Option ℕ) (n p : ℕ) where
       code-stops (Ins q i) f s k e = step-stops q (run-ins env q i) s k (either-ins q s env i) e
       code-stops (Block q cs) f s k e = codes-stop cs f s k e
       code-stops (IfElse r q c a b) f s k e =
-          choose-stops q c _ _ (StepAt a p) (StepAt b p) (λ h. code-stops a f (h .0) (h .1) (h .2)) (λ h. code-stops b f (h .0) (h .1) (h .2)) s k e
+          decide-stops q c _ _ (StepAt a p) (StepAt b p) (λ h. code-stops a f (h .0) (h .1) (h .2)) (λ h. code-stops b f (h .0) (h .1) (h .2)) s k e
       code-stops (While r q c b) f s k e =
           rounds-stop (run-code env limit b) r q c (StepAt b p) (λ g h. code-stops b g (h .0) (h .1) (h .2)) f s k e
 
@@ -387,7 +401,7 @@ module _ (limit : Option ℕ) (n p : ℕ) where
     run-stops code fuel s e = read (parse code) refl e
       where
         checked : (v : Verdict) (c : Code) → Stops (run-checked env v c fuel limit s) → Says (StepAt c p)
-        checked accepted c e = code-stops c fuel s (counted 0) e
+        checked accepted c e = code-stops c fuel s nothing-counted e
         checked (cells-refused m i) c e = absurd (is-stopped e)
 
         read : (r : Read Code) → parse code ≡ r → Stops (run-read env r fuel limit s)
@@ -398,20 +412,25 @@ module _ (limit : Option ℕ) (n p : ℕ) where
         read (trouble m q) is e = absurd (is-stopped e)
 
 pub stepping : Stepping
-unfolding run-code rounds count
+unfolding run-code rounds count decide continue
 stepping = record {
   instruction = λ env p i s. either-ins p s env i;
   comparison = λ env q c s. either-ocmp q s env c;
-  counts = λ limit p act s t k h e. step-tried limit p act s k h done t (sym e) ∙ ap (λ n. ended done t (counted n)) (omega arith);
+  counts = λ limit p act s t k h e. step-tried limit p act s k h done t (sym e);
+  one-more = λ k. omega arith;
   counts-none = λ limit p act s t k n q h e. step-tried limit p act s k h (fault n q) t (sym e);
   stops = step-stopped;
+  decides = λ env limit q c f g s t k h e.
+      ap (λ (x : Ended). and-then x (cond (eval-ocmp env c s) f g)) (step-tried limit q (run-ocmp env q c) s k h done t (sym e));
   spent-first = λ env limit p q c b s k. refl;
   bounded = bounded;
+  within = within;
   not-met = not-met;
   larger = λ code env fuel l m s le. larger code env fuel l s m le;
   never = λ code env fuel s. both code env fuel 0 s .unstopped;
   stopped-when = stopped-when;
   stopped-only = λ code env fuel l n p s. stopped-only code env fuel l s n p;
+  enough = enough;
   before-fault = λ code env fuel l n p s t. before-fault code env fuel l s n p t;
   placed = λ code env fuel limit n p s. run-stops limit n p env code fuel s;
 }

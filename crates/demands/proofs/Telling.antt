@@ -27,8 +27,8 @@ use Rattle.code.specs.Tree.{Code, Ins, Block, IfElse, While, Codes, ⟨⟩, _�
 use Rattle.code.specs.Reader.{Read, got, trouble, parse}
 use Rattle.eval.specs.Config.{Env, Config, with-flags, Outcome, done, fault, stopped, spent, refused, End, ends, check}
 use Rattle.eval.specs.Instructions.{cell-of, valid-operand, valid-dst-operand, update-operand, readable, ruled, written, act, run-ins, valid-ocmp, ocmp-number, eval-ocmp}
-use Rattle.eval.specs.Counted.{Counted, counted, Ended, ended, Part, continue, and-then, used-up, count, step}
-use Rattle.eval.specs.Running.{run-ocmp, choose, rounds, run-code, run-codes, run-checked, run-read, run-of}
+use Rattle.eval.specs.Counted.{Counted, nothing-counted, Ended, ended, Part, continue, and-then, used-up, count, step}
+use Rattle.eval.specs.Running.{run-ocmp, decide, rounds, run-code, run-codes, run-checked, run-read, run-of}
 use Rattle.source.proofs.OperandLaws.{both}
 use Rattle.demands.specs.Telling.{OutOfRange, Wild, Absent, Unread, wild-src, absent-src, Unwritten, wild-dst, absent-dst, constant, rsp, AllRead, FirstUnread, AllHold, FirstBroken, FirstUnwritten, Fails, FailsAt, FailsIn, rule-numbers, AcceptedCells, Telling}
 
@@ -328,10 +328,10 @@ module _ (env : Env) where
         go (refused m q) u l h = inl h
 
     -- a fault is the comparison's, or that of one of its ways
-    choose-faults : (q : ℕ) (c : Ocmp) (f g : Part) (s : Config) (k : Counted) → Faults (choose env limit q c f g s k)
+    decide-faults : (q : ℕ) (c : Ocmp) (f g : Part) (s : Config) (k : Counted) → Faults (decide env limit q c f g s k)
         → FailsBefore q c ⊎ (FaultsIn f ⊎ FaultsIn g)
-    unfolding choose run-ocmp
-    choose-faults q c f g s k e =
+    unfolding decide run-ocmp
+    decide-faults q c f g s k e =
         ⊎-elim
         (λ h. ⊎-elim
         (λ w. inl (
@@ -359,7 +359,7 @@ module _ (env : Env) where
         (then-faults (body f (x .0) (x .1)) _ (x .2)))
         (λ x. absurd (is-fault (x .2)))
         h)
-        (choose-faults q c _ _ s k e)
+        (decide-faults q c _ _ s k e)
 
     mutual
       unfolding run-code run-codes
@@ -372,7 +372,7 @@ module _ (env : Env) where
       code-faults (IfElse r q c a b) f s k e =
           ⊎-elim (λ h. inl h)
           (λ h. inr (⊎-elim (λ x. inl (code-faults a f (x .0) (x .1) (x .2))) (λ x. inr (code-faults b f (x .0) (x .1) (x .2))) h))
-          (choose-faults q c _ _ s k e)
+          (decide-faults q c _ _ s k e)
       code-faults (While r q c b) f s k e = rounds-fault (run-code env limit b) r q c (FailsAt env b p t n) (code-faults b) f s k e
 
       codes-fault : (cs : Codes) (f : ℕ) (s : Config) (k : Counted) → Faults (run-codes env limit cs f s k) → FailsIn env cs p t n
@@ -387,7 +387,7 @@ module _ (env : Env) where
     run-faults code fuel s e = read (parse code) refl e
       where
         checked : (v : Verdict) (c : Code) → Faults (run-checked env v c fuel limit s) → FailsAt env c p t n
-        checked accepted c e = code-faults c fuel s (counted 0) e
+        checked accepted c e = code-faults c fuel s nothing-counted e
         checked (cells-refused m i) c e = absurd (is-fault e)
 
         read : (r : Read Code) → parse code ≡ r → Faults (run-read env r fuel limit s)

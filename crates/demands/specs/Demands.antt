@@ -15,8 +15,8 @@ use Rattle.code.specs.declared.tree.Instruction.{Instruction}
 use Rattle.code.specs.Tree.{Code}
 use Rattle.code.specs.Reader.{got, parse, check-code}
 use Rattle.code.specs.WellFormed.{Bytes}
-use Rattle.eval.specs.Config.{Env, Config, config, ends, done, fault, refused}
-use Rattle.eval.specs.Counted.{counted, Ended, ended, NotStopped}
+use Rattle.eval.specs.Config.{Env, Config, config, ends, done, fault, refused, NotStopped}
+use Rattle.eval.specs.Counted.{nothing-counted, Ended, ended}
 use Rattle.eval.specs.Instructions.{run-ins}
 use Rattle.eval.specs.Running.{run-of}
 use Rattle.stores.specs.OnlyStores.{OnlyStores}
@@ -36,8 +36,8 @@ module _ (code : List ℕ) (env : Env) (fuel : ℕ) (limit : Option ℕ) (s : Co
   -- the first demand. Addresses and tags are constant in a run: they stand in `env`, and no end has others
   pub record Demand1 : Type 0 where
     -- bad code is refused with the number and place of its check, then bad cells; start and cells are as they were, and no step was made
-    pub bad-code : (n p : ℕ) → check-code code ≡ cells-refused n p → ran ≡ ended (refused n p) s (counted 0)
-    pub bad-cells : (n i : ℕ) → check-code code ≡ accepted → cells ≡ cells-refused n i → ran ≡ ended (refused n i) s (counted 0)
+    pub bad-code : (n p : ℕ) → check-code code ≡ cells-refused n p → ran ≡ ended (refused n p) s nothing-counted
+    pub bad-cells : (n i : ℕ) → check-code code ≡ accepted → cells ≡ cells-refused n i → ran ≡ ended (refused n i) s nothing-counted
     -- nothing else is refused: accepted code is read to a tree, and runs over accepted cells
     pub runs : check-code code ≡ accepted → cells ≡ accepted → (n p : ℕ) (t : Config) → ran .end ≡ ends (refused n p) t → ⊥
     pub is-read : check-code code ≡ accepted → (c : Code) × (parse code ≡ got c (length code))

@@ -1,9 +1,8 @@
--- The claims of request 2026-04, in one record: `Stepping`. A step is one completed instruction or one comparison that passed its check. That the steps of
--- an answer are those of the definition is the contract of `run`; that the Done, Fault and Spent rules, the byte machine and larger fuel hold of runs that
--- are not Stopped, and "only stores" of every run, is the demands'.
+-- The claims of request 2026-04, in one record: `Stepping`. Steps are instructions that completed and comparisons that could be made. That an answer has
+-- the definition's number of them is the contract of `run`; what of the demands holds of every run, and what only of those that no limit stopped, they say.
 use Prim.Native.Nat.{ℕ, suc, _+_, _*_, _^_, _≤_, _<_, max}
 use mathlib.Core.Path.{_≡_}
-use mathlib.Core.Bool.{true, false}
+use mathlib.Core.Bool.{true, false, cond}
 use mathlib.Core.List.{List}
 use mathlib.Core.Logic.{_⊎_}
 use mathlib.Core.Option.{Option, none, some}
@@ -11,10 +10,10 @@ use Rattle.code.specs.declared.tree.Instruction.{Instruction}
 use Rattle.code.specs.declared.tree.Ocmp.{Ocmp}
 use Rattle.code.specs.Tree.{Code, Ins, Block, IfElse, While, Codes, ⟨⟩, _∷ᶜ_}
 use Rattle.code.specs.Reader.{got, parse}
-use Rattle.eval.specs.Config.{Env, Config, Outcome, done, fault, stopped, spent, refused, End, ends}
-use Rattle.eval.specs.Counted.{Counted, counted, Ended, ended, used-up, step, NotStopped}
-use Rattle.eval.specs.Instructions.{run-ins}
-use Rattle.eval.specs.Running.{run-ocmp, run-code, run-of}
+use Rattle.eval.specs.Config.{Env, Config, Outcome, done, fault, stopped, spent, refused, End, ends, NotStopped}
+use Rattle.eval.specs.Counted.{Counted, ended, Part, used-up, count, step}
+use Rattle.eval.specs.Instructions.{run-ins, eval-ocmp}
+use Rattle.eval.specs.Running.{run-ocmp, decide, run-code, run-of}
 
 unfoldable mutual
   -- how many codes a code is made of, itself too: instructions, Blocks, IfElses and Whiles
@@ -70,37 +69,47 @@ pub data DoneOrFails (p : ℕ) (s : Config) (e : End) : Type 0 where
 
 -- ---- the claims
 pub record Stepping : Type 0 where
-  -- an instruction or a comparison completes, and is a step, or fails, and is none; where the limit is used up neither is tried
+  -- an instruction or a comparison is done, and then a step, or it fails, and then it is none; with the limit used up it is not tried
   pub instruction : (env : Env) (p : ℕ) (i : Instruction) (s : Config) → DoneOrFails p s (run-ins env p i s)
   pub comparison : (env : Env) (q : ℕ) (c : Ocmp) (s : Config) → DoneOrFails q s (run-ocmp env q c s)
   pub counts : (limit : Option ℕ) (p : ℕ) (act : Config → End) (s t : Config) (k : Counted) → used-up limit k ≡ false → act s ≡ ends done t
-      → step limit p act s k ≡ ended done t (counted (k .steps + 1))
+      → step limit p act s k ≡ ended done t (count done k)
+  pub one-more : (k : Counted) → count done k .steps ≡ k .steps + 1
   pub counts-none : (limit : Option ℕ) (p : ℕ) (act : Config → End) (s t : Config) (k : Counted) (n q : ℕ) → used-up limit k ≡ false
       → act s ≡ ends (fault n q) t → step limit p act s k ≡ ended (fault n q) t k
   pub stops : (limit : Option ℕ) (p : ℕ) (act : Config → End) (s : Config) (k : Counted) → used-up limit k ≡ true
       → step limit p act s k ≡ ended (stopped 37 p) s k
-  -- a While at fuel 0 is Spent whatever the limit
+  -- a comparison is a step whichever way it decides on: that of an IfElse, and that of a While, the one that ends it too
+  pub decides : (env : Env) (limit : Option ℕ) (q : ℕ) (c : Ocmp) (f g : Part) (s t : Config) (k : Counted) → used-up limit k ≡ false
+      → run-ocmp env q c s ≡ ends done t → decide env limit q c f g s k ≡ cond (eval-ocmp env c s) f g t (count done k)
+  -- no fuel comes before the limit
   pub spent-first : (env : Env) (limit : Option ℕ) (p q : ℕ) (c : Ocmp) (b : Code) (s : Config) (k : Counted)
       → run-code env limit (While p q c b) 0 s k ≡ ended (spent p) s k
-  -- the bound: n codes, Whiles nested d deep and fuel F make at most n * (F + 1) ^ d steps
+  -- the bound, with n codes, Whiles d deep and fuel F: n * (F + 1) ^ d; and the limit is one
   pub bounded : (code : List ℕ) (env : Env) (fuel : ℕ) (limit : Option ℕ) (s : Config) (c : Code) (next : ℕ) → parse code ≡ got c next
       → run-of code env fuel limit s .counted .steps ≤ codes c * (fuel + 1) ^ whiles c
-  -- where the limit is not met, the end is that of the run without a limit, and the same under every larger limit
+  pub within : (code : List ℕ) (env : Env) (fuel l : ℕ) (s : Config) → run-of code env fuel (some l) s .counted .steps ≤ l
+  -- a run that the limit did not stop is the one without a limit, and the one under any larger limit
   pub not-met : (code : List ℕ) (env : Env) (fuel l : ℕ) (s : Config) → NotStopped (run-of code env fuel (some l) s .end .how)
       → run-of code env fuel (some l) s ≡ run-of code env fuel none s
   pub larger : (code : List ℕ) (env : Env) (fuel l m : ℕ) (s : Config) → l ≤ m → NotStopped (run-of code env fuel (some l) s .end .how)
       → run-of code env fuel (some m) s ≡ run-of code env fuel (some l) s
   -- a run without a limit is never Stopped
   pub never : (code : List ℕ) (env : Env) (fuel : ℕ) (s : Config) → NotStopped (run-of code env fuel none s .end .how)
-  -- Stopped exactly when that run tries more than the limit, and then with 37 and as many steps as the limit
+  -- a limit stops exactly the runs that try more than it, after as many steps
   pub stopped-when : (code : List ℕ) (env : Env) (fuel l : ℕ) (s : Config)
       → let u = run-of code env fuel none s in l < tried (u .end .how) (u .counted)
-      → (p : ℕ) × (t : Config) × (run-of code env fuel (some l) s ≡ ended (stopped 37 p) t (counted l))
+      → let e = run-of code env fuel (some l) s in (p : ℕ) × (t : Config) × (e .end ≡ ends (stopped 37 p) t) × (e .counted .steps ≡ l)
   pub stopped-only : (code : List ℕ) (env : Env) (fuel l n p : ℕ) (s : Config) → run-of code env fuel (some l) s .end .how ≡ stopped n p
       → let u = run-of code env fuel none s in l < tried (u .end .how) (u .counted)
-  -- as many steps and then a check that would fail: Stopped at its place, with the state and cells that the Fault would have
-  pub before-fault : (code : List ℕ) (env : Env) (fuel l n p : ℕ) (s t : Config) → run-of code env fuel none s ≡ ended (fault n p) t (counted l)
-      → run-of code env fuel (some l) s ≡ ended (stopped 37 p) t (counted l)
+  -- so a limit of all that is tried leaves the run as it is: the steps of one that ends Done or Spent, and one more for a Fault
+  pub enough : (code : List ℕ) (env : Env) (fuel l : ℕ) (s : Config)
+      → let u = run-of code env fuel none s in tried (u .end .how) (u .counted) ≤ l
+      → run-of code env fuel (some l) s ≡ run-of code env fuel none s
+  -- a limit of the steps of a Fault stops at its place, with the state and cells that the Fault has
+  pub before-fault : (code : List ℕ) (env : Env) (fuel l n p : ℕ) (s t : Config)
+      → let u = run-of code env fuel none s in u .end ≡ ends (fault n p) t → u .counted .steps ≡ l
+      → let e = run-of code env fuel (some l) s in (e .end ≡ ends (stopped 37 p) t) × (e .counted .steps ≡ l)
   -- the place is that of an instruction or a comparison
   pub placed : (code : List ℕ) (env : Env) (fuel : ℕ) (limit : Option ℕ) (n p : ℕ) (s : Config) → run-of code env fuel limit s .end .how ≡ stopped n p
       → (n ≡ 37) × ((c : Code) × (next : ℕ) × (parse code ≡ got c next) × StepAt c p)

@@ -36,7 +36,7 @@ use Rattle.code.proofs.Families.{Stood, ins-inside, lane-kinds, two-stood, lea-
 use Rattle.code.proofs.Forms.{constant-is, register-is, register-below}
 use Rattle.eval.specs.Config.{Env, Config, with-flags}
 use Rattle.eval.specs.Config as Config
-use Rattle.eval.specs.Counted.{Counted, counted, ended}
+use Rattle.eval.specs.Counted.{Counted, nothing-counted, ended}
 use Rattle.eval.specs.Running.{run-of}
 use Rattle.eval.specs.Instructions.{checks-amount, two-word, two-flags, inserts-word, run-ins}
 use Rattle.eval.specs.Promises.{environment, held, Cells, CodeAt, CodesAt, InsAt, OcmpAt, codes-from, Loads, Seeks, Resolves, no-slot, put-regs, put-values, comparison, Compares, Ran, StepsIns, DecidesAt, Runs, RunsIns, RunsAll}
@@ -787,11 +787,11 @@ is-accepted v w is e = sym is ∙ ap verdict e
 
 module _ (bs addresses tags : List ℕ) (fill fuel : ℕ) (limit : Option ℕ) (s : Config) (v : Checked) (is-code : verdict v ≡ check-code bs) where
   pub refused-code :
-      (n p : ℕ) → v ≡ Refused n p → ended (Config.refused n p) s (counted 0) ≡ run-of bs (environment addresses tags fill) fuel limit s
+      (n p : ℕ) → v ≡ Refused n p → ended (Config.refused n p) s nothing-counted ≡ run-of bs (environment addresses tags fill) fuel limit s
   refused-code n p e = code-refused bs _ fuel limit s n p (sym is-code ∙ ap verdict e)
 
   pub refused-cells :
       v ≡ Accepted → (u : Checked) → verdict u ≡ check-cells addresses tags (s .values) → (n i : ℕ) → u ≡ Refused n i →
-      ended (Config.refused n i) s (counted 0) ≡ run-of bs (environment addresses tags fill) fuel limit s
+      ended (Config.refused n i) s nothing-counted ≡ run-of bs (environment addresses tags fill) fuel limit s
   refused-cells e u is n i f =
       cells-refused bs _ fuel limit s (is-accepted v _ is-code e) n i (sym is ∙ ap verdict f)

@@ -19,7 +19,7 @@ use Rattle.code.proofs.CodeFrames.{Frame, frame, ins-there, block-there, if-the
 use Rattle.eval.specs.Config.{Env, Config, with-flags, Outcome, done, fault, stopped, spent, refused}
 use Rattle.eval.specs.Instructions.{eval-ocmp}
 use Rattle.eval.specs.Counted.{Counted, Ended, ended, Part, continue, and-then}
-use Rattle.eval.specs.Running.{choose, rounds, run-code, run-codes}
+use Rattle.eval.specs.Running.{decide, rounds, run-code, run-codes}
 use Rattle.eval.specs.Promises.{how, Reached, StepsIns, Decides, DecidesAt, CodeAt, CodesAt, codes-from, Runs, RunsAll}
 use Rattle.eval.specs.declared.exit.Exit.{Exit}
 use Rattle.eval.specs.declared.comparison.Compared.{Compared}
@@ -252,20 +252,20 @@ decided false n e = (λ h. absurd (h e), λ _. refl)
 
 module _ (env : Env) (limit : Option ℕ) (q : ℕ) (c : Ocmp) (s : Config) (k : Counted) (m : ℕ) (x : Compared) (l : Counted)
     (w : Decides env limit s k c q m x l) (f g : Part) where
-  ocmp-stops : 1 < x .how → choose env limit q c f g s k ≡ ended (how (exit (x .how) q)) s l
-  unfolding choose
+  ocmp-stops : 1 < x .how → decide env limit q c f g s k ≡ ended (how (exit (x .how) q)) s l
+  unfolding decide
   ocmp-stops h =
       ap (λ (e : Ended). and-then e (cond (eval-ocmp env c s) f g)) (w .stops h)
       ∙ how-stops (exit (x .how) q) s l _ (λ z. omega (arith, z, h))
 
-  ocmp-holds : x .how ≤ 1 → (x .how ≡ 0 → ⊥) → choose env limit q c f g s k ≡ f (with-flags (env .fill) s) l
-  unfolding choose continue
+  ocmp-holds : x .how ≤ 1 → (x .how ≡ 0 → ⊥) → decide env limit q c f g s k ≡ f (with-flags (env .fill) s) l
+  unfolding decide continue
   ocmp-holds h y =
       ap (λ (e : Ended). and-then e (cond (eval-ocmp env c s) f g)) (w .goes h)
       ∙ ap (λ (b : Bool). cond b f g (with-flags (env .fill) s) l) (decided (eval-ocmp env c s) (x .how) (w .holds h) .0 y)
 
-  ocmp-fails : x .how ≤ 1 → (x .how ≡ 1 → ⊥) → choose env limit q c f g s k ≡ g (with-flags (env .fill) s) l
-  unfolding choose continue
+  ocmp-fails : x .how ≤ 1 → (x .how ≡ 1 → ⊥) → decide env limit q c f g s k ≡ g (with-flags (env .fill) s) l
+  unfolding decide continue
   ocmp-fails h y =
       ap (λ (e : Ended). and-then e (cond (eval-ocmp env c s) f g)) (w .goes h)
       ∙ ap (λ (b : Bool). cond b f g (with-flags (env .fill) s) l) (decided (eval-ocmp env c s) (x .how) (w .holds h) .1 y)
@@ -289,12 +289,12 @@ module _ (env : Env) (limit : Option ℕ) (bs : List ℕ) (at fuel : ℕ) (s : C
       (c : Code) (e : ℕ) (sp : Spells c bs at e) →
       let w = if-there c bs at e sp kind in
       run-code env limit c fuel s k
-      ≡ choose env limit (at + 9) (ocmp-at bs (at + 9)) (run-code env limit (w .yes-part) fuel) (run-code env limit (w .no-part) fuel) s k
+      ≡ decide env limit (at + 9) (ocmp-at bs (at + 9)) (run-code env limit (w .yes-part) fuel) (run-code env limit (w .no-part) fuel) s k
   unfolding run-code
   if-starts c e sp =
       let w = if-there c bs at e sp kind in
       ap (λ (b : Code). run-code env limit b fuel s k) (w .is)
-      ∙ ap (λ (o : Ocmp). choose env limit (at + 9) o (run-code env limit (w .yes-part) fuel) (run-code env limit (w .no-part) fuel) s k) (w .says)
+      ∙ ap (λ (o : Ocmp). decide env limit (at + 9) o (run-code env limit (w .yes-part) fuel) (run-code env limit (w .no-part) fuel) s k) (w .says)
 
   pub if-stops : 1 < x .how → Runs env limit bs at fuel s k (exit (x .how) (at + 9)) s j
   if-stops h c e sp =
@@ -427,10 +427,10 @@ module _ (env : Env) (limit : Option ℕ) (body : ℕ → Part) (p q : ℕ) (c :
   round left t l = and-then (body left t l) (rounds env limit body p q c left)
 
   rounds-go :
-      (left : ℕ) → (left ≡ 0 → ⊥) → rounds env limit body p q c left s k ≡ choose env limit q c (round (left - 1)) (ended done) s k
+      (left : ℕ) → (left ≡ 0 → ⊥) → rounds env limit body p q c left s k ≡ decide env limit q c (round (left - 1)) (ended done) s k
   unfolding rounds round
   rounds-go zero h = absurd (h refl)
-  rounds-go (suc f) h = ap (λ (n : ℕ). choose env limit q c (round n) (ended done) s k) (sym (sub-one (suc f)))
+  rounds-go (suc f) h = ap (λ (n : ℕ). decide env limit q c (round n) (ended done) s k) (sym (sub-one (suc f)))
 
 module _ (env : Env) (limit : Option ℕ) (bs : List ℕ) (at left : ℕ) (s : Config) (k : Counted) (kind : byte-at bs at ≡ 0x22) where
   pub loop-spent : left ≡ 0 → (c : Code) (e : ℕ) → Spells c bs at e → run-code env limit c left s k ≡ ended (spent at) s k
@@ -446,7 +446,7 @@ module _ (env : Env) (limit : Option ℕ) (bs : List ℕ) (at left : ℕ) (s : C
         (c : Code) (e : ℕ) (h : Spells c bs at e) →
         let w = while-there c bs at e h kind in
         run-code env limit c left s k
-        ≡ choose env limit (at + 5) (ocmp-at bs (at + 5))
+        ≡ decide env limit (at + 5) (ocmp-at bs (at + 5))
         (round env limit (run-code env limit (w .body)) at (at + 5) (w .test) s k (left - 1)) (ended done) s k
     unfolding run-code
     tested c e h =
@@ -454,7 +454,7 @@ module _ (env : Env) (limit : Option ℕ) (bs : List ℕ) (at left : ℕ) (s : C
         let next = round env limit (run-code env limit (w .body)) at (at + 5) (w .test) s k (left - 1) in
         ap (λ (b : Code). run-code env limit b left s k) (w .is)
         ∙ rounds-go env limit (run-code env limit (w .body)) at (at + 5) (w .test) s k left inn
-        ∙ ap (λ (o : Ocmp). choose env limit (at + 5) o next (ended done) s k) (w .says)
+        ∙ ap (λ (o : Ocmp). decide env limit (at + 5) o next (ended done) s k) (w .says)
 
     pub loop-stopped :
         1 < x .how → (c : Code) (e : ℕ) → Spells c bs at e →

@@ -8,17 +8,17 @@ use native.Mathlib.Nat.{le-of-suc-le-suc, not-suc-le-zero}
 use native.Mathlib.Omega.{arith}
 use Rattle.code.specs.declared.tree.Ocmp.{Ocmp}
 use Rattle.code.specs.Tree.{Code, Ins, Block, IfElse, While, Codes, ⟨⟩, _∷ᶜ_}
-use Rattle.eval.specs.Config.{Env, Config, Outcome, done, fault, stopped, spent, refused, End, ends}
+use Rattle.eval.specs.Config.{Env, Config, Outcome, done, fault, stopped, spent, refused, End, NotStopped}
 use Rattle.eval.specs.Instructions.{eval-ocmp}
-use Rattle.eval.specs.Counted.{Counted, Ended, ended, Part, continue, and-then, used-up, step, NotStopped}
-use Rattle.eval.specs.Running.{run-ocmp, choose, rounds, run-code, run-codes}
+use Rattle.eval.specs.Counted.{Counted, Ended, ended, Part, continue, and-then, used-up, step}
+use Rattle.eval.specs.Running.{run-ocmp, decide, rounds, run-code, run-codes}
 use Rattle.eval.proofs.StepLaws.{step-stopped, step-tried}
 
 -- a limit that leaves a step wherever another does
 abbrev Looser : Option ℕ → Option ℕ → Type 0
 Looser limit limit′ = (k : Counted) → used-up limit k ≡ false → used-up limit′ k ≡ false
 
--- two runs, the second with more fuel or a looser limit; each is known to be the same where it is
+-- two runs, the second with more fuel or a looser limit. SameFuel and SameLimit say which of the two is in fact the same
 module _ (SameFuel SameLimit : Type 0) where
   -- an end is the end r too, but for spent with other fuel, and for stopped with another limit
   unfoldable Kept : Outcome → Config → Counted → Ended → Type 0
@@ -74,11 +74,11 @@ module _ (SameFuel SameLimit : Type 0) where
             (keeps-same (r .end .how) (r .end .config) (r .counted))
 
     module _ (env : Env) where
-      keeps-choose :
+      keeps-decide :
           (q : ℕ) (c : Ocmp) (f g f′ g′ : Part) →
-          EachKeeps f f′ → EachKeeps g g′ → EachKeeps (choose env limit q c f g) (choose env limit′ q c f′ g′)
-      unfolding choose
-      keeps-choose q c f g f′ g′ F G s k =
+          EachKeeps f f′ → EachKeeps g g′ → EachKeeps (decide env limit q c f g) (decide env limit′ q c f′ g′)
+      unfolding decide
+      keeps-decide q c f g f′ g′ F G s k =
           keeps-then _ _ _ _ _ _ (keeps-step q (run-ocmp env q c) s k) (keeps-cond (eval-ocmp env c s) f g f′ g′ F G)
 
       keeps-rounds :
@@ -91,7 +91,7 @@ module _ (SameFuel SameLimit : Type 0) where
       keeps-rounds body body′ h p q c (suc f) (suc g) le is s k =
           let l = le-of-suc-le-suc le in
           let less : SameFuel → f ≡ g = λ same. let e = is same in omega (arith, e) in
-          keeps-choose q c _ _ _ _ (λ t j. keeps-then _ _ _ _ _ _ (h f g l less t j) (keeps-rounds body body′ h p q c f g l less)) (keeps-same done) s k
+          keeps-decide q c _ _ _ _ (λ t j. keeps-then _ _ _ _ _ _ (h f g l less t j) (keeps-rounds body body′ h p q c f g l less)) (keeps-same done) s k
 
       mutual
         unfolding run-code run-codes
@@ -99,7 +99,7 @@ module _ (SameFuel SameLimit : Type 0) where
         keeps-code : (c : Code) (f g : ℕ) → f ≤ g → (SameFuel → f ≡ g) → EachKeeps (run-code env limit c f) (run-code env limit′ c g)
         keeps-code (Ins p i) f g le is s k = keeps-step p _ s k
         keeps-code (Block p cs) f g le is s k = keeps-codes cs f g le is s k
-        keeps-code (IfElse p q c a b) f g le is s k = keeps-choose q c _ _ _ _ (keeps-code a f g le is) (keeps-code b f g le is) s k
+        keeps-code (IfElse p q c a b) f g le is s k = keeps-decide q c _ _ _ _ (keeps-code a f g le is) (keeps-code b f g le is) s k
         keeps-code (While p q c b) f g le is s k = keeps-rounds _ _ (keeps-code b) p q c f g le is s k
 
         keeps-codes : (cs : Codes) (f g : ℕ) → f ≤ g → (SameFuel → f ≡ g) → EachKeeps (run-codes env limit cs f) (run-codes env limit′ cs g)

@@ -14,7 +14,7 @@ use Rattle.code.proofs.Reading.{reading}
 use Rattle.code.proofs.CodeFrames.{list-of-one}
 use Rattle.eval.specs.Config.{Env, Config, Outcome}
 use Rattle.eval.specs.Config as Config
-use Rattle.eval.specs.Counted.{Counted, counted, Ended, ended}
+use Rattle.eval.specs.Counted.{Counted, nothing-counted, Ended, ended}
 use Rattle.eval.specs.Running.{run-checked, run-read, run-of}
 use Rattle.eval.specs.Promises.{how, Reached, Cells, CodesAt, RunsAll}
 use Rattle.eval.specs.declared.exit.Exit.{Exit}
@@ -45,7 +45,7 @@ accepted-codes bs h =
     record { codes = w .0 ∷ᶜ ⟨⟩; spelled = list-of-one (w .0) bs 0 (length bs) (p .spells); inside = omega arith }
 
 module _ (bs : List ℕ) (env : Env) (fuel : ℕ) (limit : Option ℕ) (s : Config) where
-  pub code-refused : (n p : ℕ) → check-code bs ≡ refused n p → ended (Config.refused n p) s (counted 0) ≡ run-of bs env fuel limit s
+  pub code-refused : (n p : ℕ) → check-code bs ≡ refused n p → ended (Config.refused n p) s nothing-counted ≡ run-of bs env fuel limit s
   unfolding run-of run-read
   code-refused n p h = rw (reading bs .refuses n p h)
 
@@ -59,17 +59,17 @@ module _ (bs : List ℕ) (env : Env) (fuel : ℕ) (limit : Option ℕ) (s : Conf
 
     pub cells-refused :
         (n i : ℕ) → check-cells (env .addresses) (env .tags) (s .values) ≡ refused n i →
-        ended (Config.refused n i) s (counted 0) ≡ run-of bs env fuel limit s
+        ended (Config.refused n i) s nothing-counted ≡ run-of bs env fuel limit s
     unfolding run-checked
     cells-refused n i h = sym (run-here ∙ rw h)
 
     pub run-ran :
         check-cells (env .addresses) (env .tags) (s .values) ≡ accepted →
-        (r : Exit) (t : Config) (l : Counted) → RunsAll env limit bs 0 (length bs) fuel s (counted 0) r t l →
+        (r : Exit) (t : Config) (l : Counted) → RunsAll env limit bs 0 (length bs) fuel s nothing-counted r t l →
         (o : Outcome) → o ≡ how r → ended o t l ≡ run-of bs env fuel limit s
     unfolding run-checked
     run-ran h r t l ran o x =
         let c = reading bs .accepts here .0 in
         let ran-list = ran (c ∷ᶜ ⟨⟩) (accepted-codes bs here .spelled) in
-        let ran-code = subst (λ (y : Ended). Reached y (length bs) r t l) (run-one env limit c fuel s (counted 0)) ran-list in
+        let ran-code = subst (λ (y : Ended). Reached y (length bs) r t l) (run-one env limit c fuel s nothing-counted) ran-list in
         ap (λ (y : Outcome). ended y t l) x ∙ ran-code .ends ∙ sym (run-here ∙ rw h)

@@ -1,6 +1,6 @@
 -- An instruction or a comparison as a step: it stops where the limit is used up, and else ends as it does by itself, counted where it is done.
 -- Assumes nothing.
-use Prim.Native.Nat.{ℕ, suc, _+_, _≤_, _<_}
+use Prim.Native.Nat.{ℕ, _+_, _≤_, _<_}
 use mathlib.Core.Path.{_≡_, refl, sym, ap, _∙_}
 use mathlib.Core.Bool.{Bool, true, false, cond}
 use mathlib.Core.List.{List}
@@ -18,9 +18,9 @@ use Rattle.code.specs.Layout.{ocmp-layout}
 use Rattle.code.specs.Records.{ocmp-at}
 use Rattle.eval.specs.Config.{Env, Config, with-flags, Outcome, done, fault, stopped, spent, End, ends, check}
 use Rattle.eval.specs.Instructions.{valid-operand, valid-ocmp, ocmp-number, eval-ocmp}
-use Rattle.eval.specs.Counted.{Counted, counted, Ended, ended, used-up, count, step}
+use Rattle.eval.specs.Counted.{Counted, counted, ended, used-up, count, step}
 use Rattle.eval.specs.Running.{run-ocmp}
-use Rattle.eval.specs.Promises.{how, RunsIns, Compares, ComparesAt, tally, StepsIns, Decides, DecidesAt}
+use Rattle.eval.specs.Promises.{how, RunsIns, Compares, ComparesAt, tally, StepsIns, DecidesAt}
 use Rattle.eval.specs.declared.exit.Exit.{Exit}
 use Rattle.eval.specs.declared.comparison.Compared.{Compared}
 use Rattle.eval.proofs.InstructionLaws.{exit, check-fails}

@@ -1,5 +1,6 @@
 -- What a run works on, and how it ends.
 use Prim.Native.Nat.{ℕ}
+use mathlib.Core.Path.{_≡_}
 use mathlib.Core.Bool.{Bool, true, false}
 use mathlib.Core.List.{List}
 use Rattle.machine.specs.declared.State.{State}
@@ -39,14 +40,17 @@ with-flags flags s = record { regs = s .regs; xmms = s .xmms; flags = flags; val
 abbrev pub with-values : List ℕ → Config → Config
 with-values values s = record { regs = s .regs; xmms = s .xmms; flags = s .flags; values = values }
 
--- how a run ends: done; a fault with its number and place; stopped, with number and place; spent, with the place of the While; refused, with number
--- and place
+-- how a run ends: done; a fault, stopped or refused, each with number and place; spent, with the place of the While
 pub data Outcome : Type 0 where
   done : Outcome
   fault : ℕ → ℕ → Outcome
   stopped : ℕ → ℕ → Outcome
   spent : ℕ → Outcome
   refused : ℕ → ℕ → Outcome
+
+-- an outcome that is not Stopped
+abbrev pub NotStopped : Outcome → Type 0
+NotStopped o = (n p : ℕ) → o ≡ stopped n p → ⊥
 
 -- the number and place of each answer
 abbrev pub outcome : Answer → Outcome

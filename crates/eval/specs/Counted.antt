@@ -1,6 +1,5 @@
 -- What is counted in a run. It stands beside what instructions change, and no instruction knows of it.
 use Prim.Native.Nat.{ℕ, suc}
-use mathlib.Core.Path.{_≡_}
 use mathlib.Core.Bool.{Bool, false, cond}
 use mathlib.Core.List.{List}
 use mathlib.Core.Option.{Option, none, some}
@@ -15,6 +14,10 @@ pub record Counted : Type 0 where
 -- so many steps
 abbrev pub counted : ℕ → Counted
 counted n = record { steps = n }
+
+-- what is counted where a run begins
+abbrev pub nothing-counted : Counted
+nothing-counted = counted 0
 
 -- the end of a run, with what it has counted
 pub record Ended : Type 0 where
@@ -61,7 +64,3 @@ count (refused n p) k = k
 -- an instruction or a comparison at a place, as a step of a run. 37: the limit is used up, so that it is not tried
 unfoldable pub step : Option ℕ → ℕ → (Config → End) → Part
 step limit p act s k = cond (used-up limit k) (ended (stopped 37 p) s k) (record { end = act s; counted = count (act s .how) k })
-
--- an outcome that is not Stopped
-abbrev pub NotStopped : Outcome → Type 0
-NotStopped o = (n p : ℕ) → o ≡ stopped n p → ⊥

@@ -7,7 +7,7 @@ ghost use Rattle.code.specs.Records.{is-ocmp};
 ghost use Rattle.eval.specs.Promises.{environment, held, Cells, comparison, OcmpAt, ComparesAt};
 use crate::operand::load;
 
-// 0 where it does not hold, 1 where it holds, or the number of the check that fails; and, where both
+// 0 where it does not hold, 1 where it holds, or the number with which the run ends there; and, where both
 // operands were read, the place behind.
 pub struct Compared {
     pub how: u8,

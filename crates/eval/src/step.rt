@@ -17,7 +17,7 @@ pub const COUNTED: usize = 1;
 
 pub const STEPS: usize = 0;
 
-// The array's length is its type's to say, and a contract learns it of a slice.
+// Read as a slice: a contract knows the length of a slice, and not that of an array.
 fn used_up(counted: &[u64; COUNTED], limit: u64) -> bool
     ensures { λ r. ⌜ r ≡ used-up (some limit) (tally (now (counted .entry))) ⌝ }
     ensures { λ _. ⌜ 0 < length (now (counted .entry)) ⌝ }
@@ -57,8 +57,8 @@ pub fn step_instruction(
     ran
 }
 
-// The comparison of an IfElse or a While. One that completes sets flags to the fill word: that is the caller's, so that two
-// parameters less go over the stack.
+// The comparison of an IfElse or a While. To set flags to the fill word, where it completes, is left to the caller, so that
+// two parameters fewer are passed on the stack.
 pub fn step_comparison(
     code: &[u8],
     at: usize,

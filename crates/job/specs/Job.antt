@@ -11,7 +11,7 @@ use Rattle.machine.specs.Cells.{accepted as job-accepted, refused as job-refuse
 use Rattle.code.specs.Records.{number-at}
 use Rattle.machine.specs.declared.State.{State}
 use Rattle.eval.specs.Config.{Env, Config, config, refused}
-use Rattle.eval.specs.Counted.{counted, Ended, ended}
+use Rattle.eval.specs.Counted.{nothing-counted, Ended, ended}
 use Rattle.eval.specs.declared.answer.Setting.{Setting}
 use Rattle.eval.specs.Running.{run-of}
 use Rattle.job.specs.Text.{render}
@@ -95,7 +95,7 @@ run-of-job bs = run-of (code-of bs) (env-of bs) (fuel-of bs) (some largest-limit
 -- the end of a job that was checked
 unfoldable pub end-checked : Verdict → List ℕ → Ended
 end-checked job-accepted bs = run-of-job bs
-end-checked (job-refused n p) bs = ended (refused n p) (start-of bs) (counted 0)
+end-checked (job-refused n p) bs = ended (refused n p) (start-of bs) nothing-counted
 
 -- the end of a job
 abbrev pub end-of-job : List ℕ → Ended

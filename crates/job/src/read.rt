@@ -11,6 +11,9 @@ use eval::Setting;
 use machine::Checked;
 use machine::State;
 
+// No job is stopped that ends in our time.
+const LARGEST_LIMIT: u64 = 18446744073709551615;
+
 // Numbers of eight bytes, `stride` bytes apart.
 pub fn read_words(input: &[u8], from: usize, stride: usize, to: &mut [u64])
     requires { ⌜ (stride ≤ 17) × (from + stride * length (now to) + 8 ≤ length (now input) + stride) ⌝ }
@@ -68,7 +71,7 @@ pub fn read_setting(input: &[u8]) -> Setting
 {
     let fuel = number4(input, 0) as u32;
     let fill = number8(input, 4);
-    let limit = 18446744073709551615u64;
+    let limit = LARGEST_LIMIT;
     Setting { fill, fuel, limit }
 }
 

@@ -177,8 +177,8 @@ module _ (env : Env) where
 
     -- of the run without a limit, which tries each step
     tells-ocmp : (q : ℕ) (c : Ocmp) (f g : Part) (f′ g′ : State → Logged) → WfOcmp c → TellAll f f′ → TellAll g g′ → Clears f′ → Clears g′
-        → TellAll (Running.choose env none q c f g) (log-ocmp load-mem64 int-to-nat64 (env .fill) q c f′ g′)
-    unfolding Running.choose Running.run-ocmp Config.check step used-up count continue events first-bad
+        → TellAll (Running.decide env none q c f g) (log-ocmp load-mem64 int-to-nat64 (env .fill) q c f′ g′)
+    unfolding Running.decide Running.run-ocmp Config.check step used-up count continue events first-bad
     tells-ocmp q c f g f′ g′ fits F G F′ G′ s k h = go (Run.valid-ocmp env c s) refl
       where
         next : (State × Bool) × List Note → Logged

@@ -18,8 +18,8 @@ use Rattle.code.specs.Tree.{Code}
 use Rattle.code.specs.WellFormed.{WfCode}
 use Rattle.code.specs.Reader.{got, parse}
 use Rattle.code.proofs.Accepted.{parse-wf}
-use Rattle.eval.specs.Config.{Env, Config, Outcome, done, fault, spent, End, ends}
-use Rattle.eval.specs.Counted.{counted, Ended, NotStopped}
+use Rattle.eval.specs.Config.{Env, Config, Outcome, done, fault, spent, End, ends, NotStopped}
+use Rattle.eval.specs.Counted.{nothing-counted, Ended}
 use Rattle.eval.specs.Running.{run-code, run-checked, run-read, run-of}
 use Rattle.eval.proofs.Larger.{more-fuel, no-limit}
 use Rattle.source.specs.Source.{State, eval-code}
@@ -40,7 +40,7 @@ same-end r o o′ t t′ e f = ap (λ x. x .config) (sym e ∙ f)
 
 -- the end of the run without a limit
 abbrev unlimited : Env → Code → ℕ → Config → End
-unlimited env c f s = run-code env none c f s (counted 0) .end
+unlimited env c f s = run-code env none c f s nothing-counted .end
 
 -- one answer rules out another
 module _ (r : End) (n p q : ℕ) (t t′ : Config) where
@@ -115,7 +115,7 @@ never-both env c s t t′ f g n p a b = go (leb f g) refl
     -- the run with the larger fuel ends as the other does, which is not spent
     more : (f g : ℕ) → f ≤ g → (o : Outcome) (u : Config) → unlimited env c f s ≡ ends o u → ((q : ℕ) → o ≡ spent q → ⊥) → unlimited env c g s ≡ ends o u
     more f g le o u e unspent =
-        ap (λ (x : Ended). x .end) (more-fuel env none c f g le s (counted 0) (λ q h. unspent q (sym (ap (λ (x : End). x .how) e) ∙ h))) ∙ e
+        ap (λ (x : Ended). x .end) (more-fuel env none c f g le s nothing-counted (λ q h. unspent q (sym (ap (λ (x : End). x .how) e) ∙ h))) ∙ e
 
     go : (x : Bool) → leb f g ≡ x → ⊥
     go true k =
@@ -128,7 +128,7 @@ never-both env c s t t′ f g n p a b = go (leb f g) refl
 module _ (load-mem64 : ℤ → Memory → ℕ) (loads : LoadsMem64 load-mem64) (int-to-nat64 : ℤ → ℕ) (ints : IntToNat64 int-to-nat64)
     (env : Env) (s : Config) (cells : check-cells (env .addresses) (env .tags) (s .values) ≡ accepted) (c : Code) (fits : WfCode c) where
   tells : (f : ℕ) → Tells env (unlimited env c f s) (log-code load-mem64 int-to-nat64 (env .fill) c f (state-of env s))
-  tells f = tells-code env load-mem64 loads int-to-nat64 ints c fits f s (counted 0) (held (env .addresses) (env .tags) (s .values) cells)
+  tells f = tells-code env load-mem64 loads int-to-nat64 ints c fits f s nothing-counted (held (env .addresses) (env .tags) (s .values) cells)
 
   erased : (f : ℕ) → log-code load-mem64 int-to-nat64 (env .fill) c f (state-of env s) .1 ≡ eval-code load-mem64 int-to-nat64 (env .fill) c f (state-of env s)
   erased f = erase-code load-mem64 int-to-nat64 (env .fill) c f (state-of env s)
@@ -155,15 +155,15 @@ module _ (load-mem64 : ℤ → Memory → ℕ) (loads : LoadsMem64 load-mem64) (
   }
 
   -- a run that is not stopped is the one without a limit
-  agrees : (f : ℕ) (limit : Option ℕ) → NotStopped (run-code env limit c f s (counted 0) .end .how)
-      → Corresponds load-mem64 int-to-nat64 env c s f (run-code env limit c f s (counted 0) .end)
+  agrees : (f : ℕ) (limit : Option ℕ) → NotStopped (run-code env limit c f s nothing-counted .end .how)
+      → Corresponds load-mem64 int-to-nat64 env c s f (run-code env limit c f s nothing-counted .end)
   agrees f limit n =
-      subst (λ (x : Ended). Corresponds load-mem64 int-to-nat64 env c s f (x .end)) (no-limit env c f s (counted 0) limit n) (agrees-unlimited f)
+      subst (λ (x : Ended). Corresponds load-mem64 int-to-nat64 env c s f (x .end)) (no-limit env c f s nothing-counted limit n) (agrees-unlimited f)
 
 -- Running of bytes that are read, over accepted cells, is the run of the tree
 ran : (env : Env) (s : Config) → check-cells (env .addresses) (env .tags) (s .values) ≡ accepted
     → (code : List ℕ) (c : Code) (next : ℕ) → parse code ≡ got c next → (f : ℕ) (limit : Option ℕ)
-    → run-of code env f limit s ≡ run-code env limit c f s (counted 0)
+    → run-of code env f limit s ≡ run-code env limit c f s nothing-counted
 unfolding run-of run-read run-checked
 ran env s cells code c next e f limit = rw (e, run-read, cells, run-checked)
 

@@ -10,8 +10,8 @@ use Rattle.machine.specs.Memory.{Memory, Mem64, LoadsMem64, memory-of}
 use Rattle.code.specs.Tree.{Code}
 use Rattle.code.specs.WellFormed.{Bytes, WfCode}
 use Rattle.code.specs.Reader.{got, parse}
-use Rattle.eval.specs.Config.{Env, Config, End, ends, done, fault, spent}
-use Rattle.eval.specs.Counted.{counted, NotStopped}
+use Rattle.eval.specs.Config.{Env, Config, End, ends, done, fault, spent, NotStopped}
+use Rattle.eval.specs.Counted.{nothing-counted}
 use Rattle.eval.specs.Running.{run-code, run-of}
 use Rattle.source.specs.Source.{State, eval-code}
 use Rattle.source.specs.Log.{Event, failed, starved, first-bad, log-code}
@@ -60,8 +60,8 @@ pub record Correspondence : Type 0 where
   -- within its bounds,
   pub tree : (load-mem64 : ℤ → Memory → ℕ) → LoadsMem64 load-mem64 → (int-to-nat64 : ℤ → ℕ) → IntToNat64 int-to-nat64
       → (env : Env) (s : Config) → check-cells (env .addresses) (env .tags) (s .values) ≡ accepted
-      → (c : Code) → WfCode c → (f : ℕ) (limit : Option ℕ) → NotStopped (run-code env limit c f s (counted 0) .end .how)
-      → Corresponds load-mem64 int-to-nat64 env c s f (run-code env limit c f s (counted 0) .end)
+      → (c : Code) → WfCode c → (f : ℕ) (limit : Option ℕ) → NotStopped (run-code env limit c f s nothing-counted .end .how)
+      → Corresponds load-mem64 int-to-nat64 env c s f (run-code env limit c f s nothing-counted .end)
   -- and Running, of bytes that are read to that tree
   pub running : (load-mem64 : ℤ → Memory → ℕ) → LoadsMem64 load-mem64 → (int-to-nat64 : ℤ → ℕ) → IntToNat64 int-to-nat64
       → (env : Env) (s : Config) → check-cells (env .addresses) (env .tags) (s .values) ≡ accepted

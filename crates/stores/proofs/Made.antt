@@ -18,7 +18,7 @@ use Rattle.code.specs.Tree.{Code, Ins, Block, IfElse, While, Codes, ⟨⟩, _�
 use Rattle.eval.specs.Config.{Env, Config, with-regs, with-xmms, with-flags, End, ends, Outcome, done, fault, stopped, spent, refused, check}
 use Rattle.eval.specs.Instructions.{cell-of, update-operand, readable, ruled, set-regs, set-xmms, written, act, run-ins, valid-ocmp, ocmp-number, eval-ocmp}
 use Rattle.eval.specs.Counted.{Counted, Ended, ended, Part, continue, used-up, count, step}
-use Rattle.eval.specs.Running.{run-ocmp, choose, rounds, run-code, run-codes}
+use Rattle.eval.specs.Running.{run-ocmp, decide, rounds, run-code, run-codes}
 use Rattle.stores.specs.Stores.{Store, with-stores, to-cell, store, stores-to, stores, stores-of, Completed, if-done, Completes, way, completed, completed-all, completed-rounds}
 
 pub make-append : (a b : List Store) (vs : List ℕ) → with-stores (a ++ b) vs ≡ with-stores b (with-stores a vs)
@@ -179,8 +179,8 @@ module _ (env : Env) where
         go false false = record { judged = tt; made = refl }
 
     traced-way : (q : ℕ) (c : Ocmp) (f g : Part) (l m : Completes) → AllTraced l f → AllTraced m g
-        → AllTraced (way env limit q c l m) (choose env limit q c f g)
-    unfolding choose way
+        → AllTraced (way env limit q c l m) (decide env limit q c f g)
+    unfolding decide way
     traced-way q c f g l m F G s k =
         let e = step limit q (run-ocmp env q c) s k in
         let b = eval-ocmp env c s in

@@ -16,7 +16,7 @@ use Rattle.code.specs.Tree.{Code}
 use Rattle.code.specs.Reader.{got, parse}
 use Rattle.eval.specs.Config.{Env, Config, End, ends, fault, refused}
 use Rattle.eval.specs.Instructions.{cell-of, update-operand, act, run-ins}
-use Rattle.eval.specs.Counted.{counted}
+use Rattle.eval.specs.Counted.{nothing-counted}
 use Rattle.eval.specs.Running.{run-code, run-checked, run-read, run-of}
 use Rattle.stores.specs.Stores.{Store, with-stores, to-cell, store, stores-to, stores, stores-of, Completed, completed}
 use Rattle.stores.specs.OnlyStores.{To64, OnlyStores}
@@ -67,10 +67,10 @@ module _ (env : Env) where
 
   -- whatever the outcome of a code's run
   pub only-stores : (limit : Option ℕ) (c : Code) (fuel : ℕ) (s : Config)
-      → OnlyStores env limit c fuel s (run-code env limit c fuel s (counted 0) .end .config .values)
+      → OnlyStores env limit c fuel s (run-code env limit c fuel s nothing-counted .end .config .values)
   only-stores limit c fuel s =
-      let m = traced env limit c fuel s (counted 0) .made in
-      let all = all-64 (completed env limit c fuel s (counted 0)) in
+      let m = traced env limit c fuel s nothing-counted .made in
+      let all = all-64 (completed env limit c fuel s nothing-counted) in
       record {
         made = m;
         to-64 = all;
@@ -86,11 +86,11 @@ module _ (env : Env) where
 
   -- accepted code over accepted cells is never refused
   pub never-refused : (limit : Option ℕ) (c : Code) (fuel : ℕ) (s t : Config) (n p : ℕ)
-      → run-code env limit c fuel s (counted 0) .end ≡ ends (refused n p) t → ⊥
-  never-refused limit c fuel s t n p e = rw e at (traced env limit c fuel s (counted 0) .judged)
+      → run-code env limit c fuel s nothing-counted .end ≡ ends (refused n p) t → ⊥
+  never-refused limit c fuel s t n p e = rw e at (traced env limit c fuel s nothing-counted .judged)
 
 -- Running of code that is read, over accepted cells, is the run of its tree
 pub runs-tree : (code : List ℕ) (env : Env) (fuel : ℕ) (limit : Option ℕ) (s : Config) (c : Code) (next : ℕ) → parse code ≡ got c next
-    → check-cells (env .addresses) (env .tags) (s .values) ≡ accepted → run-of code env fuel limit s ≡ run-code env limit c fuel s (counted 0)
+    → check-cells (env .addresses) (env .tags) (s .values) ≡ accepted → run-of code env fuel limit s ≡ run-code env limit c fuel s nothing-counted
 unfolding run-of run-read run-checked
 runs-tree code env fuel limit s c next r k = rw (r, k)
