@@ -1,5 +1,6 @@
 pub mod Demands
 pub mod Counting
+pub mod Somewhere
 pub mod Telling
 pub mod Bound
 pub mod Stepping

@@ -3,7 +3,6 @@ use Prim.Native.Nat.{ℕ, zero, suc, _≤_, _<_}
 use mathlib.Core.Path.{_≡_, refl, sym, ap, subst, subst⁻¹, _∙_}
 use mathlib.Core.Bool.{Bool, true, false, cond}
 use mathlib.Core.List.{List, [], _∷_}
-use mathlib.Core.Logic.{_⊎_, inl, inr, ⊎-elim}
 use mathlib.Core.Option.{Option, none, some}
 use native.Mathlib.Omega.{arith}
 use borrow.Author.Tests.{leb-true, leb-false}
@@ -19,7 +18,8 @@ use Rattle.eval.specs.Counted.{Counted, nothing-counted, Ended, ended, Part, co
 use Rattle.eval.specs.Instructions.{readable, ruled, written, update-operand, act, run-ins, valid-ocmp, eval-ocmp}
 use Rattle.eval.specs.Running.{run-ocmp, decide, rounds, run-code, run-codes, run-checked, run-read, run-of}
 use Rattle.eval.proofs.StepLaws.{step-stopped, step-tried}
-use Rattle.demands.specs.Stepping.{StepAt, StepIn, tried, DoneOrFails, is-done, fails, Stepping}
+use Rattle.demands.specs.Stepping.{StopsAt, tried, DoneOrFails, is-done, fails, Stepping}
+use Rattle.demands.proofs.Somewhere.{run-ends}
 use Rattle.demands.proofs.Bound.{bounded}
 
 -- ---- what is tried is done, or fails where it stands
@@ -312,15 +312,11 @@ module _ (limit : Option ℕ) (n p : ℕ) where
   abbrev Stops : Ended → Type 0
   Stops e = e .end .how ≡ stopped n p
 
-  -- the number is 37, and A is so of the place
-  abbrev Says : Type 0 → Type 0
-  Says A = (n ≡ 37) × A
-
   is-stopped : {o : Outcome} → o ≡ stopped n p → IsStopped o
   is-stopped e = subst⁻¹ IsStopped e tt
 
   -- a step stops only at its own place, and what is tried never does
-  step-stops : (q : ℕ) (act : Config → End) (s : Config) (k : Counted) → DoneOrFails q s (act s) → Stops (step limit q act s k) → Says (q ≡ p)
+  step-stops : (q : ℕ) (act : Config → End) (s : Config) (k : Counted) → DoneOrFails q s (act s) → Stops (step limit q act s k) → (q ≡ p) × (n ≡ 37)
   unfolding step
   step-stops q act s k h e = go (used-up limit k) e
     where
@@ -328,88 +324,16 @@ module _ (limit : Option ℕ) (n p : ℕ) where
       ends-otherwise (is-done t x) w = subst (λ (y : End). IsStopped (y .how)) x w
       ends-otherwise (fails m x) w = subst (λ (y : End). IsStopped (y .how)) x w
 
-      go : (b : Bool) → Stops (cond b (ended (stopped 37 q) s k) (record { end = act s; counted = count (act s .how) k })) → Says (q ≡ p)
+      go : (b : Bool) → Stops (cond b (ended (stopped 37 q) s k) (record { end = act s; counted = count (act s .how) k })) → (q ≡ p) × (n ≡ 37)
       go true x = (cc, cc)
       go false x = absurd (ends-otherwise h (is-stopped x))
 
-  -- somewhere a part of a run is stopped
-  abbrev StopsIn : Part → Type 0
-  StopsIn f = (t : Config) × (l : Counted) × Stops (f t l)
-
-  then-stops : (e : Ended) (f : Part) → Stops (and-then e f) → Stops e ⊎ StopsIn f
-  unfolding continue
-  then-stops e f h = go (e .end .how) (e .end .config) (e .counted) h
-    where
-      go : (o : Outcome) (t : Config) (l : Counted) → Stops (continue o t l f) → Stops (ended o t l) ⊎ StopsIn f
-      go done t l h = inr (t, l, h)
-      go (fault m q) t l h = inl h
-      go (stopped m q) t l h = inl h
-      go (spent q) t l h = inl h
-      go (refused m q) t l h = inl h
-
-  module _ (env : Env) where
-    decide-stops : (q : ℕ) (c : Ocmp) (f g : Part) (A B : Type 0) → (StopsIn f → Says A) → (StopsIn g → Says B)
-        → (s : Config) (k : Counted) → Stops (decide env limit q c f g s k) → Says ((q ≡ p) ⊎ (A ⊎ B))
-    unfolding decide
-    decide-stops q c f g A B F G s k e =
-        ⊎-elim
-        (λ h. let w = step-stops q (run-ocmp env q c) s k (either-ocmp q s env c) h in (w .0, inl (w .1)))
-        (λ h. go (eval-ocmp env c s) h)
-        (then-stops (step limit q (run-ocmp env q c) s k) (cond (eval-ocmp env c s) f g) e)
-      where
-        go : (b : Bool) → StopsIn (cond b f g) → Says ((q ≡ p) ⊎ (A ⊎ B))
-        go true h = let w = F h in (w .0, inr (inl (w .1)))
-        go false h = let w = G h in (w .0, inr (inr (w .1)))
-
-    rounds-stop : (body : ℕ → Part) (r q : ℕ) (c : Ocmp) (A : Type 0) → ((f : ℕ) → StopsIn (body f) → Says A)
-        → (f : ℕ) (s : Config) (k : Counted) → Stops (rounds env limit body r q c f s k) → Says ((q ≡ p) ⊎ A)
-    unfolding rounds
-    rounds-stop body r q c A inside zero s k e = absurd (is-stopped e)
-    rounds-stop body r q c A inside (suc f) s k e =
-        let w = decide-stops q c _ _ ((q ≡ p) ⊎ A) A
-        (λ h. ⊎-elim
-        (λ x. let y = inside f (h .0, h .1, x) in (y .0, inr (y .1)))
-        (λ x. rounds-stop body r q c A inside f (x .0) (x .1) (x .2))
-        (then-stops (body f (h .0) (h .1)) (rounds env limit body r q c f) (h .2)))
-        (λ h. absurd (is-stopped (h .2))) s k e
-        in
-        (w .0, ⊎-elim (λ h. inl h) (λ h. ⊎-elim (λ x. x) (λ x. inr x) h) (w .1))
-
-    mutual
-      unfolding run-code run-codes
-
-      code-stops : (c : Code) (f : ℕ) (s : Config) (k : Counted) → Stops (run-code env limit c f s k) → Says (StepAt c p)
-      code-stops (Ins q i) f s k e = step-stops q (run-ins env q i) s k (either-ins q s env i) e
-      code-stops (Block q cs) f s k e = codes-stop cs f s k e
-      code-stops (IfElse r q c a b) f s k e =
-          decide-stops q c _ _ (StepAt a p) (StepAt b p) (λ h. code-stops a f (h .0) (h .1) (h .2)) (λ h. code-stops b f (h .0) (h .1) (h .2)) s k e
-      code-stops (While r q c b) f s k e =
-          rounds-stop (run-code env limit b) r q c (StepAt b p) (λ g h. code-stops b g (h .0) (h .1) (h .2)) f s k e
-
-      codes-stop : (cs : Codes) (f : ℕ) (s : Config) (k : Counted) → Stops (run-codes env limit cs f s k) → Says (StepIn cs p)
-      codes-stop ⟨⟩ f s k e = absurd (is-stopped e)
-      codes-stop (c ∷ᶜ cs) f s k e =
-          ⊎-elim
-          (λ h. let w = code-stops c f s k h in (w .0, inl (w .1)))
-          (λ h. let w = codes-stop cs f (h .0) (h .1) (h .2) in (w .0, inr (w .1)))
-          (then-stops (run-code env limit c f s k) (run-codes env limit cs f) e)
-
-    -- Running, which is stopped only where code was read and cells were accepted
-    run-stops : (code : List ℕ) (fuel : ℕ) (s : Config) → Stops (run-of code env fuel limit s)
-        → Says ((c : Code) × (next : ℕ) × (parse code ≡ got c next) × StepAt c p)
-    unfolding run-of run-read run-checked
-    run-stops code fuel s e = read (parse code) refl e
-      where
-        checked : (v : Verdict) (c : Code) → Stops (run-checked env v c fuel limit s) → Says (StepAt c p)
-        checked accepted c e = code-stops c fuel s nothing-counted e
-        checked (cells-refused m i) c e = absurd (is-stopped e)
-
-        read : (r : Read Code) → parse code ≡ r → Stops (run-read env r fuel limit s)
-            → Says ((c : Code) × (next : ℕ) × (parse code ≡ got c next) × StepAt c p)
-        read (got c next) is e =
-            let w = checked (check-cells (env .addresses) (env .tags) (s .values)) c e in
-            (w .0, (c, next, is, w .1))
-        read (trouble m q) is e = absurd (is-stopped e)
+  run-stops : (env : Env) (code : List ℕ) (fuel : ℕ) (s : Config) → Stops (run-of code env fuel limit s)
+      → (c : Code) × (next : ℕ) × (parse code ≡ got c next) × StopsAt c p n
+  run-stops env =
+      run-ends env limit Stops _ _ (λ s k e. is-stopped e) (λ q s k e. is-stopped e) (λ m q s k e. is-stopped e)
+      (λ q i s k e. step-stops q (run-ins env q i) s k (either-ins q s env i) e)
+      (λ q c s k e. step-stops q (run-ocmp env q c) s k (either-ocmp q s env c) e)
 
 pub stepping : Stepping
 unfolding run-code rounds count decide continue

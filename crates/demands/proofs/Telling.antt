@@ -1,19 +1,17 @@
 -- A check that fails has one reason, and a reason makes its check fail: said once of an operand, and then of sources, rules and destinations in a row, of
 -- a comparison, and of a whole run by its tree. Assumes nothing.
-use Prim.Native.Nat.{ℕ, zero, suc, _^_}
+use Prim.Native.Nat.{ℕ, _^_}
 use mathlib.Core.Path.{_≡_, refl, sym, _∙_, ap, subst, subst⁻¹}
 use mathlib.Core.Bool.{Bool, true, false, not, _&&_, cond, false≢true}
 use mathlib.Core.List.{List, [], _∷_, _++_, map, reverse}
 use mathlib.Core.Logic.{_⊎_, inl, inr, ⊎-elim}
 use mathlib.Core.Option.{Option, none, some}
-use native.Mathlib.Omega.{arith}
 use borrow.Author.Tests.{leb-true, le-leb, eqb-true}
 use lib.Dec.{eqb}
 use lib.IntN.{ℤ, pos, negsuc}
 use Rattle.machine.specs.Registers.{Rsp, reg}
 use Rattle.machine.specs.Operands.{eval-maddr, wild, wild-operand, wild-or, unread-number, valid-dst}
-use Rattle.machine.specs.Cells.{Verdict, accepted, check-cells, find-cell, is-cell}
-use Rattle.machine.specs.Cells.{refused as cells-refused}
+use Rattle.machine.specs.Cells.{find-cell, is-cell}
 use Rattle.machine.specs.declared.Maddr.{Maddr}
 use Rattle.machine.specs.declared.Operand.{Operand}
 use Rattle.machine.specs.declared.Operand.the-variants.{OConst, OReg, OMem}
@@ -23,14 +21,15 @@ use Rattle.code.specs.declared.tree.Ocmp.{Ocmp}
 use Rattle.code.specs.declared.tree.Ocmp.the-variants.{OEq, ONe, OLe, OGe, OLt, OGt}
 use Rattle.code.specs.Layout.{layout, ocmp-layout}
 use Rattle.code.proofs.Layouts.{every-ins}
-use Rattle.code.specs.Tree.{Code, Ins, Block, IfElse, While, Codes, ⟨⟩, _∷ᶜ_}
-use Rattle.code.specs.Reader.{Read, got, trouble, parse}
+use Rattle.code.specs.Tree.{Code}
+use Rattle.code.specs.Reader.{got, parse}
 use Rattle.eval.specs.Config.{Env, Config, with-flags, Outcome, done, fault, stopped, spent, refused, End, ends, check}
-use Rattle.eval.specs.Instructions.{cell-of, valid-operand, valid-dst-operand, update-operand, readable, ruled, written, act, run-ins, valid-ocmp, ocmp-number, eval-ocmp}
-use Rattle.eval.specs.Counted.{Counted, nothing-counted, Ended, ended, Part, continue, and-then, used-up, count, step}
-use Rattle.eval.specs.Running.{run-ocmp, decide, rounds, run-code, run-codes, run-checked, run-read, run-of}
+use Rattle.eval.specs.Instructions.{cell-of, valid-operand, valid-dst-operand, update-operand, readable, ruled, written, act, run-ins, valid-ocmp, ocmp-number}
+use Rattle.eval.specs.Counted.{Counted, Ended, ended, used-up, count, step}
+use Rattle.eval.specs.Running.{run-ocmp, run-of}
 use Rattle.source.proofs.OperandLaws.{both}
-use Rattle.demands.specs.Telling.{OutOfRange, Wild, Absent, Unread, wild-src, absent-src, Unwritten, wild-dst, absent-dst, constant, rsp, AllRead, FirstUnread, AllHold, FirstBroken, FirstUnwritten, Fails, FailsAt, FailsIn, rule-numbers, AcceptedCells, Telling}
+use Rattle.demands.proofs.Somewhere.{run-ends}
+use Rattle.demands.specs.Telling.{OutOfRange, Wild, Absent, Unread, wild-src, absent-src, Unwritten, wild-dst, absent-dst, constant, rsp, AllRead, FirstUnread, AllHold, FirstBroken, FirstUnwritten, Fails, FailsAt, rule-numbers, AcceptedCells, Telling}
 
 -- ---- exact addresses
 wild-is : (z : ℤ) → wild z ≡ true → OutOfRange z
@@ -298,14 +297,6 @@ module _ (env : Env) where
     abbrev Faults : Ended → Type 0
     Faults e = e .end ≡ ends (fault n p) t
 
-    -- a comparison at q
-    abbrev FailsBefore : ℕ → Ocmp → Type 0
-    FailsBefore q c = (q ≡ p) × FirstUnread env t (ocmp-layout c .operands) n
-
-    -- somewhere a part of a run faults
-    abbrev FaultsIn : Part → Type 0
-    FaultsIn f = (u : Config) × (l : Counted) × Faults (f u l)
-
     -- a step that faults was tried
     step-faults : (q : ℕ) (act : Config → End) (s : Config) (k : Counted) → Faults (step limit q act s k) → act s ≡ ends (fault n p) t
     unfolding step
@@ -315,85 +306,28 @@ module _ (env : Env) where
         go true e = absurd (is-fault e)
         go false e = e
 
-    -- a fault of two in a row is the first one's, or the second one's
-    then-faults : (e : Ended) (f : Part) → Faults (and-then e f) → Faults e ⊎ FaultsIn f
-    unfolding continue
-    then-faults e f h = go (e .end .how) (e .end .config) (e .counted) h
-      where
-        go : (o : Outcome) (u : Config) (l : Counted) → Faults (continue o u l f) → Faults (ended o u l) ⊎ FaultsIn f
-        go done u l h = inr (u, l, h)
-        go (fault m q) u l h = inl h
-        go (stopped m q) u l h = inl h
-        go (spent q) u l h = inl h
-        go (refused m q) u l h = inl h
+    ins-there : (q : ℕ) (i : Instruction) (s : Config) (k : Counted) → Faults (step limit q (run-ins env q i) s k) → (q ≡ p) × Fails env i t n
+    ins-there q i s k e =
+        let w = ins-faults q s i (step-faults q (run-ins env q i) s k e) in
+        (sym (w .0), subst⁻¹ (λ (x : Config). Fails env i x n) (w .1) (w .2))
 
-    -- a fault is the comparison's, or that of one of its ways
-    decide-faults : (q : ℕ) (c : Ocmp) (f g : Part) (s : Config) (k : Counted) → Faults (decide env limit q c f g s k)
-        → FailsBefore q c ⊎ (FaultsIn f ⊎ FaultsIn g)
-    unfolding decide run-ocmp
-    decide-faults q c f g s k e =
+    ocmp-there : (q : ℕ) (c : Ocmp) (s : Config) (k : Counted) → Faults (step limit q (run-ocmp env q c) s k)
+        → (q ≡ p) × FirstUnread env t (ocmp-layout c .operands) n
+    unfolding run-ocmp
+    ocmp-there q c s k e =
         ⊎-elim
-        (λ h. ⊎-elim
-        (λ w. inl (
+        (λ w. (
           sym (w .1),
           subst⁻¹ (λ (x : Config). FirstUnread env x (ocmp-layout c .operands) n) (w .2)
               (subst⁻¹ (λ m. FirstUnread env s (ocmp-layout c .operands) m) (w .3) (ocmp-unread s c (w .0))),
         ))
         (λ w. absurd (is-fault (w .1)))
-        (check-faults q s (valid-ocmp env c s) _ _ (step-faults q (run-ocmp env q c) s k h)))
-        (λ h. inr (go (eval-ocmp env c s) h))
-        (then-faults (step limit q (run-ocmp env q c) s k) (cond (eval-ocmp env c s) f g) e)
-      where
-        go : (b : Bool) → FaultsIn (cond b f g) → FaultsIn f ⊎ FaultsIn g
-        go true h = inl h
-        go false h = inr h
+        (check-faults q s (valid-ocmp env c s) _ _ (step-faults q (run-ocmp env q c) s k e))
 
-    rounds-fault : (body : ℕ → Part) (r q : ℕ) (c : Ocmp) (A : Type 0) → ((f : ℕ) (u : Config) (l : Counted) → Faults (body f u l) → A)
-        → (f : ℕ) (s : Config) (k : Counted) → Faults (rounds env limit body r q c f s k) → FailsBefore q c ⊎ A
-    unfolding rounds
-    rounds-fault body r q c A inside zero s k e = absurd (is-fault e)
-    rounds-fault body r q c A inside (suc f) s k e =
-        ⊎-elim (λ h. inl h)
-        (λ h. ⊎-elim
-        (λ x. ⊎-elim (λ y. inr (inside f (x .0) (x .1) y)) (λ y. rounds-fault body r q c A inside f (y .0) (y .1) (y .2))
-        (then-faults (body f (x .0) (x .1)) _ (x .2)))
-        (λ x. absurd (is-fault (x .2)))
-        h)
-        (decide-faults q c _ _ s k e)
-
-    mutual
-      unfolding run-code run-codes
-
-      code-faults : (c : Code) (f : ℕ) (s : Config) (k : Counted) → Faults (run-code env limit c f s k) → FailsAt env c p t n
-      code-faults (Ins q i) f s k e =
-          let w = ins-faults q s i (step-faults q (run-ins env q i) s k e) in
-          (sym (w .0), subst⁻¹ (λ (x : Config). Fails env i x n) (w .1) (w .2))
-      code-faults (Block q cs) f s k e = codes-fault cs f s k e
-      code-faults (IfElse r q c a b) f s k e =
-          ⊎-elim (λ h. inl h)
-          (λ h. inr (⊎-elim (λ x. inl (code-faults a f (x .0) (x .1) (x .2))) (λ x. inr (code-faults b f (x .0) (x .1) (x .2))) h))
-          (decide-faults q c _ _ s k e)
-      code-faults (While r q c b) f s k e = rounds-fault (run-code env limit b) r q c (FailsAt env b p t n) (code-faults b) f s k e
-
-      codes-fault : (cs : Codes) (f : ℕ) (s : Config) (k : Counted) → Faults (run-codes env limit cs f s k) → FailsIn env cs p t n
-      codes-fault ⟨⟩ f s k e = absurd (is-fault e)
-      codes-fault (c ∷ᶜ cs) f s k e =
-          ⊎-elim (λ h. inl (code-faults c f s k h)) (λ h. inr (codes-fault cs f (h .0) (h .1) (h .2))) (then-faults (run-code env limit c f s k) _ e)
-
-    -- Running, which faults only where code was read and cells were accepted
     run-faults : (code : List ℕ) (fuel : ℕ) (s : Config) → Faults (run-of code env fuel limit s)
         → (c : Code) × (next : ℕ) × (parse code ≡ got c next) × FailsAt env c p t n
-    unfolding run-of run-read run-checked
-    run-faults code fuel s e = read (parse code) refl e
-      where
-        checked : (v : Verdict) (c : Code) → Faults (run-checked env v c fuel limit s) → FailsAt env c p t n
-        checked accepted c e = code-faults c fuel s nothing-counted e
-        checked (cells-refused m i) c e = absurd (is-fault e)
-
-        read : (r : Read Code) → parse code ≡ r → Faults (run-read env r fuel limit s)
-            → (c : Code) × (next : ℕ) × (parse code ≡ got c next) × FailsAt env c p t n
-        read (got c next) is e = (c, next, is, checked (check-cells (env .addresses) (env .tags) (s .values)) c e)
-        read (trouble m q) is e = absurd (is-fault e)
+    run-faults =
+        run-ends env limit Faults _ _ (λ s k e. is-fault e) (λ q s k e. is-fault e) (λ m q s k e. is-fault e) ins-there ocmp-there
 
 -- what each instruction judges and by which rules, of the table of acts
 judged-all : (env : Env) (s : Config) (i : Instruction) → layout i .operands ≡ reverse (map (λ w. w .0) (act env i s .words)) ++ act env i s .sources

@@ -1,4 +1,5 @@
 pub mod Demands
 pub mod Counting
+pub mod Somewhere
 pub mod Telling
 pub mod Stepping

@@ -4,7 +4,6 @@ use Prim.Native.Nat.{ℕ, suc, _+_, _*_, _^_, _≤_, _<_, max}
 use mathlib.Core.Path.{_≡_}
 use mathlib.Core.Bool.{true, false, cond}
 use mathlib.Core.List.{List}
-use mathlib.Core.Logic.{_⊎_}
 use mathlib.Core.Option.{Option, none, some}
 use Rattle.code.specs.declared.tree.Instruction.{Instruction}
 use Rattle.code.specs.declared.tree.Ocmp.{Ocmp}
@@ -14,6 +13,7 @@ use Rattle.eval.specs.Config.{Env, Config, Outcome, done, fault, stopped, spent
 use Rattle.eval.specs.Counted.{Counted, ended, Part, used-up, count, step}
 use Rattle.eval.specs.Instructions.{run-ins, eval-ocmp}
 use Rattle.eval.specs.Running.{run-ocmp, decide, run-code, run-of}
+use Rattle.demands.specs.Somewhere.{Somewhere}
 
 unfoldable mutual
   -- how many codes a code is made of, itself too: instructions, Blocks, IfElses and Whiles
@@ -41,18 +41,9 @@ unfoldable mutual
   whiles-in ⟨⟩ = 0
   whiles-in (c ∷ᶜ cs) = max (whiles c) (whiles-in cs)
 
-abbrev mutual
-  -- an instruction or a comparison stands at p in a code
-  pub StepAt : Code → ℕ → Type 0
-  StepAt (Ins q i) p = q ≡ p
-  StepAt (Block q cs) p = StepIn cs p
-  StepAt (IfElse r q c a b) p = (q ≡ p) ⊎ (StepAt a p ⊎ StepAt b p)
-  StepAt (While r q c b) p = (q ≡ p) ⊎ StepAt b p
-
-  -- in one of these codes
-  pub StepIn : Codes → ℕ → Type 0
-  StepIn ⟨⟩ p = ⊥
-  StepIn (c ∷ᶜ cs) p = StepAt c p ⊎ StepIn cs p
+-- an instruction or a comparison stands at p in a code, and n is 37
+abbrev pub StopsAt : Code → ℕ → ℕ → Type 0
+StopsAt c p n = Somewhere (λ q i. (q ≡ p) × (n ≡ 37)) (λ q o. (q ≡ p) × (n ≡ 37)) c
 
 -- how many instructions and comparisons a run has tried: its steps, and one more where it ends in a fault
 unfoldable pub tried : Outcome → Counted → ℕ
@@ -110,6 +101,6 @@ pub record Stepping : Type 0 where
   pub before-fault : (code : List ℕ) (env : Env) (fuel l n p : ℕ) (s t : Config)
       → let u = run-of code env fuel none s in u .end ≡ ends (fault n p) t → u .counted .steps ≡ l
       → let e = run-of code env fuel (some l) s in (e .end ≡ ends (stopped 37 p) t) × (e .counted .steps ≡ l)
-  -- the place is that of an instruction or a comparison
+  -- the number is 37, and the place that of an instruction or a comparison
   pub placed : (code : List ℕ) (env : Env) (fuel : ℕ) (limit : Option ℕ) (n p : ℕ) (s : Config) → run-of code env fuel limit s .end .how ≡ stopped n p
-      → (n ≡ 37) × ((c : Code) × (next : ℕ) × (parse code ≡ got c next) × StepAt c p)
+      → (c : Code) × (next : ℕ) × (parse code ≡ got c next) × StopsAt c p n

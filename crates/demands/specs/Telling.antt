@@ -18,11 +18,12 @@ use Rattle.code.specs.declared.tree.Instruction.{Instruction}
 use Rattle.code.specs.declared.tree.Ocmp.{Ocmp}
 use Rattle.code.specs.Families.{at-kind}
 use Rattle.code.specs.Layout.{layout, ocmp-layout}
-use Rattle.code.specs.Tree.{Code, Ins, Block, IfElse, While, Codes, ⟨⟩, _∷ᶜ_}
+use Rattle.code.specs.Tree.{Code}
 use Rattle.code.specs.Reader.{got, parse}
 use Rattle.eval.specs.Config.{Env, Config, with-flags, ends, done, fault}
 use Rattle.eval.specs.Instructions.{cell-of, valid-operand, valid-dst-operand, update-operand, act, run-ins}
 use Rattle.eval.specs.Running.{run-ocmp, run-of}
+use Rattle.demands.specs.Somewhere.{Somewhere}
 
 -- an exact address below 0 or above 2^64 - 1
 abbrev pub OutOfRange : ℤ → Type 0
@@ -88,18 +89,9 @@ module _ (env : Env) where
       FirstUnread s (a .sources) n
       ⊎ (AllRead s (a .sources) × (FirstBroken (a .rules) n ⊎ (AllHold (a .rules) × FirstUnwritten s (a .words) n)))
 
-  abbrev mutual
-    -- what stands at p in a code, an instruction or a comparison, fails in t with n
-    pub FailsAt : Code → ℕ → Config → ℕ → Type 0
-    FailsAt (Ins q i) p t n = (q ≡ p) × Fails i t n
-    FailsAt (Block q cs) p t n = FailsIn cs p t n
-    FailsAt (IfElse r q c a b) p t n = ((q ≡ p) × FirstUnread t (ocmp-layout c .operands) n) ⊎ (FailsAt a p t n ⊎ FailsAt b p t n)
-    FailsAt (While r q c b) p t n = ((q ≡ p) × FirstUnread t (ocmp-layout c .operands) n) ⊎ FailsAt b p t n
-
-    -- in one of these codes
-    pub FailsIn : Codes → ℕ → Config → ℕ → Type 0
-    FailsIn ⟨⟩ p t n = ⊥
-    FailsIn (c ∷ᶜ cs) p t n = FailsAt c p t n ⊎ FailsIn cs p t n
+  -- what stands at p in a code, an instruction or a comparison, fails in t with n
+  abbrev pub FailsAt : Code → ℕ → Config → ℕ → Type 0
+  FailsAt c p t n = Somewhere (λ q i. (q ≡ p) × Fails i t n) (λ q o. (q ≡ p) × FirstUnread t (ocmp-layout o .operands) n) c
 
 -- the numbers of the rules of each kind: 33 of Shr64 and Shl64, 34 of Pslld and Psrld, 35 of VPSLLDQ
 abbrev pub rule-numbers : ℕ → List ℕ
