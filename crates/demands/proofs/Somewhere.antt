@@ -44,7 +44,8 @@ module _ (env : Env) (limit : Option ℕ) (E : Ended → Type 0) (A : ℕ → In
   decide-ends : (q : ℕ) (c : Ocmp) (f g : Part) (s : Config) (k : Counted) → E (decide env limit q c f g s k) → B q c ⊎ (EndsIn f ⊎ EndsIn g)
   unfolding decide
   decide-ends q c f g s k h =
-      ⊎-elim (λ x. inl (of-ocmp q c s k x)) (λ x. inr (go (eval-ocmp env c s) x)) (then-ends (step limit q (run-ocmp env q c) s k) (cond (eval-ocmp env c s) f g) h)
+      ⊎-elim (λ x. inl (of-ocmp q c s k x)) (λ x. inr (go (eval-ocmp env c s) x))
+      (then-ends (step limit q (run-ocmp env q c) s k) (cond (eval-ocmp env c s) f g) h)
     where
       go : (b : Bool) → EndsIn (cond b f g) → EndsIn f ⊎ EndsIn g
       go true x = inl x
