@@ -48,7 +48,7 @@ continue (refused n p) s k f = ended (refused n p) s k
 abbrev pub and-then : Ended → Part → Ended
 and-then e f = continue (e .end .how) (e .end .config) (e .counted) f
 
--- whether the limit is used up: as many steps were made. A run without a limit has none
+-- whether the limit is used up: as many steps were made. Where there is no limit, it never is
 unfoldable pub used-up : Option ℕ → Counted → Bool
 used-up none k = false
 used-up (some limit) k = leb limit (k .steps)
