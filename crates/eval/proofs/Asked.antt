@@ -1,11 +1,13 @@
 -- What the functions are asked, said of what their calls have answered, so that `search` finds it: laws of operands, comparisons,
 -- instructions, structures and checks, in this order. Assumes nothing.
 use Prim.Native.Nat.{ℕ, _+_, _-_, _*_, _%_, _^_, _≤_, _<_}
-use mathlib.Core.Path.{_≡_, refl, sym, ap, _∙_}
-use mathlib.Core.Bool.{Bool, true, false, _&&_, cond}
+use mathlib.Core.Path.{_≡_, refl, sym, ap, subst, _∙_}
+use mathlib.Core.Bool.{Bool, true, false, not, _&&_, cond, true≢false}
 use mathlib.Core.List.{List, []}
 use mathlib.Core.Option.{Option, some}
+use mathlib.Core.Logic.{_⊎_, inl, inr, ⊎-elim}
 use native.Mathlib.Omega.{arith}
+use borrow.Author.Tests.{eq-eqb, ne-eqb, eqb-true, eqb-false, not-true, not-false}
 use lib.Dec.{eqb, leb}
 use lib.ListN.{length, getD, set}
 use mir.Syntax.{w64}
@@ -22,7 +24,8 @@ use Rattle.machine.specs.declared.Maddr.{Maddr}
 use Rattle.machine.specs.declared.Operand.{Operand}
 use Rattle.machine.specs.declared.Operand.the-variants.{OMem}
 use Rattle.code.specs.Records.{is-ocmp, byte-at, number-at, operand-at, ocmp-at, behind}
-use Rattle.code.specs.Spells.{OperandBytes, OperandsFrom, Stands}
+use Rattle.code.specs.Tree.{Code}
+use Rattle.code.specs.Spells.{OperandBytes, OperandsFrom, Stands, Spells}
 use Rattle.code.specs.declared.tree.Instruction.{Instruction}
 use Rattle.code.specs.declared.tree.Instruction.the-variants.{AddLea64, Mul64, Mulx64, Pshufd, VPSLLDQ, Pextrq}
 use Rattle.code.specs.Families.{is-two, is-quads, is-shifts, is-inserts, two-ins, quads-ins, shifts-ins, inserts-ins}
@@ -37,20 +40,21 @@ use Rattle.code.proofs.Forms.{constant-is, register-is, register-below}
 use Rattle.eval.specs.Config.{Env, Config, with-flags}
 use Rattle.eval.specs.Config as Config
 use Rattle.eval.specs.Counted.{Counted, nothing-counted, ended}
-use Rattle.eval.specs.Running.{run-of}
+use Rattle.eval.specs.Running.{run-code, run-of}
 use Rattle.eval.specs.Instructions.{checks-amount, two-word, two-flags, inserts-word, run-ins}
-use Rattle.eval.specs.Promises.{environment, held, Cells, CodeAt, CodesAt, InsAt, OcmpAt, codes-from, Loads, Seeks, Resolves, no-slot, put-regs, put-values, comparison, Compares, Ran, StepsIns, DecidesAt, Runs, RunsIns, RunsAll}
+use Rattle.eval.specs.Promises.{environment, held, Cells, CodeAt, CodesAt, InsAt, OcmpAt, codes-from, Loads, Seeks, Resolves, no-slot, put-regs, put-values, comparison, Compares, how, Ran, StepsIns, DecidesAt, TestedAt, test-at, BehindTest, part-fuel, second-at, end-at, way-from, Runs, RunsIns, RunsAll}
 use Rattle.eval.specs.declared.exit.Exit.{Exit}
 use Rattle.eval.specs.declared.operand.Sought.{Sought}
 use Rattle.eval.specs.declared.operand.Loaded.{Loaded}
 use Rattle.eval.specs.declared.operand.Slot.{Slot}
 use Rattle.eval.specs.declared.comparison.Compared.{Compared}
+use Rattle.eval.specs.declared.cycle.Way.{Way}
 use Rattle.eval.proofs.OperandLaws.{load-constant, load-register, load-cell, load-none, resolve-constant, resolve-rsp, resolve-register, resolve-cell, resolve-none, cell-inside}
 use Rattle.eval.proofs.InstructionLaws.{exit, ran-stood, load-at, slot-at, plus-none, two-unread, two-amount, two-unwritten, two-done, lea-unread, lea-unread-second, lea-unwritten, lea-done, mul-unread, mul-done, mulx-unread, mulx-unwritten, mulx-unresolved, mulx-done}
 use Rattle.eval.proofs.LaneLaws.{extract-unwritten, extract-done, inserts-unread, inserts-done}
 use Rattle.eval.proofs.ComparisonLaws.{stands-inside, first-unread, second-unread, compared}
 use Rattle.eval.proofs.RunLaws.{code-refused, cells-refused}
-use Rattle.eval.proofs.CycleLaws.{code-frame, starts, has-length, block-inside, choice-inside, loop-inside, how-done, ins-ran, codes-past, Going, next-there, next-past, block-codes, block-ran, if-stops, Chosen, chosen-there, chosen-ran, Looping, loop-ran, loop-spent, loop-stopped, loop-done, Round, round-ends, round-there, round-goes, round-stops}
+use Rattle.eval.proofs.CycleLaws.{code-frame, starts, has-length, Choice, choice-inside, loop-inside, how-done, ins-ran, codes-past, Going, next-there, next-past, if-stops, Chosen, chosen-there, chosen-ran, Looping, loop-ran, looped, loop-spent, loop-stopped, loop-done, Round, round-ends, round-there, round-goes, round-stops}
 
 -- ---- an operand, of which a form was decoded, and the place next behind it
 abbrev Finds : List ℕ → List ℕ → List ℕ → List ℕ → ℕ → ℕ → Sought → Type 0
@@ -560,10 +564,6 @@ module _ (bs : List ℕ) (at : ℕ) (c : CodeAt bs at) (k : 0x20 ≤ byte-at bs 
   pub length-inside : at + 1 + 4 ≤ length bs
   length-inside = omega (arith, has-length bs at c k)
 
-  -- what is behind the first length is measured less than the structure
-  pub behind-less : (fuel m : ℕ) → fuel + (length bs - (at + 1)) ≡ m → fuel + (length bs - (at + 5)) < m
-  behind-less fuel m is = omega (arith, has-length bs at c k)
-
   module _ (room : length bs * 1 < 2 ^ 63) where
     pub length-fits : Fits w64 (at + 1)
     length-fits = omega (arith, has-length bs at c k)
@@ -575,21 +575,6 @@ pub while-kind :
     (bs : List ℕ) (at : ℕ) → CodeAt bs at →
     0x20 ≤ byte-at bs at → (byte-at bs at ≡ 0x20 → ⊥) → (byte-at bs at ≡ 0x21 → ⊥) → byte-at bs at ≡ 0x22
 while-kind bs at c = code-frame bs at c .kinds
-
--- ---- a Block of n bytes
-module _ (bs : List ℕ) (at n : ℕ) (c : CodeAt bs at) (k : byte-at bs at ≡ 0x20) (size : n ≡ number-at 4 bs (at + 1)) where
-  pub block-fits : length bs * 1 < 2 ^ 63 → Fits w64 (at + 5 + n)
-  block-fits room = omega (arith, block-inside bs at c k)
-
-  pub codes-of-block : CodesAt bs (at + 5) (at + 5 + n)
-  codes-of-block = block-codes bs at _ k (ap (λ (m : ℕ). at + 5 + m) size) c
-
-pub block-done :
-    (env : Env) (limit : Option ℕ) (bs : List ℕ) (at n fuel : ℕ) (s : Config) (k : Counted) (r : Exit) (t : Config) (l : Counted) →
-    byte-at bs at ≡ 0x20 → n ≡ number-at 4 bs (at + 1) →
-    RunsAll env limit bs (at + 5) (at + 5 + n) fuel s k r t l → Runs env limit bs at fuel s k r t l
-block-done env limit bs at n fuel s k r t l kind size ran =
-    block-ran env limit bs at _ fuel s k kind (ap (λ (m : ℕ). at + 5 + m) size) r t l ran
 
 -- ---- a list of codes, at the code that is next
 module _ (env : Env) (limit : Option ℕ) (bs : List ℕ) (from e fuel : ℕ) (s₀ : Config) (k₀ : Counted) (at : ℕ) (s : Config) (k : Counted)
@@ -604,6 +589,13 @@ module _ (env : Env) (limit : Option ℕ) (bs : List ℕ) (from e fuel : ℕ) (s
   pub next-less : (m : ℕ) → fuel + (length bs - from) ≡ m → fuel + (length bs - (at + 1)) < m
   next-less m is = omega (arith, starts bs at next-code, g .past)
 
+  -- a Block is entered behind its length, and leaves less of the list
+  pub block-fits : byte-at bs at ≡ 0x20 → length bs * 1 < 2 ^ 63 → Fits w64 (at + 5)
+  block-fits kind room = omega (arith, has-length bs at next-code (omega (arith, kind)))
+
+  pub block-less : e - (at + 5) < e - at
+  block-less = omega (arith, inside)
+
   -- what was run leaves less of the list
   pub rest-less : (r : Exit) (t : Config) (l : Counted) → Runs env limit bs at fuel s k r t l → r .number ≡ 0 → e - r .place < e - at
   rest-less r t l ran z = let p = next-past env limit bs from e fuel s₀ k₀ at s k g r t l ran inside z in omega (arith, p .0, p .1)
@@ -612,174 +604,283 @@ module _ (env : Env) (limit : Option ℕ) (bs : List ℕ) (from e fuel : ℕ) (s
       (r : Exit) (t : Config) (l : Counted) → StepsIns env limit bs at s k r t l → byte-at bs at < 0x20 → r .number ≡ 0 → e - r .place < e - at
   rest-less-ins r t l ran kind z = rest-less r t l (ins-ran env limit bs at fuel s k r t l kind ran) z
 
+pub next-tested : (k : ℕ) → 0x20 ≤ k → (k ≡ 0x20 → ⊥) → 0x21 ≤ k
+next-tested k h n = omega (arith, h, n)
+
 -- ---- a comparison as a step, which answers x whatever fill word, flags and xmms are
 abbrev Answers : ℕ → List ℕ → List ℕ → List ℕ → ℕ → List ℕ → List ℕ → Counted → Compared → Counted → Type 0
 Answers limit addresses tags bs at regs values k x l =
     (fill flags : ℕ) (xmms : List ℕ) → DecidesAt (environment addresses tags fill) (some limit) bs at (held regs xmms flags values) k x l
 
--- x goes on behind it
-pub record GoesOn (bs : List ℕ) (at : ℕ) (x : Compared) : Type 0 where
-  pub next : (e : ℕ) → Stands is-ocmp bs at e → x .next ≡ e
+-- ---- an IfElse or a While: it stands there, and so does its comparison
+pub is-tested : (bs : List ℕ) (at : ℕ) → CodeAt bs at → 0x21 ≤ byte-at bs at → TestedAt bs at (eqb (byte-at bs at) 0x21)
+is-tested bs at c k = go (eqb (byte-at bs at) 0x21) refl
+  where
+    go : (b : Bool) → eqb (byte-at bs at) 0x21 ≡ b → TestedAt bs at b
+    go true h = record { code = c; kind = eqb-true _ _ h }
+    go false h = record { code = c; kind = while-kind bs at c (omega arith) (λ z. omega (arith, z, k)) (eqb-false _ _ h) }
 
-pub goes-on :
-    {addresses tags bs regs values : List ℕ} {limit at : ℕ} {k l : Counted} {x : Compared} →
-    Answers limit addresses tags bs at regs values k x l → x .how ≤ 1 → GoesOn bs at x
-goes-on a read = record { next = λ e h. a 0 0 [] e h .next read }
+pub is-structure : (bs : List ℕ) (at : ℕ) (chooses : Bool) → TestedAt bs at chooses → 0x20 ≤ byte-at bs at
+is-structure bs at true w = omega (arith, w .kind)
+is-structure bs at false w = omega (arith, w .kind)
 
--- ---- an IfElse
-module _ (bs : List ℕ) (at : ℕ) (kind : byte-at bs at ≡ 0x21) where
-  pub choice-structure : 0x20 ≤ byte-at bs at
-  choice-structure = omega arith
+test-there : (bs : List ℕ) (at : ℕ) (chooses : Bool) → TestedAt bs at chooses → OcmpAt bs (test-at at chooses)
+test-there bs at true w = let c = choice-inside bs at (w .code) (w .kind) in (c .mid, c .stands, omega (arith, c .within))
+test-there bs at false w = let c = loop-inside bs at (w .code) (w .kind) in (c .mid, c .stands, omega (arith, c .within))
 
-  module _ (c : CodeAt bs at) where
-    pub choice-test : OcmpAt bs (at + 9)
-    choice-test = let w = choice-inside bs at c kind in (w .mid, w .stands, omega (arith, w .within))
+pub test-fits : (bs : List ℕ) (at : ℕ) → CodeAt bs at → 0x21 ≤ byte-at bs at → length bs * 1 < 2 ^ 63 → at + 9 < 2 ^ 64
+test-fits bs at c k room = omega (arith, has-length bs at c (omega arith))
 
-    pub other-length-inside : at + 5 + 4 ≤ length bs
-    other-length-inside = let w = choice-inside bs at c kind in omega arith
+-- where its parts stand, the first from a place on
+module _ (bs : List ℕ) (at first : ℕ) (n : ℕ) (size : n ≡ number-at 4 bs (at + 1)) where
+  pub second-fits :
+      (chooses : Bool) → TestedAt bs at chooses → BehindTest bs at chooses first → length bs * 1 < 2 ^ 63 → Fits w64 (first + n)
+  second-fits true w behind room =
+      let c = choice-inside bs at (w .code) (w .kind) in omega (arith, c .within, behind (c .mid) (c .stands), size)
+  second-fits false w behind room =
+      let c = loop-inside bs at (w .code) (w .kind) in omega (arith, c .within, behind (c .mid) (c .stands), size)
 
-    module _ (room : length bs * 1 < 2 ^ 63) where
-      pub test-fits : Fits w64 (at + 9)
-      test-fits = let w = choice-inside bs at c kind in omega arith
+  module _ (chooses : Bool) (chosen : chooses ≡ true) (w : TestedAt bs at chooses) where
+    choice : Choice bs at
+    choice = choice-inside bs at (w .code) (w .kind ∙ ap (λ (b : Bool). cond b 0x21 0x22) chosen)
 
-      -- the first part of n bytes, and the second of o
-      module _ (x : Compared) (g : GoesOn bs (at + 9) x) (n : ℕ) (size : n ≡ number-at 4 bs (at + 1)) where
-        pub second-fits : Fits w64 (x .next + n)
-        second-fits = let w = choice-inside bs at c kind in omega (arith, w .within, g .next (w .mid) (w .stands))
+    pub other-inside : at + 5 + 4 ≤ length bs
+    other-inside = omega (arith, choice .past, choice .within)
 
-        pub choice-fits : (o : ℕ) → o ≡ number-at 4 bs (at + 5) → Fits w64 (x .next + n + o)
-        choice-fits o other = let w = choice-inside bs at c kind in omega (arith, w .within, g .next (w .mid) (w .stands))
+    pub end-fits : (o : ℕ) → o ≡ number-at 4 bs (at + 5) → BehindTest bs at chooses first → length bs * 1 < 2 ^ 63 → Fits w64 (first + n + o)
+    end-fits o other behind room =
+        let stands = subst (λ (b : Bool). Stands is-ocmp bs (test-at at b) (choice .mid)) (sym chosen) (choice .stands) in
+        omega (arith, choice .within, behind (choice .mid) stands, size, other)
 
-pub choice-stops :
-    (limit : ℕ) (addresses tags bs regs xmms values : List ℕ) (fill at fuel flags : ℕ) (k l : Counted) (x : Compared) →
-    byte-at bs at ≡ 0x21 → Answers limit addresses tags bs (at + 9) regs values k x l → 1 < x .how →
-    Runs (environment addresses tags fill) (some limit) bs at fuel (held regs xmms flags values) k (exit (x .how) (at + 9))
-    (held regs xmms flags values) l
-choice-stops limit addresses tags bs regs xmms values fill at fuel flags k l x kind a h =
-    if-stops _ _ bs at fuel _ _ kind x _ (a fill flags xmms) h
+-- where it goes on
+module _ (bs : List ℕ) (at : ℕ) (chooses : Bool) (x : Compared) (n : ℕ) (size : n ≡ number-at 4 bs (at + 1)) where
+  pub end-chosen : (o : ℕ) → o ≡ number-at 4 bs (at + 5) → chooses ≡ true → x .next + n + o ≡ end-at bs at chooses (x .next)
+  end-chosen o other h = rw (h, size, other)
 
--- the part that it goes on with, where the evaluator has come to it with the measure m
-pub record Branch (env : Env) (limit : Option ℕ) (bs : List ℕ) (at fuel m : ℕ) (s : Config) (k : Counted) (x : Compared) (j : Counted)
-    (part behind end : ℕ) : Type 0 where
-  pub chosen : Chosen env limit bs at s k x j part behind end
-  pub code : CodeAt bs at
-  pub cells : Cells (env .addresses) (env .tags) (s .values)
-  pub measured : fuel + (length bs - (at + 5)) ≡ m
+  pub end-looped : chooses ≡ false → x .next + n ≡ end-at bs at chooses (x .next)
+  end-looped h = rw (h, size)
 
-module _ (env : Env) (limit : Option ℕ) (bs : List ℕ) (at fuel m : ℕ) (s : Config) (k : Counted) (x : Compared) (j : Counted)
-    (part behind end : ℕ) (w : Branch env limit bs at fuel m s k x j part behind end) where
-  -- its code, and that there are codes to its end, which begin behind the test
-  there : CodeAt bs part × CodesAt bs (codes-from bs part) behind × (at + 9 < part)
-  there = chosen-there env limit bs at fuel s k x j part behind end (w .chosen) (w .code)
+  module _ (end : ℕ) (end-is : end ≡ end-at bs at chooses (x .next)) where
+    pub way-holds : x .how ≡ 1 → record { part = x .next; behind = x .next + n; end = end } ≡ way-from bs at chooses x
+    way-holds h = rw (end-is, size, eq-eqb (x .how) 1 h)
 
-  pub branch-code : CodeAt bs part
-  branch-code = there .0
+    pub way-fails : (x .how ≡ 1 → ⊥) → record { part = x .next + n; behind = end; end = end } ≡ way-from bs at chooses x
+    way-fails h = rw (end-is, size, ne-eqb (x .how) 1 h)
 
-  module _ (p : ℕ) (is : p ≡ codes-from bs part) where
-    pub branch-codes : CodesAt bs p behind
-    branch-codes = rw is (there .1)
-
-    pub branch-less : fuel + (length bs - p) < m
-    branch-less = omega (arith, w .measured, starts bs part (there .0), there .2, codes-past bs part)
-
-    module _ (r : Exit) (t : Config) (l : Counted) (ran : RunsAll env limit bs p behind fuel (with-flags (env .fill) s) j r t l) where
-      pub branch-stops : (r .number ≡ 0 → ⊥) → Runs env limit bs at fuel s k r t l
-      branch-stops h =
-          chosen-ran env limit bs at fuel s k x j part behind end (w .chosen) r t l (rw is at ran) r refl (λ z. absurd (h z))
-
-      pub branch-done : r .number ≡ 0 → Runs env limit bs at fuel s k (exit 0 end) t l
-      branch-done h =
-          chosen-ran env limit bs at fuel s k x j part behind end (w .chosen) r t l (rw is at ran)
-          (exit 0 end) (sym (how-done r h)) (λ _. refl)
-
--- ---- a While
-module _ (bs : List ℕ) (at : ℕ) (kind : byte-at bs at ≡ 0x22) where
-  pub loop-structure : 0x20 ≤ byte-at bs at
-  loop-structure = omega arith
-
-  pub loop-test : CodeAt bs at → OcmpAt bs (at + 5)
-  loop-test c = let w = loop-inside bs at c kind in (w .mid, w .stands, omega (arith, w .within))
-
-pub loop-starts :
-    (env : Env) (limit : Option ℕ) (bs : List ℕ) (at fuel : ℕ) (s : Config) (k : Counted) → Looping env limit bs at fuel s k fuel s k
-loop-starts env limit bs at fuel s k = record { same = λ _ _ _. refl; long = refl; less = omega arith }
-
-pub loop-is-spent :
-    (env : Env) (limit : Option ℕ) (bs : List ℕ) (at fuel : ℕ) (s₀ : Config) (k₀ : Counted) (left : ℕ) (s : Config) (k : Counted) →
-    Looping env limit bs at fuel s₀ k₀ left s k → byte-at bs at ≡ 0x22 → left ≡ 0 → Runs env limit bs at fuel s₀ k₀ (exit 1 at) s k
-loop-is-spent env limit bs at fuel s₀ k₀ left s k w kind z =
-    loop-ran env limit bs at fuel s₀ k₀ left s k w (exit 1 at) s k (loop-spent env limit bs at left s k kind z) (λ _ _ _ y. absurd (omega (arith, y)))
-
-pub loop-is-stopped :
-    (limit : ℕ) (addresses tags bs regs xmms values : List ℕ) (fill at fuel left flags : ℕ) (s₀ : Config) (k₀ k l : Counted) (x : Compared) →
-    Looping (environment addresses tags fill) (some limit) bs at fuel s₀ k₀ left (held regs xmms flags values) k →
-    byte-at bs at ≡ 0x22 → (left ≡ 0 → ⊥) → Answers limit addresses tags bs (at + 5) regs values k x l → 1 < x .how →
-    Runs (environment addresses tags fill) (some limit) bs at fuel s₀ k₀ (exit (x .how) (at + 5)) (held regs xmms flags values) l
-loop-is-stopped limit addresses tags bs regs xmms values fill at fuel left flags s₀ k₀ k l x w kind some-fuel a h =
-    loop-ran _ _ bs at fuel s₀ k₀ left _ _ w _ _ _ (loop-stopped _ _ bs at left _ _ kind some-fuel x _ (a fill flags xmms) h)
-    (λ _ _ _ z. absurd (omega (arith, z)))
-
--- a round, where the evaluator has come to it with the measure m
-pub record Turn (env : Env) (limit : Option ℕ) (bs : List ℕ) (at fuel m : ℕ) (s₀ : Config) (k₀ : Counted) (left : ℕ) (s : Config) (k : Counted)
-    (x : Compared) (j : Counted) (end : ℕ) : Type 0 where
-  pub round : Round env limit bs at left s k x j end
+-- ---- its rounds, of which an IfElse has one: what holds at the head of the loop over them
+pub record Testing (env : Env) (limit : Option ℕ) (bs : List ℕ) (at fuel : ℕ) (s₀ : Config) (k₀ : Counted) (chooses : Bool) (test left : ℕ)
+    (s : Config) (k : Counted) : Type 0 where
+  pub tested : TestedAt bs at chooses
+  pub is-test : test ≡ test-at at chooses
   pub looping : Looping env limit bs at fuel s₀ k₀ left s k
-  pub code : CodeAt bs at
-  pub cells : Cells (env .addresses) (env .tags) (s₀ .values)
-  pub measured : fuel + (length bs - (at + 5)) ≡ m
 
-module _ (env : Env) (limit : Option ℕ) (bs : List ℕ) (at fuel m : ℕ) (s₀ : Config) (k₀ : Counted) (left : ℕ) (s : Config) (k : Counted)
-    (x : Compared) (j : Counted) (end : ℕ) (w : Turn env limit bs at fuel m s₀ k₀ left s k x j end) where
-  pub turn-fits : length bs * 1 < 2 ^ 63 → Fits w64 end
-  turn-fits room =
-      let l = loop-inside bs at (w .code) (w .round .kind) in
-      omega (arith, l .within, w .round .compared (l .mid) (l .stands) .next (w .round .read), w .round .end-is)
+pub testing-starts :
+    (env : Env) (limit : Option ℕ) (bs : List ℕ) (at fuel : ℕ) (s : Config) (k : Counted) (test : ℕ) →
+    CodeAt bs at → 0x21 ≤ byte-at bs at → test ≡ test-at at (eqb (byte-at bs at) 0x21) →
+    Testing env limit bs at fuel s k (eqb (byte-at bs at) 0x21) test fuel s k
+testing-starts env limit bs at fuel s k test c kind is =
+    record { tested = is-tested bs at c kind; is-test = is; looping = record { same = λ _ _ _. refl; long = refl; less = omega arith } }
+
+module _ (env : Env) (limit : Option ℕ) (bs : List ℕ) (at fuel : ℕ) (s₀ : Config) (k₀ : Counted) (test left : ℕ) (s : Config) (k : Counted) where
+  abbrev Head : Bool → Type 0
+  Head chooses = Testing env limit bs at fuel s₀ k₀ chooses test left s k
+
+  pub test-stands : (chooses : Bool) → Head chooses → OcmpAt bs test
+  test-stands chooses w = rw (w .is-test) (test-there bs at chooses (w .tested))
+
+  -- by the loop's test, neither does it choose nor is fuel left
+  pub turns-spent : (chooses : Bool) → Head chooses → chooses ≡ false → not (eqb left 0) ≡ false → Runs env limit bs at fuel s₀ k₀ (exit 1 at) s k
+  turns-spent true w h z = absurd (true≢false h)
+  turns-spent false w h z =
+      let none : left ≡ 0 = eqb-true left 0 (not-false _ z) in
+      loop-ran env limit bs at fuel s₀ k₀ left s k (w .looping) (exit 1 at) s k (loop-spent env limit bs at left s k (w .tested .kind) none)
+      (λ _ _ _ y. absurd (omega (arith, y)))
+
+  -- its comparison has answered x and left j counted
+  module _ (x : Compared) (j : Counted) where
+    pub behind-test : (chooses : Bool) → Head chooses → DecidesAt env limit bs test s k x j → x .how ≤ 1 → BehindTest bs at chooses (x .next)
+    behind-test chooses w compared read e h =
+        compared e (subst (λ (q : ℕ). Stands is-ocmp bs q e) (sym (w .is-test)) h) .next read
+
+    pub turn-stopped :
+        (chooses : Bool) → Head chooses → (chooses ≡ false → left ≡ 0 → ⊥) → DecidesAt env limit bs test s k x j → 1 < x .how →
+        Runs env limit bs at fuel s₀ k₀ (exit (x .how) test) s j
+    turn-stopped true w some-fuel compared h =
+        let p : at + 9 ≡ test = sym (w .is-test) in
+        looped env limit bs at fuel s₀ k₀ left s k (w .looping) (exit (x .how) test) s j
+        (subst (λ (q : ℕ). Runs env limit bs at left s k (exit (x .how) q) s j) p
+        (if-stops env limit bs at left s k (w .tested .kind) x j (subst (λ (q : ℕ). DecidesAt env limit bs q s k x j) (w .is-test) compared) h))
+    turn-stopped false w some-fuel compared h =
+        let p : at + 5 ≡ test = sym (w .is-test) in
+        let here = subst (λ (q : ℕ). DecidesAt env limit bs q s k x j) (w .is-test) compared in
+        loop-ran env limit bs at fuel s₀ k₀ left s k (w .looping) (exit (x .how) test) s j
+        (subst (λ (q : ℕ). (c : Code) (e : ℕ) → Spells c bs at e → run-code env limit c left s k ≡ ended (how (exit (x .how) q)) s j) p
+        (loop-stopped env limit bs at left s k (w .tested .kind) (some-fuel refl) x j here h))
+        (λ _ _ _ z. absurd (omega (arith, z, h)))
+
+-- the fuel for a round, by the loop's test, and that a comparison which ends a While ends it, by the test behind it
+pub some-fuel : (chooses : Bool) (left : ℕ) → (chooses ≡ true) ⊎ ((chooses ≡ false) × (not (eqb left 0) ≡ true)) → chooses ≡ false → left ≡ 0 → ⊥
+some-fuel chooses left (inl h) f z = true≢false (sym h ∙ f)
+some-fuel chooses left (inr h) f z = true≢false (sym (h .1) ∙ ap not (eq-eqb left 0 z))
+
+pub goes-round : (chooses : Bool) (n : ℕ) → ((n ≡ 0) × (not chooses ≡ false)) ⊎ (n ≡ 0 → ⊥) → chooses ≡ false → n ≡ 0 → ⊥
+goes-round chooses n (inl h) f z = true≢false (sym (ap not f) ∙ h .1)
+goes-round chooses n (inr h) f z = h z
+
+pub turn-is-stopped :
+    (limit : ℕ) (addresses tags bs regs xmms values : List ℕ) (fill at fuel test left flags : ℕ) (s₀ : Config) (k₀ k j : Counted) (chooses : Bool)
+    (x : Compared) →
+    Testing (environment addresses tags fill) (some limit) bs at fuel s₀ k₀ chooses test left (held regs xmms flags values) k →
+    (chooses ≡ false → left ≡ 0 → ⊥) → Answers limit addresses tags bs test regs values k x j → 1 < x .how →
+    Runs (environment addresses tags fill) (some limit) bs at fuel s₀ k₀ (exit (x .how) test) (held regs xmms flags values) j
+turn-is-stopped limit addresses tags bs regs xmms values fill at fuel test left flags s₀ k₀ k j chooses x w f a h =
+    turn-stopped _ _ bs at fuel s₀ k₀ test left _ k x j chooses w f (a fill flags xmms) h
+
+-- a round whose comparison has answered x and left j counted, and goes on, where the evaluator has come to it with the measure m
+pub record Turn (env : Env) (limit : Option ℕ) (bs : List ℕ) (at fuel m : ℕ) (s₀ : Config) (k₀ : Counted) (test left : ℕ) (s : Config)
+    (k : Counted) (x : Compared) (j : Counted) (way : Way) (chooses : Bool) : Type 0 where
+  pub head : Testing env limit bs at fuel s₀ k₀ chooses test left s k
+  pub some-fuel : chooses ≡ false → left ≡ 0 → ⊥
+  pub compared : DecidesAt env limit bs test s k x j
+  pub read : x .how ≤ 1
+  pub holds : chooses ≡ false → x .how ≡ 0 → ⊥
+  pub way-is : way ≡ way-from bs at chooses x
+  pub cells : Cells (env .addresses) (env .tags) (s₀ .values)
+  pub measured : fuel + (length bs - (at + 1)) ≡ m
+
+-- where a way leads
+ways :
+    (first second end n : ℕ) (way : Way) (b : Bool) → eqb n 1 ≡ b →
+    way ≡ cond b (record { part = first; behind = second; end = end }) (record { part = second; behind = end; end = end }) →
+    (way .end ≡ end)
+    × (((n ≡ 1) × (way .part ≡ first) × (way .behind ≡ second)) ⊎ ((n ≡ 1 → ⊥) × (way .part ≡ second) × (way .behind ≡ end)))
+ways first second end n way true t e =
+    (ap (λ (v : Way). v .end) e, inl (eqb-true n 1 t, ap (λ (v : Way). v .part) e, ap (λ (v : Way). v .behind) e))
+ways first second end n way false t e =
+    (ap (λ (v : Way). v .end) e, inr (eqb-false n 1 t, ap (λ (v : Way). v .part) e, ap (λ (v : Way). v .behind) e))
+
+module _ (env : Env) (limit : Option ℕ) (bs : List ℕ) (at fuel m : ℕ) (s₀ : Config) (k₀ : Counted) (test left : ℕ) (s : Config)
+    (k : Counted) (x : Compared) (j : Counted) (way : Way) where
+  abbrev Turns : Bool → Type 0
+  Turns chooses = Turn env limit bs at fuel m s₀ k₀ test left s k x j way chooses
+
+  -- as an IfElse goes, and as a While
+  as-chosen : Turns true → Chosen env limit bs at s k x j (way .part) (way .behind) (way .end)
+  as-chosen w =
+      let d = ways _ _ _ (x .how) way (eqb (x .how) 1) refl (w .way-is) in
+      record {
+        kind = w .head .tested .kind;
+        compared = subst (λ (q : ℕ). DecidesAt env limit bs q s k x j) (w .head .is-test) (w .compared);
+        read = w .read;
+        mid = second-at bs at (x .next);
+        mid-is = refl;
+        end-is = d .0;
+        way = ⊎-elim inl (λ h. inr (h .0, h .1, h .2 ∙ sym (d .0))) (d .1);
+      }
+
+  as-round : Turns false → Round env limit bs at left s k x j (way .end) × (way .part ≡ x .next) × (way .behind ≡ way .end)
+  as-round w =
+      let d = ways _ _ _ (x .how) way (eqb (x .how) 1) refl (w .way-is) in
+      let round : Round env limit bs at left s k x j (way .end) = record {
+        kind = w .head .tested .kind;
+        some-fuel = w .some-fuel refl;
+        compared = subst (λ (q : ℕ). DecidesAt env limit bs q s k x j) (w .head .is-test) (w .compared);
+        read = w .read;
+        end-is = d .0;
+      } in
+      ⊎-elim (λ h. (round, h .1, h .2 ∙ sym (d .0))) (λ h. absurd (w .holds refl (omega (arith, w .read, h .0)))) (d .1)
+
+  -- its part's code, and that there are codes to its end, which begin behind the test
+  part-there : (chooses : Bool) → Turns chooses → CodeAt bs (way .part) × CodesAt bs (codes-from bs (way .part)) (way .behind) × (at + 5 < way .part)
+  part-there true w =
+      let q = chosen-there env limit bs at left s k x j (way .part) (way .behind) (way .end) (as-chosen w) (w .head .tested .code) in
+      (q .0, q .1, omega (arith, q .2))
+  part-there false w =
+      let r = as-round w in rw (r .1, r .2) (round-there env limit bs at left s k x j (way .end) (r .0) (w .head .tested .code))
+
+  pub turn-cells : (chooses : Bool) → Turns chooses → Cells (env .addresses) (env .tags) (s .values)
+  turn-cells chooses w = record { searchable = w .cells .searchable; long = w .head .looping .long ∙ w .cells .long }
+
+  pub turn-code : (chooses : Bool) → Turns chooses → CodeAt bs (way .part)
+  turn-code chooses w = part-there chooses w .0
+
+  -- it begins at p, and gets less fuel
+  module _ (p less : ℕ) (is : p ≡ codes-from bs (way .part)) where
+    pub turn-codes : (chooses : Bool) → Turns chooses → CodesAt bs p (way .behind)
+    turn-codes chooses w = rw is (part-there chooses w .1)
+
+    pub turn-less : (chooses : Bool) → Turns chooses → less ≡ part-fuel chooses left → less + (length bs - p) < m
+    turn-less true w f =
+        let t = part-there true w in
+        omega (arith, w .measured, w .head .looping .less, starts bs (way .part) (t .0), t .2, codes-past bs (way .part), is, f)
+    turn-less false w f =
+        let t = part-there false w in
+        omega (arith, w .measured, w .head .looping .less, starts bs (way .part) (t .0), t .2, codes-past bs (way .part), is, f)
+
+    -- and has ended in r
+    module _ (r : Exit) (t : Config) (l : Counted) (ran : RunsAll env limit bs p (way .behind) less (with-flags (env .fill) s) j r t l) where
+      chosen-exit :
+          (w : Turns true) → less ≡ left → (r′ : Exit) → how r′ ≡ how r → (r′ .number ≡ 0 → r′ .place ≡ way .end) →
+          Runs env limit bs at fuel s₀ k₀ r′ t l
+      chosen-exit w f r′ o n =
+          looped env limit bs at fuel s₀ k₀ left s k (w .head .looping) r′ t l
+          (chosen-ran env limit bs at left s k x j (way .part) (way .behind) (way .end) (as-chosen w) r t l (rw (is, f) at ran) r′ o n)
+
+      body-ran : (w : Turns false) → less ≡ left - 1 → RunsAll env limit bs (codes-from bs (x .next)) (way .end) (left - 1) (with-flags (env .fill) s) j r t l
+      body-ran w f = let q = as-round w in rw (is, f, q .1, q .2) at ran
+
+      pub turn-stops : (chooses : Bool) → Turns chooses → less ≡ part-fuel chooses left → (r .number ≡ 0 → ⊥) → Runs env limit bs at fuel s₀ k₀ r t l
+      turn-stops true w f h = chosen-exit w f r refl (λ z. absurd (h z))
+      turn-stops false w f h =
+          loop-ran env limit bs at fuel s₀ k₀ left s k (w .head .looping) r t l
+          (round-stops env limit bs at left s k x j (way .end) (as-round w .0) (w .holds refl) r t l (body-ran w f) h) (λ _ _ _ z. absurd (h z))
+
+      pub turn-done :
+          (chooses : Bool) → Turns chooses → less ≡ part-fuel chooses left → chooses ≡ true → r .number ≡ 0 →
+          Runs env limit bs at fuel s₀ k₀ (exit 0 (way .end)) t l
+      turn-done true w f c h = chosen-exit w f (exit 0 (way .end)) (sym (how-done r h)) (λ _. refl)
+      turn-done false w f c h = absurd (true≢false (sym c))
+
+      pub turn-goes :
+          (chooses : Bool) → Turns chooses → less ≡ part-fuel chooses left → chooses ≡ false → r .number ≡ 0 →
+          length (t .values) ≡ length (s .values) → Testing env limit bs at fuel s₀ k₀ chooses test less t l
+      turn-goes true w f c h long = absurd (true≢false c)
+      turn-goes false w f c h long =
+          let goes = round-goes env limit bs at left s k x j (way .end) (as-round w .0) (w .holds refl) r t l (body-ran w f) h in
+          let again : Looping env limit bs at fuel s₀ k₀ (left - 1) t l = record {
+            same = λ d e y. w .head .looping .same d e y ∙ goes d e y;
+            long = long ∙ w .head .looping .long;
+            less = omega (arith, w .head .looping .less);
+          } in
+          record { tested = w .head .tested; is-test = w .head .is-test; looping = rw f again }
 
   -- there is less fuel for the rounds that follow
-  pub turn-less : left - 1 < left
-  turn-less = omega (arith, w .round .some-fuel)
+  pub turn-falls : (less : ℕ) (chooses : Bool) → Turns chooses → less ≡ part-fuel chooses left → chooses ≡ false → less < left
+  turn-falls less true w f c = absurd (true≢false c)
+  turn-falls less false w f c = let z = w .some-fuel refl in omega (arith, f, z)
 
-  -- the body's code, and that there are codes to its end, which begin behind the test
-  body-there : CodeAt bs (x .next) × CodesAt bs (codes-from bs (x .next)) end × (at + 5 < x .next)
-  body-there = round-there env limit bs at left s k x j end (w .round) (w .code)
-
-  pub body-code : CodeAt bs (x .next)
-  body-code = body-there .0
-
-  module _ (p : ℕ) (is : p ≡ codes-from bs (x .next)) where
-    pub body-codes : CodesAt bs p end
-    body-codes = rw is (body-there .1)
-
-    pub body-less : left - 1 + (length bs - p) < m
-    body-less =
-        omega (arith, w .measured, w .looping .less, starts bs (x .next) (body-there .0), body-there .2, codes-past bs (x .next))
-
-    module _ (holds : x .how ≡ 0 → ⊥) (r : Exit) (t : Config) (l : Counted)
-        (ran : RunsAll env limit bs p end (left - 1) (with-flags (env .fill) s) j r t l) where
-      pub turn-stops : (r .number ≡ 0 → ⊥) → Runs env limit bs at fuel s₀ k₀ r t l
-      turn-stops h =
-          loop-ran env limit bs at fuel s₀ k₀ left s k (w .looping) r t l
-          (round-stops env limit bs at left s k x j end (w .round) holds r t l (rw is at ran) h) (λ _ _ _ z. absurd (h z))
-
-      pub turn-goes : r .number ≡ 0 → length (t .values) ≡ length (s .values) → Looping env limit bs at fuel s₀ k₀ (left - 1) t l
-      turn-goes h long =
-          let goes = round-goes env limit bs at left s k x j end (w .round) holds r t l (rw is at ran) h in
-          record {
-            same = λ c e y. w .looping .same c e y ∙ goes c e y;
-            long = long ∙ w .looping .long;
-            less = omega (arith, w .looping .less);
-          }
-
-pub turn-done :
-    (env : Env) (limit : Option ℕ) (bs : List ℕ) (at fuel m : ℕ) (s₀ : Config) (k₀ : Counted) (left : ℕ) (regs xmms values : List ℕ) (flags : ℕ)
-    (k : Counted) (x : Compared) (j : Counted) (end : ℕ) → Turn env limit bs at fuel m s₀ k₀ left (held regs xmms flags values) k x j end →
-    x .how ≡ 0 → Runs env limit bs at fuel s₀ k₀ (exit 0 end) (held regs xmms (env .fill) values) j
-turn-done env limit bs at fuel m s₀ k₀ left regs xmms values flags k x j end w h =
-    let r = w .round in
+-- a While whose comparison does not hold is at its end
+pub turns-over :
+    (limit : ℕ) (addresses tags bs regs xmms values : List ℕ) (fill at fuel test left flags : ℕ) (s₀ : Config) (k₀ k j : Counted) (chooses : Bool)
+    (x : Compared) (way : Way) →
+    Testing (environment addresses tags fill) (some limit) bs at fuel s₀ k₀ chooses test left (held regs xmms flags values) k →
+    (chooses ≡ false → left ≡ 0 → ⊥) → Answers limit addresses tags bs test regs values k x j → way ≡ way-from bs at chooses x →
+    x .how ≡ 0 → not chooses ≡ true →
+    Runs (environment addresses tags fill) (some limit) bs at fuel s₀ k₀ (exit 0 (way .end)) (held regs xmms fill values) j
+turns-over limit addresses tags bs regs xmms values fill at fuel test left flags s₀ k₀ k j true x way w f a is z c = absurd (true≢false (sym c))
+turns-over limit addresses tags bs regs xmms values fill at fuel test left flags s₀ k₀ k j false x way w f a is z c =
     let s = held regs xmms flags values in
-    loop-ran env limit bs at fuel s₀ k₀ left s k (w .looping) _ _ _
-    (loop-done env limit bs at left s k (r .kind) (r .some-fuel) x j (r .compared) h)
-    (λ c e y _. round-ends env limit bs at left s k x j end r c e y)
+    let here = subst (λ (q : ℕ). DecidesAt (environment addresses tags fill) (some limit) bs q s k x j) (w .is-test) (a fill flags xmms) in
+    let round : Round (environment addresses tags fill) (some limit) bs at left s k x j (way .end) = record {
+      kind = w .tested .kind;
+      some-fuel = f refl;
+      compared = here;
+      read = omega (arith, z);
+      end-is = ways _ _ _ (x .how) way (eqb (x .how) 1) refl is .0;
+    } in
+    loop-ran _ _ bs at fuel s₀ k₀ left s k (w .looping) _ _ _
+    (loop-done _ _ bs at left s k (w .tested .kind) (f refl) x j here z)
+    (λ d e y _. round-ends _ _ bs at left s k x j (way .end) round d e y)
 
 -- ---- what a check answered is the verdict of its definition
 pub is-accepted : (v : Checked) (w : Verdict) → verdict v ≡ w → v ≡ Accepted → w ≡ accepted

@@ -144,6 +144,54 @@ module _ (bs : List ℕ) (at : ℕ) where
       go true = omega arith
       go false = omega arith
 
+-- ---- the codes of a Block, and those that follow it, are codes in a row
+with-rest : Codes → Codes → Codes
+with-rest ⟨⟩ rest = rest
+with-rest (c ∷ᶜ cs) rest = c ∷ᶜ with-rest cs rest
+
+rest-spelled :
+    (cs rest : Codes) (bs : List ℕ) (at m e : ℕ) → SpellsAll cs bs at m → SpellsAll rest bs m e → SpellsAll (with-rest cs rest) bs at e
+unfolding SpellsAll with-rest
+rest-spelled ⟨⟩ rest bs at m e h k = subst (λ (x : ℕ). SpellsAll rest bs x e) (sym h) k
+rest-spelled (c ∷ᶜ cs) rest bs at m e h k = (h .0, h .1, rest-spelled cs rest bs (h .0) m e (h .2) k)
+
+-- what goes on behind what goes on
+continue-twice :
+    (o : Outcome) (s : Config) (k : Counted) (f g h : Part) →
+    ((t : Config) (l : Counted) → h t l ≡ and-then (f t l) g) →
+    continue o s k h ≡ and-then (continue o s k f) g
+unfolding continue
+continue-twice done s k f g h is = is s k
+continue-twice (fault n p) s k f g h is = refl
+continue-twice (stopped n p) s k f g h is = refl
+continue-twice (spent p) s k f g h is = refl
+continue-twice (refused n p) s k f g h is = refl
+
+run-rest :
+    (env : Env) (limit : Option ℕ) (cs rest : Codes) (fuel : ℕ) (s : Config) (k : Counted) →
+    run-codes env limit (with-rest cs rest) fuel s k ≡ and-then (run-codes env limit cs fuel s k) (run-codes env limit rest fuel)
+unfolding run-codes with-rest continue
+run-rest env limit ⟨⟩ rest fuel s k = refl
+run-rest env limit (c ∷ᶜ cs) rest fuel s k =
+    let e = run-code env limit c fuel s k in
+    continue-twice (e .end .how) (e .end .config) (e .counted) (run-codes env limit cs fuel) (run-codes env limit rest fuel)
+    (run-codes env limit (with-rest cs rest) fuel) (run-rest env limit cs rest fuel)
+
+module _ (env : Env) (limit : Option ℕ) (bs : List ℕ) (at e fuel : ℕ) (s : Config) (k : Counted) (kind : byte-at bs at ≡ 0x20) (inside : at < e) where
+  entered :
+      (cs : Codes) → SpellsAll cs bs at e →
+      (ds : Codes) × SpellsAll ds bs (at + 5) e × (run-codes env limit cs fuel s k ≡ run-codes env limit ds fuel s k)
+  unfolding run-codes
+  entered cs h =
+      let f = first-there cs bs at e h inside in
+      let b = block-there (f .first) bs at (f .mid) (f .spelled) kind in (
+        with-rest (b .codes) (f .rest),
+        rest-spelled (b .codes) (f .rest) bs (at + 5) (f .mid) e (b .spelled) (f .spelled-rest),
+        ap (λ (x : Codes). run-codes env limit x fuel s k) (f .is)
+            ∙ ap (λ (c : Code). run-codes env limit (c ∷ᶜ f .rest) fuel s k) (b .is)
+            ∙ sym (run-rest env limit (b .codes) (f .rest) fuel s k),
+      )
+
 -- ---- a list of codes: what holds at the head of the loop over them
 pub record Going (env : Env) (limit : Option ℕ) (bs : List ℕ) (from e fuel : ℕ) (s₀ : Config) (k₀ : Counted) (at : ℕ) (s : Config) (k : Counted) : Type 0 where
   pub there : (cs : Codes) × SpellsAll cs bs at e
@@ -174,6 +222,18 @@ module _ (env : Env) (limit : Option ℕ) (bs : List ℕ) (from e fuel : ℕ) (s
       record {
         ends = sym (w .2 ∙ ap (λ (x : Codes). run-codes env limit x fuel s k) (none-there (w .0) bs at e (w .1) l));
         next = λ _. refl;
+      }
+
+  -- a Block is entered
+  pub block-goes : byte-at bs at ≡ 0x20 → at < e → Going env limit bs from e fuel s₀ k₀ (at + 5) s k
+  block-goes kind inside =
+      let here = entered env limit bs at e fuel s k kind inside in
+      let w = here (g .there .0) (g .there .1) in
+      record {
+        there = (w .0, w .1);
+        same = λ cs h. let u = g .same cs h in let v = here (u .0) (u .1) in (v .0, v .1, u .2 ∙ v .2);
+        long = g .long;
+        past = omega (arith, g .past);
       }
 
   module _ (r : Exit) (t : Config) (l : Counted) (ran : Runs env limit bs at fuel s k r t l) (inside : at < e) where
@@ -220,30 +280,6 @@ module _ (env : Env) (limit : Option ℕ) (bs : List ℕ) (from e fuel : ℕ) (s
               (run-codes env limit (f .rest) fuel) z);
           next = λ y. absurd (z y);
         }
-
--- ---- a Block
-pub block-codes : (bs : List ℕ) (at e : ℕ) → byte-at bs at ≡ 0x20 → e ≡ at + 5 + number-at 4 bs (at + 1) → CodeAt bs at → CodesAt bs (at + 5) e
-block-codes bs at e k d c =
-    let w = block-there (c .code) bs at (c .end) (c .spelled) k in
-    let y : c .end ≡ e = w .ends ∙ sym d in
-    record {
-      codes = w .codes;
-      spelled = subst (λ (z : ℕ). SpellsAll (w .codes) bs (at + 5) z) y (w .spelled);
-      inside = omega (arith, c .inside);
-    }
-
-module _ (env : Env) (limit : Option ℕ) (bs : List ℕ) (at e fuel : ℕ) (s : Config) (k : Counted) (kind : byte-at bs at ≡ 0x20)
-    (d : e ≡ at + 5 + number-at 4 bs (at + 1)) where
-  pub block-ran : (r : Exit) (t : Config) (l : Counted) → RunsAll env limit bs (at + 5) e fuel s k r t l → Runs env limit bs at fuel s k r t l
-  unfolding run-code
-  block-ran r t l g c x h =
-      let w = block-there c bs at x h kind in
-      let y : x ≡ e = w .ends ∙ sym d in
-      let f = g (w .codes) (subst (λ (z : ℕ). SpellsAll (w .codes) bs (at + 5) z) y (w .spelled)) in
-      record {
-        ends = f .ends ∙ ap (λ (b : Code). run-code env limit b fuel s k) (sym (w .is));
-        next = λ z. f .next z ∙ sym y;
-      }
 
 -- ---- the way that a comparison decides on
 decided : (b : Bool) (n : ℕ) → n ≡ cond b 1 0 → ((n ≡ 0 → ⊥) → b ≡ true) × ((n ≡ 1 → ⊥) → b ≡ false)
@@ -400,7 +436,7 @@ module _ (env : Env) (limit : Option ℕ) (bs : List ℕ) (at fuel : ℕ) (s : C
   chosen-ran =
       if-ran env limit bs at fuel s k (w .kind) x j (w .compared) (w .read) (w .mid) end part behind (w .mid-is) (w .end-is) (w .way)
 
--- ---- a While: what holds at the head of the loop over its rounds
+-- ---- what holds at the head of the loop over the rounds of a While. The one round of an IfElse is at the first
 pub record Looping (env : Env) (limit : Option ℕ) (bs : List ℕ) (at fuel : ℕ) (s₀ : Config) (k₀ : Counted) (left : ℕ) (s : Config) (k : Counted) : Type 0 where
   pub same : (c : Code) (e : ℕ) → Spells c bs at e → run-code env limit c fuel s₀ k₀ ≡ run-code env limit c left s k
   pub long : length (s .values) ≡ length (s₀ .values)
@@ -416,6 +452,13 @@ pub loop-ran :
     Runs env limit bs at fuel s₀ k₀ r t l
 loop-ran env limit bs at fuel s₀ k₀ left s k w r t l g p c e h =
     record { ends = sym (w .same c e h ∙ g c e h); next = p c e h }
+
+pub looped :
+    (env : Env) (limit : Option ℕ) (bs : List ℕ) (at fuel : ℕ) (s₀ : Config) (k₀ : Counted) (left : ℕ) (s : Config) (k : Counted) →
+    Looping env limit bs at fuel s₀ k₀ left s k → (r : Exit) (t : Config) (l : Counted) → Runs env limit bs at left s k r t l →
+    Runs env limit bs at fuel s₀ k₀ r t l
+looped env limit bs at fuel s₀ k₀ left s k w r t l ran =
+    loop-ran env limit bs at fuel s₀ k₀ left s k w r t l (λ c e h. sym (ran c e h .ends)) (λ c e h. ran c e h .next)
 
 module _ (env : Env) (limit : Option ℕ) (body : ℕ → Part) (p q : ℕ) (c : Ocmp) (s : Config) (k : Counted) where
   rounds-spent : (left : ℕ) → left ≡ 0 → rounds env limit body p q c left s k ≡ ended (spent p) s k

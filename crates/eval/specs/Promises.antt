@@ -16,7 +16,7 @@ use Rattle.machine.specs.declared.Operand.{Operand}
 use Rattle.machine.specs.declared.Operand.the-variants.{OMem}
 use Rattle.code.specs.declared.tree.Ocmp.{Ocmp}
 use Rattle.code.specs.Tree.{Code, Codes}
-use Rattle.code.specs.Records.{is-ins, is-ocmp, byte-at, ins-at, ocmp-at}
+use Rattle.code.specs.Records.{is-ins, is-ocmp, byte-at, number-at, ins-at, ocmp-at}
 use Rattle.code.specs.Spells.{Stands, Spells, SpellsAll}
 use Rattle.eval.specs.Config.{Env, Config, with-regs, with-flags, with-values, Outcome, done, fault, stopped, spent, End}
 use Rattle.eval.specs.Config as Config
@@ -28,6 +28,7 @@ use Rattle.eval.specs.declared.operand.Sought.{Sought}
 use Rattle.eval.specs.declared.operand.Loaded.{Loaded}
 use Rattle.eval.specs.declared.operand.Slot.{Slot}
 use Rattle.eval.specs.declared.comparison.Compared.{Compared}
+use Rattle.eval.specs.declared.cycle.Way.{Way}
 use Rattle.eval.specs.declared.arithmetic.Effect.{Effect}
 
 -- ---- what is lent
@@ -178,6 +179,39 @@ pub record CodesAt (bs : List ℕ) (from end : ℕ) : Type 0 where
 -- where the codes of a part begin: behind the length of a Block; any other code is a list of one
 abbrev pub codes-from : List ℕ → ℕ → ℕ
 codes-from bs at = cond (eqb (byte-at bs at) 0x20) (at + 5) at
+
+-- ---- an IfElse, which chooses between two parts, and a While, which does not
+-- one of them stands at a place, inside the bytes
+pub record TestedAt (bs : List ℕ) (at : ℕ) (chooses : Bool) : Type 0 where
+  pub code : CodeAt bs at
+  pub kind : byte-at bs at ≡ cond chooses 0x21 0x22
+
+-- where its comparison stands: behind two lengths, or behind one
+abbrev pub test-at : ℕ → Bool → ℕ
+test-at at chooses = cond chooses (at + 9) (at + 5)
+
+-- a place is the one behind its comparison
+abbrev pub BehindTest : List ℕ → ℕ → Bool → ℕ → Type 0
+BehindTest bs at chooses next = (e : ℕ) → Stands is-ocmp bs (test-at at chooses) e → next ≡ e
+
+-- the fuel of the part that is run next
+abbrev pub part-fuel : Bool → ℕ → ℕ
+part-fuel chooses left = cond chooses left (left - 1)
+
+-- where a first part that begins at a place ends
+abbrev pub second-at : List ℕ → ℕ → ℕ → ℕ
+second-at bs at first = first + number-at 4 bs (at + 1)
+
+-- where the structure ends whose first part begins at a place
+abbrev pub end-at : List ℕ → ℕ → Bool → ℕ → ℕ
+end-at bs at chooses first = cond chooses (second-at bs at first + number-at 4 bs (at + 5)) (second-at bs at first)
+
+-- where it goes on behind its comparison: with the first part where that holds, and else with the second; a While has none, which begins at its end
+abbrev pub way-from : List ℕ → ℕ → Bool → Compared → Way
+way-from bs at chooses x =
+    let second = second-at bs at (x .next) in
+    let end = end-at bs at chooses (x .next) in
+    cond (eqb (x .how) 1) (record { part = x .next; behind = second; end = end }) (record { part = second; behind = end; end = end })
 
 -- an exit from s and k to t and l is that of the code that stands at a place, whichever it is
 abbrev pub Runs : Env → Option ℕ → List ℕ → ℕ → ℕ → Config → Counted → Exit → Config → Counted → Type 0

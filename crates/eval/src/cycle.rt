@@ -1,9 +1,12 @@
-// The evaluator's cycle: a list of codes runs its instructions and calls `eval_code` for a structure, whose parts are lists
-// again. The codes of a list and the rounds of a While are loops, so that native depth is the nesting of the code.
+// The evaluator's cycle: a list of codes runs its instructions, enters its Blocks, and calls `eval_code` for an IfElse or a
+// While, whose parts are lists again. The codes of a list and the rounds of a While are loops, so that native depth is the
+// nesting of the code.
 ghost use mathlib.Core.Path.{_≡_};
-ghost use Prim.Native.Nat.{_≤_};
+ghost use mathlib.Core.Bool.{false};
+ghost use Prim.Native.Nat.{_+_, _^_, _≤_, _<_};
 ghost use Rattle.code.specs.Records.{byte-at};
-ghost use Rattle.eval.specs.Promises.{Cells, CodeAt, CodesAt, codes-from, Evaluates, EvaluatesAll};
+ghost use Rattle.eval.specs.Promises.{Cells, CodeAt, CodesAt, codes-from, TestedAt, test-at, BehindTest, way-from, part-fuel, Evaluates, EvaluatesAll};
+use crate::comparison::Compared;
 use crate::exit::Exit;
 use crate::step::COUNTED;
 use crate::step::step_comparison;
@@ -18,7 +21,58 @@ fn first_code(code: &[u8], part: usize) -> usize
     if code[part] == 0x20 { part + 5 } else { part }
 }
 
-// An instruction is run in place, and costs no turn of the cycle.
+// Where the comparison of an IfElse or a While stands: behind two lengths, or behind one.
+fn test_at(at: usize, chooses: bool) -> usize
+    requires { ⌜ at + 9 < 2 ^ 64 ⌝ }
+    ensures { λ r. ⌜ r ≡ test-at at chooses ⌝ }
+{
+    if chooses { at + 9 } else { at + 5 }
+}
+
+// Where an IfElse or a While goes on behind its comparison: where the part begins that is run next, where that ends, and where
+// the whole ends. A While has no second part: there, that begins at the end.
+pub struct Way {
+    pub part: usize,
+    pub behind: usize,
+    pub end: usize,
+}
+
+fn way_from(code: &[u8], at: usize, chooses: bool, compared: Compared) -> Way
+    requires { ⌜ TestedAt (now code) at chooses ⌝ }
+    requires { ⌜ BehindTest (now code) at chooses (compared .next) ⌝ }
+    ensures { λ r. ⌜ r ≡ way-from (now (code .entry)) at chooses compared ⌝ }
+{
+    let first = compared.next;
+    let second = first + number4(code, at + 1);
+    let end = if chooses {
+        second + number4(code, at + 5)
+    } else {
+        second
+    };
+    if compared.how == 1 {
+        return Way {
+            part: first,
+            behind: second,
+            end,
+        };
+    }
+    Way {
+        part: second,
+        behind: end,
+        end,
+    }
+}
+
+// A body and the rounds behind it get one less; the part of an IfElse gets all of it.
+fn part_fuel(chooses: bool, left: u32) -> u32
+    requires { ⌜ (chooses ≡ false → left ≡ 0 → ⊥) ⌝ }
+    ensures { λ r. ⌜ r ≡ part-fuel chooses left ⌝ }
+{
+    if chooses { left } else { left - 1 }
+}
+
+// An instruction is run in place, and costs no turn of the cycle. Nor does a Block: its codes stand behind its length, and
+// end where it does.
 pub fn eval_codes(
     code: &[u8],
     from: usize,
@@ -40,7 +94,8 @@ pub fn eval_codes(
 {
     let mut next = from;
     while next < end {
-        if code[next] < 0x20 {
+        let kind = code[next];
+        if kind < 0x20 {
             let ran = step_instruction(
                 code,
                 next,
@@ -58,6 +113,8 @@ pub fn eval_codes(
                 return ran;
             }
             next = ran.place;
+        } else if kind == 0x20 {
+            next += 5;
         } else {
             let went = eval_code(
                 code,
@@ -85,7 +142,8 @@ pub fn eval_codes(
     }
 }
 
-// A code that is a structure.
+// An IfElse, which chooses between two parts and has one round, or a While, which has rounds while its comparison holds. They
+// share the call that compares and the one that runs a part: what is called in one place is inlined there.
 fn eval_code(
     code: &[u8],
     at: usize,
@@ -101,172 +159,36 @@ fn eval_code(
     limit: u64,
 ) -> Exit
     requires { ⌜ CodeAt (now code) at ⌝ }
-    requires { ⌜ 0x20 ≤ byte-at (now code) at ⌝ }
+    requires { ⌜ 0x21 ≤ byte-at (now code) at ⌝ }
     requires { ⌜ Cells (now addresses) (now tags) (now values) ⌝ }
     ensures { λ r. ⌜ Evaluates code fill regs xmms flags addresses tags values counted limit at fuel r ⌝ }
 {
-    let kind = code[at];
-    if kind == 0x20 {
-        let from = at + 5;
-        let end = from + number4(code, at + 1);
-        return eval_codes(
-            code,
-            from,
-            end,
-            fuel,
-            fill,
-            regs,
-            xmms,
-            flags,
-            addresses,
-            tags,
-            values,
-            counted,
-            limit,
-        );
-    }
-    if kind == 0x21 {
-        return eval_if_else(
-            code,
-            at,
-            fuel,
-            fill,
-            regs,
-            xmms,
-            flags,
-            addresses,
-            tags,
-            values,
-            counted,
-            limit,
-        );
-    }
-    eval_while(
-        code,
-        at,
-        fuel,
-        fill,
-        regs,
-        xmms,
-        flags,
-        addresses,
-        tags,
-        values,
-        counted,
-        limit,
-    )
-}
-
-fn eval_if_else(
-    code: &[u8],
-    at: usize,
-    fuel: u32,
-    fill: u64,
-    regs: &mut [u64; 16],
-    xmms: &mut [u32; 64],
-    flags: &mut u64,
-    addresses: &[u64],
-    tags: &[u8],
-    values: &mut [u64],
-    counted: &mut [u64; COUNTED],
-    limit: u64,
-) -> Exit
-    requires { ⌜ CodeAt (now code) at ⌝ }
-    requires { ⌜ byte-at (now code) at ≡ 0x21 ⌝ }
-    requires { ⌜ Cells (now addresses) (now tags) (now values) ⌝ }
-    ensures { λ r. ⌜ Evaluates code fill regs xmms flags addresses tags values counted limit at fuel r ⌝ }
-{
-    let test = at + 9;
-    let compared = step_comparison(code, test, regs, addresses, tags, values, counted, limit);
-    if 1 < compared.how {
-        return Exit {
-            number: compared.how,
-            place: test,
-        };
-    }
-    *flags = fill;
-    let first = compared.next;
-    let second = first + number4(code, at + 1);
-    let end = second + number4(code, at + 5);
-    let part = if compared.how == 1 { first } else { second };
-    let behind = if compared.how == 1 { second } else { end };
-    let ran = eval_codes(
-        code,
-        first_code(code, part),
-        behind,
-        fuel,
-        fill,
-        regs,
-        xmms,
-        flags,
-        addresses,
-        tags,
-        values,
-        counted,
-        limit,
-    );
-    if ran.number != 0 {
-        return ran;
-    }
-    Exit {
-        number: 0,
-        place: end,
-    }
-}
-
-fn eval_while(
-    code: &[u8],
-    at: usize,
-    fuel: u32,
-    fill: u64,
-    regs: &mut [u64; 16],
-    xmms: &mut [u32; 64],
-    flags: &mut u64,
-    addresses: &[u64],
-    tags: &[u8],
-    values: &mut [u64],
-    counted: &mut [u64; COUNTED],
-    limit: u64,
-) -> Exit
-    requires { ⌜ CodeAt (now code) at ⌝ }
-    requires { ⌜ byte-at (now code) at ≡ 0x22 ⌝ }
-    requires { ⌜ Cells (now addresses) (now tags) (now values) ⌝ }
-    ensures { λ r. ⌜ Evaluates code fill regs xmms flags addresses tags values counted limit at fuel r ⌝ }
-{
+    let chooses = code[at] == 0x21;
+    let test = test_at(at, chooses);
     let mut left = fuel;
-    while left != 0 {
-        let condition = at + 5;
-        let compared = step_comparison(
-            code,
-            condition,
-            regs,
-            addresses,
-            tags,
-            values,
-            counted,
-            limit,
-        );
+    while chooses || left != 0 {
+        let compared = step_comparison(code, test, regs, addresses, tags, values, counted, limit);
         if 1 < compared.how {
             return Exit {
                 number: compared.how,
-                place: condition,
+                place: test,
             };
         }
         *flags = fill;
-        let body = compared.next;
-        let end = body + number4(code, at + 1);
-        if compared.how == 0 {
+        let way = way_from(code, at, chooses, compared);
+        let end = way.end;
+        if compared.how == 0 && !chooses {
             return Exit {
                 number: 0,
                 place: end,
             };
         }
-        left -= 1;
+        let less = part_fuel(chooses, left);
         let ran = eval_codes(
             code,
-            first_code(code, body),
-            end,
-            left,
+            first_code(code, way.part),
+            way.behind,
+            less,
             fill,
             regs,
             xmms,
@@ -278,8 +200,19 @@ fn eval_while(
             limit,
         );
         if ran.number != 0 {
-            return ran;
+            // Made anew, since a copy of the struct would copy the bytes between its fields too.
+            return Exit {
+                number: ran.number,
+                place: ran.place,
+            };
         }
+        if chooses {
+            return Exit {
+                number: 0,
+                place: end,
+            };
+        }
+        left = less;
     }
     Exit {
         number: 1,

@@ -41,7 +41,8 @@ pub struct Sought {
 }
 
 // The cell of the memory operand at a place, where `absent` is the number of its check if no 64-bit cell is there. It stands apart, so that operands
-// that are no memory are read in place.
+// that are no memory are read in place. Its callers lend the slices anew right before the call: a slice is passed as a pointer to a pair, and a pair that
+// is the caller's own parameter would be stored for every operand.
 fn cell_at(
     code: &[u8],
     at: usize,
@@ -107,6 +108,9 @@ pub fn load(
             }
         }
         Form::Memory => {
+            let code: &[u8] = code;
+            let addresses: &[u64] = addresses;
+            let tags: &[u8] = tags;
             let cell = cell_at(code, at, regs, addresses, tags, 31);
             if cell.number != 0 {
                 return Loaded {
@@ -171,6 +175,9 @@ pub fn resolve(
             }
         }
         Form::Memory => {
+            let code: &[u8] = code;
+            let addresses: &[u64] = addresses;
+            let tags: &[u8] = tags;
             let cell = cell_at(code, at, regs, addresses, tags, 32);
             if cell.number != 0 {
                 return nowhere(cell.number, next);
