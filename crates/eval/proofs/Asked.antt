@@ -7,7 +7,7 @@ use mathlib.Core.List.{List, []}
 use mathlib.Core.Option.{Option, some}
 use mathlib.Core.Logic.{_⊎_, inl, inr, ⊎-elim}
 use native.Mathlib.Omega.{arith}
-use borrow.Author.Tests.{eq-eqb, ne-eqb, eqb-true, eqb-false, not-true, not-false}
+use borrow.Author.Tests.{eq-eqb, ne-eqb, eqb-true, eqb-false, not-false}
 use lib.Dec.{eqb, leb}
 use lib.ListN.{length, getD, set}
 use mir.Syntax.{w64}
@@ -798,66 +798,83 @@ module _ (env : Env) (limit : Option ℕ) (bs : List ℕ) (at fuel m : ℕ) (s�
   part-there false w =
       let r = as-round w in rw (r .1, r .2) (round-there env limit bs at left s k x j (way .end) (r .0) (w .head .tested .code))
 
-  pub turn-cells : (chooses : Bool) → Turns chooses → Cells (env .addresses) (env .tags) (s .values)
-  turn-cells chooses w = record { searchable = w .cells .searchable; long = w .head .looping .long ∙ w .cells .long }
-
   pub turn-code : (chooses : Bool) → Turns chooses → CodeAt bs (way .part)
   turn-code chooses w = part-there chooses w .0
 
-  -- it begins at p, and gets less fuel
-  module _ (p less : ℕ) (is : p ≡ codes-from bs (way .part)) where
-    pub turn-codes : (chooses : Bool) → Turns chooses → CodesAt bs p (way .behind)
-    turn-codes chooses w = rw is (part-there chooses w .1)
+-- and its part, whose codes begin at p, gets less fuel
+pub record Taken (env : Env) (limit : Option ℕ) (bs : List ℕ) (at fuel m : ℕ) (s₀ : Config) (k₀ : Counted) (test left : ℕ) (s : Config)
+    (k : Counted) (x : Compared) (j : Counted) (way : Way) (chooses : Bool) (p less : ℕ) : Type 0 where
+  pub turn : Turn env limit bs at fuel m s₀ k₀ test left s k x j way chooses
+  pub begins : p ≡ codes-from bs (way .part)
+  pub fuel-is : less ≡ part-fuel chooses left
 
-    pub turn-less : (chooses : Bool) → Turns chooses → less ≡ part-fuel chooses left → less + (length bs - p) < m
-    turn-less true w f =
-        let t = part-there true w in
-        omega (arith, w .measured, w .head .looping .less, starts bs (way .part) (t .0), t .2, codes-past bs (way .part), is, f)
-    turn-less false w f =
-        let t = part-there false w in
-        omega (arith, w .measured, w .head .looping .less, starts bs (way .part) (t .0), t .2, codes-past bs (way .part), is, f)
+module _ (env : Env) (limit : Option ℕ) (bs : List ℕ) (at fuel m : ℕ) (s₀ : Config) (k₀ : Counted) (test left : ℕ) (s : Config)
+    (k : Counted) (x : Compared) (j : Counted) (way : Way) (p less : ℕ) where
+  abbrev Takes : Bool → Type 0
+  Takes chooses = Taken env limit bs at fuel m s₀ k₀ test left s k x j way chooses p less
 
-    -- and has ended in r
-    module _ (r : Exit) (t : Config) (l : Counted) (ran : RunsAll env limit bs p (way .behind) less (with-flags (env .fill) s) j r t l) where
-      chosen-exit :
-          (w : Turns true) → less ≡ left → (r′ : Exit) → how r′ ≡ how r → (r′ .number ≡ 0 → r′ .place ≡ way .end) →
-          Runs env limit bs at fuel s₀ k₀ r′ t l
-      chosen-exit w f r′ o n =
-          looped env limit bs at fuel s₀ k₀ left s k (w .head .looping) r′ t l
-          (chosen-ran env limit bs at left s k x j (way .part) (way .behind) (way .end) (as-chosen w) r t l (rw (is, f) at ran) r′ o n)
+  pub taken-codes : (chooses : Bool) → Takes chooses → CodesAt bs p (way .behind)
+  taken-codes chooses w = rw (w .begins) (part-there env limit bs at fuel m s₀ k₀ test left s k x j way chooses (w .turn) .1)
 
-      body-ran : (w : Turns false) → less ≡ left - 1 → RunsAll env limit bs (codes-from bs (x .next)) (way .end) (left - 1) (with-flags (env .fill) s) j r t l
-      body-ran w f = let q = as-round w in rw (is, f, q .1, q .2) at ran
+  pub taken-cells : (chooses : Bool) → Takes chooses → Cells (env .addresses) (env .tags) (s .values)
+  taken-cells chooses w =
+      let v = w .turn in record { searchable = v .cells .searchable; long = v .head .looping .long ∙ v .cells .long }
 
-      pub turn-stops : (chooses : Bool) → Turns chooses → less ≡ part-fuel chooses left → (r .number ≡ 0 → ⊥) → Runs env limit bs at fuel s₀ k₀ r t l
-      turn-stops true w f h = chosen-exit w f r refl (λ z. absurd (h z))
-      turn-stops false w f h =
-          loop-ran env limit bs at fuel s₀ k₀ left s k (w .head .looping) r t l
-          (round-stops env limit bs at left s k x j (way .end) (as-round w .0) (w .holds refl) r t l (body-ran w f) h) (λ _ _ _ z. absurd (h z))
-
-      pub turn-done :
-          (chooses : Bool) → Turns chooses → less ≡ part-fuel chooses left → chooses ≡ true → r .number ≡ 0 →
-          Runs env limit bs at fuel s₀ k₀ (exit 0 (way .end)) t l
-      turn-done true w f c h = chosen-exit w f (exit 0 (way .end)) (sym (how-done r h)) (λ _. refl)
-      turn-done false w f c h = absurd (true≢false (sym c))
-
-      pub turn-goes :
-          (chooses : Bool) → Turns chooses → less ≡ part-fuel chooses left → chooses ≡ false → r .number ≡ 0 →
-          length (t .values) ≡ length (s .values) → Testing env limit bs at fuel s₀ k₀ chooses test less t l
-      turn-goes true w f c h long = absurd (true≢false c)
-      turn-goes false w f c h long =
-          let goes = round-goes env limit bs at left s k x j (way .end) (as-round w .0) (w .holds refl) r t l (body-ran w f) h in
-          let again : Looping env limit bs at fuel s₀ k₀ (left - 1) t l = record {
-            same = λ d e y. w .head .looping .same d e y ∙ goes d e y;
-            long = long ∙ w .head .looping .long;
-            less = omega (arith, w .head .looping .less);
-          } in
-          record { tested = w .head .tested; is-test = w .head .is-test; looping = rw f again }
+  pub taken-less : (chooses : Bool) → Takes chooses → less + (length bs - p) < m
+  taken-less chooses w =
+      let v = w .turn in
+      let t = part-there env limit bs at fuel m s₀ k₀ test left s k x j way chooses v in
+      let f : less ≤ left = fuel-falls chooses (w .fuel-is) in
+      omega (arith, v .measured, v .head .looping .less, starts bs (way .part) (t .0), t .2, codes-past bs (way .part), w .begins, f)
+    where
+      fuel-falls : (b : Bool) → less ≡ part-fuel b left → less ≤ left
+      fuel-falls true f = omega (arith, f)
+      fuel-falls false f = omega (arith, f)
 
   -- there is less fuel for the rounds that follow
-  pub turn-falls : (less : ℕ) (chooses : Bool) → Turns chooses → less ≡ part-fuel chooses left → chooses ≡ false → less < left
-  turn-falls less true w f c = absurd (true≢false c)
-  turn-falls less false w f c = let z = w .some-fuel refl in omega (arith, f, z)
+  pub taken-falls : (chooses : Bool) → Takes chooses → chooses ≡ false → less < left
+  taken-falls true w c = absurd (true≢false c)
+  taken-falls false w c = let z = w .turn .some-fuel refl in omega (arith, w .fuel-is, z)
+
+  -- the part has ended in r
+  module _ (r : Exit) (t : Config) (l : Counted) (ran : RunsAll env limit bs p (way .behind) less (with-flags (env .fill) s) j r t l) where
+    chosen-exit :
+        Takes true → (r′ : Exit) → how r′ ≡ how r → (r′ .number ≡ 0 → r′ .place ≡ way .end) → Runs env limit bs at fuel s₀ k₀ r′ t l
+    chosen-exit w r′ o n =
+        let chosen = as-chosen env limit bs at fuel m s₀ k₀ test left s k x j way (w .turn) in
+        looped env limit bs at fuel s₀ k₀ left s k (w .turn .head .looping) r′ t l
+        (chosen-ran env limit bs at left s k x j (way .part) (way .behind) (way .end) chosen r t l (rw (w .begins, w .fuel-is) at ran) r′ o n)
+
+    round-of : Takes false → Round env limit bs at left s k x j (way .end)
+    round-of w = as-round env limit bs at fuel m s₀ k₀ test left s k x j way (w .turn) .0
+
+    body-ran : Takes false → RunsAll env limit bs (codes-from bs (x .next)) (way .end) (left - 1) (with-flags (env .fill) s) j r t l
+    body-ran w =
+        let q = as-round env limit bs at fuel m s₀ k₀ test left s k x j way (w .turn) in rw (w .begins, w .fuel-is, q .1, q .2) at ran
+
+    pub taken-stops : (chooses : Bool) → Takes chooses → (r .number ≡ 0 → ⊥) → Runs env limit bs at fuel s₀ k₀ r t l
+    taken-stops true w h = chosen-exit w r refl (λ z. absurd (h z))
+    taken-stops false w h =
+        loop-ran env limit bs at fuel s₀ k₀ left s k (w .turn .head .looping) r t l
+        (round-stops env limit bs at left s k x j (way .end) (round-of w) (w .turn .holds refl) r t l (body-ran w) h) (λ _ _ _ z. absurd (h z))
+
+    pub taken-done : (chooses : Bool) → Takes chooses → chooses ≡ true → r .number ≡ 0 → Runs env limit bs at fuel s₀ k₀ (exit 0 (way .end)) t l
+    taken-done true w c h = chosen-exit w (exit 0 (way .end)) (sym (how-done r h)) (λ _. refl)
+    taken-done false w c h = absurd (true≢false (sym c))
+
+    pub taken-goes :
+        (chooses : Bool) → Takes chooses → chooses ≡ false → r .number ≡ 0 → length (t .values) ≡ length (s .values) →
+        Testing env limit bs at fuel s₀ k₀ chooses test less t l
+    taken-goes true w c h long = absurd (true≢false c)
+    taken-goes false w c h long =
+        let head = w .turn .head in
+        let goes = round-goes env limit bs at left s k x j (way .end) (round-of w) (w .turn .holds refl) r t l (body-ran w) h in
+        let again : Looping env limit bs at fuel s₀ k₀ (left - 1) t l = record {
+          same = λ d e y. head .looping .same d e y ∙ goes d e y;
+          long = long ∙ head .looping .long;
+          less = omega (arith, head .looping .less);
+        } in
+        record { tested = head .tested; is-test = head .is-test; looping = rw (w .fuel-is) again }
 
 -- a While whose comparison does not hold is at its end
 pub turns-over :

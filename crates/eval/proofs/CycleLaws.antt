@@ -4,7 +4,7 @@ use mathlib.Core.Path.{_≡_, refl, sym, ap, subst, _∙_}
 use mathlib.Core.Bool.{Bool, true, false, cond}
 use mathlib.Core.List.{List}
 use mathlib.Core.Option.{Option}
-use mathlib.Core.Logic.{_⊎_, inl, inr, ⊎-elim}
+use mathlib.Core.Logic.{_⊎_, ⊎-elim}
 use native.Mathlib.Omega.{arith}
 use native.Mathlib.Numerals.{sub-one}
 use borrow.Author.Tests.{eq-eqb, ne-eqb, eqb-true}
@@ -305,13 +305,6 @@ module _ (env : Env) (limit : Option ℕ) (q : ℕ) (c : Ocmp) (s : Config) (k :
   ocmp-fails h y =
       ap (λ (e : Ended). and-then e (cond (eval-ocmp env c s) f g)) (w .goes h)
       ∙ ap (λ (b : Bool). cond b f g (with-flags (env .fill) s) l) (decided (eval-ocmp env c s) (x .how) (w .holds h) .1 y)
-
--- two choices by one test
-pub both-ways : {A P Q R S : Type 0} → (A × P) ⊎ ((A → ⊥) × Q) → (A × R) ⊎ ((A → ⊥) × S) → (A × P × R) ⊎ ((A → ⊥) × Q × S)
-both-ways (inl h) (inl k) = inl (h .0, h .1, k .1)
-both-ways (inl h) (inr k) = absurd (k .0 (h .0))
-both-ways (inr h) (inl k) = absurd (h .0 (k .0))
-both-ways (inr h) (inr k) = inr (h .0, h .1, k .1)
 
 -- a code between places that have other names
 respelled : (c : Code) (bs : List ℕ) (a e x y : ℕ) → a ≡ x → e ≡ y → Spells c bs a e → Spells c bs x y

@@ -15,7 +15,7 @@ use lib.Dec.{eqb}
 use Rattle.code.specs.Records.{byte-at}
 use Rattle.eval.specs.Promises.{environment, held, tally}
 use Rattle.eval.proofs.CycleLaws.{starts, ins-ran, Going, going-starts, block-goes, codes-go, codes-stop, codes-done}
-use Rattle.eval.proofs.Asked.{next-code, next-ins, next-tested, next-less, rest-less, rest-less-ins, block-fits, block-less, test-fits, Testing, testing-starts, test-stands, some-fuel, goes-round, turn-is-stopped, behind-test, turns-over, turns-spent, Turn, turn-cells, turn-code, turn-codes, turn-less, turn-stops, turn-done, turn-falls, turn-goes}
+use Rattle.eval.proofs.Asked.{next-code, next-ins, next-tested, next-less, rest-less, rest-less-ins, block-fits, block-less, test-fits, Testing, testing-starts, test-stands, some-fuel, goes-round, turn-is-stopped, behind-test, turns-over, turns-spent, Turn, turn-code, Taken, taken-codes, taken-cells, taken-less, taken-falls, taken-stops, taken-done, taken-goes}
 use Rattle.eval.proofs.cycle.eval_code.Reads as eval-code
 use Rattle.eval.proofs.cycle.eval_code.Kinds as eval-code-kinds
 use Rattle.eval.proofs.cycle.+eval_code+eval_codes.Lts-eval_code as eval-code-lts
@@ -105,7 +105,8 @@ abbrev μ-code : eval-code-lts.MeasureT-loop
 -- there is fuel for the round
 fuelled :
     (t : ℕ) (c : eval-code-lts.Joined1 (code-claims t) (at one of-code eval-code.Pre t) eval-code.Post Inv-code μ-code) →
-    eqb (byte-at (c .before .before .before .before .before .before .before .before .args .code .now) (c .before .before .before .before .before .before .before .before .args .at)) 0x21 ≡ false → c .before .loop .left ≡ 0 → ⊥
+    let a = c .before .before .before .before .before .before .before .before .args in
+    eqb (byte-at (a .code .now) (a .at)) 0x21 ≡ false → c .before .loop .left ≡ 0 → ⊥
 fuelled t c = some-fuel _ _ (⊎-elim (λ h. inl (h .taken)) (λ h. inr (h .0 .left, h .1 .taken)) (c .if1 .came))
 
 -- the round that the comparison began
@@ -136,6 +137,22 @@ turn t c =
       measured = start .pre .0;
     }
 
+-- and its part
+taken :
+    (t : ℕ) (c : eval-code-lts.After-first-code (code-claims t) (at one of-code eval-code.Pre t) eval-code.Post Inv-code μ-code) →
+    let way = c .before .before .before .before in
+    let answer = way .before .before .before in
+    let head = answer .before .before .before .before .before in
+    let a = head .before .before .before .before .before .before .before .args in
+    let x = answer .step-comparison in
+    let l = head .loop in
+    Taken (environment (a .addresses .now) (a .tags .now) (a .fill)) (some (a .limit)) (a .code .now) (a .at) (a .fuel) t
+    (held (a .regs .now) (a .xmms .now) (a .flags .now) (a .values .now)) (tally (a .counted .now)) (head .before .test-at .result) (l .left)
+    (held (l .regs) (l .xmms) (l .flags) (l .values)) (tally (l .counted)) (x .result)
+    (tally (x .last .1 .1 .1 .1 .1 .1 .0)) (way .way-from .result) (eqb (byte-at (a .code .now) (a .at)) 0x21)
+    (c .first-code .result) (c .before .part-fuel .result)
+taken t c = record { turn = turn t (c .before .before); begins = c .first-code .ensures; fuel-is = c .before .part-fuel .ensures }
+
 code-meets : {M : Type 1} (t : ℕ) → eval-code-lts.Closed (code-claims t) (at one of-code eval-code.Pre t) eval-code.Post M
 code-meets t =
     eval-code-lts.spec (code-claims t) (at one of-code eval-code.Pre t) eval-code.Post Inv-code μ-code
@@ -149,22 +166,22 @@ code-meets t =
     let compared = c .before .before .step-comparison .ensures fill (head .loop .flags) (head .loop .xmms) in
     (head .loop .inv .tested, behind-test _ _ _ _ _ _ _ _ _ _ _ _ _ _ (head .loop .inv) compared (c .if3 .left)))
     (λ c. search) (λ c. let f = fuelled t (c .before .before .before .before .before .before .before .before .before .before) in search turns-over)
-    (λ c κs. let w = turn t c in w .some-fuel)
+    (λ c κs. turn t c .some-fuel)
     (λ c κs. let w = turn t (c .before) in search turn-code)
-    (λ c κs. let w = turn t (c .before .before .before .before .before .before .before) in (
-      turn-less _ _ _ _ _ _ _ _ _ _ _ _ _ _ _ _ _ (c .before .before .before .before .before .first-code .ensures) _ w
-          (c .before .before .before .before .before .before .part-fuel .ensures),
-      (search turn-codes, search turn-cells),
-    ))
-    (λ c. let long = turn t (c .before .before .before .before .before .before .before .before .before .before .before .before) .head .looping .long in search)
-    (λ c. let w = turn t (c .before .before .before .before .before .before .before .before .before .before .before .before) in search turn-stops)
-    (λ c. c .before .before .before .before .values .given ∙ turn t (c .before .before .before .before .before .before .before .before .before .before .before .before .before) .head .looping .long)
-    (λ c. let w = turn t (c .before .before .before .before .before .before .before .before .before .before .before .before .before) in search turn-done)
-    (λ c. let w = turn t (c .before .before .before .before .before .before .before .before .before .before .before .before .before) in search turn-falls)
+    (λ c κs. let w = taken t (c .before .before .before .before .before) in (search taken-less, (search taken-codes, search taken-cells)))
+    (λ c.
+    let ran = c .before .before .before in
+    ran .values .given ∙ taken t (ran .before .before .before .before .before .before .before) .turn .head .looping .long)
+    (λ c. let w = taken t (c .before .before .before .before .before .before .before .before .before .before) in search taken-stops)
+    (λ c.
+    let ran = c .before .before .before .before in
+    ran .values .given ∙ taken t (ran .before .before .before .before .before .before .before) .turn .head .looping .long)
+    (λ c. let w = taken t (c .before .before .before .before .before .before .before .before .before .before .before) in search taken-done)
+    (λ c. let w = taken t (c .before .before .before .before .before .before .before .before .before .before .before) in search taken-falls)
     (λ c.
     let ran = c .before .before .before .before .before in
-    turn-goes _ _ _ _ _ _ _ _ _ _ _ _ _ _ _ _ _ (ran .before .before .before .before .before .before .first-code .ensures) _ _ _ (ran .eval-codes .ensures) _ (turn t (ran .before .before .before .before .before .before .before .before))
-    (ran .before .before .before .before .before .before .before .part-fuel .ensures) (c .if7 .left) (c .before .if6 .left) (c .before .before .before .before .values .given))
+    taken-goes _ _ _ _ _ _ _ _ _ _ _ _ _ _ _ _ _ _ _ _ (ran .eval-codes .ensures) _ (taken t (ran .before .before .before .before .before .before))
+    (c .if7 .left) (c .before .if6 .left) (c .before .before .before .before .values .given))
     (λ c. search) (λ c. search turns-spent)
 
 pub +eval-code+eval-codes-spec : {M : Type 1} → statement M
