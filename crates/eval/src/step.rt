@@ -57,8 +57,8 @@ pub fn step_instruction(
     ran
 }
 
-// The comparison of an IfElse or a While. To set flags to the fill word, where it completes, is left to the caller, so that
-// two parameters fewer are passed on the stack.
+// The comparison of an IfElse or a While. It is lent what it reads: to set flags to the fill word, where it completes, is left
+// to the caller.
 pub fn step_comparison(
     code: &[u8],
     at: usize,
