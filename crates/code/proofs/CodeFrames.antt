@@ -89,7 +89,6 @@ pub record WhileThere (c : Code) (bs : List ℕ) (at e : ℕ) : Type 0 where
 pub record BlockThere (c : Code) (bs : List ℕ) (at e : ℕ) : Type 0 where
   pub codes : Codes
   pub is : c ≡ Block at codes
-  pub ends : e ≡ at + 5 + number-at 4 bs (at + 1)
   pub spelled : SpellsAll codes bs (at + 5) e
 
 pub record InsThere (c : Code) (bs : List ℕ) (at e : ℕ) : Type 0 where
@@ -110,7 +109,7 @@ ins-there (While p q c b) bs at e s k = absurd (omega arith)
 pub block-there : (c : Code) (bs : List ℕ) (at e : ℕ) → Spells c bs at e → byte-at bs at ≡ 0x20 → BlockThere c bs at e
 unfolding Spells
 block-there (Ins p i) bs at e s k = absurd (omega (arith, ins-low bs at e (s .stands)))
-block-there (Block p cs) bs at e s k = record { codes = cs; is = rw (s .0 .place); ends = s .0 .ends; spelled = s .1 }
+block-there (Block p cs) bs at e s k = record { codes = cs; is = rw (s .0 .place); spelled = s .1 }
 block-there (IfElse p q c a b) bs at e s k = absurd (omega arith)
 block-there (While p q c b) bs at e s k = absurd (omega arith)
 
@@ -156,7 +155,6 @@ pub record Frame (bs : List ℕ) (at e : ℕ) : Type 0 where
   pub past : at < e
   pub kinds : (0x20 ≤ byte-at bs at) → (byte-at bs at ≡ 0x20 → ⊥) → (byte-at bs at ≡ 0x21 → ⊥) → byte-at bs at ≡ 0x22
   pub ins : byte-at bs at < 0x20 → Stands is-ins bs at e
-  pub block : byte-at bs at ≡ 0x20 → e ≡ at + 5 + number-at 4 bs (at + 1)
   pub choice :
       byte-at bs at ≡ 0x21 →
       (m : ℕ) × Stands is-ocmp bs (at + 9) m × (at + 9 < m) × (e ≡ m + number-at 4 bs (at + 1) + number-at 4 bs (at + 5))
@@ -179,7 +177,6 @@ frame c bs at e s =
       past = code-past c bs at e s;
       kinds = code-kinds c bs at e s;
       ins = λ k. ins-there c bs at e s k .stands;
-      block = λ k. block-there c bs at e s k .ends;
       choice = λ k.
           let w = if-there c bs at e s k in
           (w .mid, w .stands, stands-past is-ocmp bs (at + 9) (w .mid) (w .stands), w .ends);

@@ -42,7 +42,7 @@ use Rattle.eval.specs.Config as Config
 use Rattle.eval.specs.Counted.{Counted, nothing-counted, ended}
 use Rattle.eval.specs.Running.{run-code, run-of}
 use Rattle.eval.specs.Instructions.{checks-amount, two-word, two-flags, inserts-word, run-ins}
-use Rattle.eval.specs.Promises.{environment, held, Cells, CodeAt, CodesAt, InsAt, OcmpAt, codes-from, Loads, Seeks, Resolves, no-slot, put-regs, put-values, comparison, Compares, how, Ran, StepsIns, DecidesAt, TestedAt, test-at, BehindTest, part-fuel, second-at, end-at, way-from, Runs, RunsIns, RunsAll}
+use Rattle.eval.specs.Promises.{environment, held, Cells, CodeAt, CodesAt, InsAt, OcmpAt, codes-from, Loads, Seeks, Resolves, no-slot, put-regs, put-values, comparison, Compares, how, Ran, StepsIns, DecidesAt, TestedAt, test-at, BehindTest, part-fuel, way-from, Runs, RunsIns, RunsAll}
 use Rattle.eval.specs.declared.exit.Exit.{Exit}
 use Rattle.eval.specs.declared.operand.Sought.{Sought}
 use Rattle.eval.specs.declared.operand.Loaded.{Loaded}
@@ -54,7 +54,7 @@ use Rattle.eval.proofs.InstructionLaws.{exit, ran-stood, load-at, slot-
 use Rattle.eval.proofs.LaneLaws.{extract-unwritten, extract-done, inserts-unread, inserts-done}
 use Rattle.eval.proofs.ComparisonLaws.{stands-inside, first-unread, second-unread, compared}
 use Rattle.eval.proofs.RunLaws.{code-refused, cells-refused}
-use Rattle.eval.proofs.CycleLaws.{code-frame, starts, has-length, Choice, choice-inside, loop-inside, how-done, ins-ran, codes-past, Going, next-there, next-past, if-stops, Chosen, chosen-there, chosen-ran, Looping, loop-ran, looped, loop-spent, loop-stopped, loop-done, Round, round-ends, round-there, round-goes, round-stops}
+use Rattle.eval.proofs.CycleLaws.{code-frame, starts, has-length, Choice, choice-inside, loop-inside, how-done, ins-ran, codes-past, Going, next-there, next-past, if-stops, Chosen, chosen-there, chosen-ran, Looping, looped, loop-spent, loop-stopped, Round, round-over, round-there, round-goes, round-stops}
 
 -- ---- an operand, of which a form was decoded, and the place next behind it
 abbrev Finds : List ℕ → List ℕ → List ℕ → List ℕ → ℕ → ℕ → Sought → Type 0
@@ -571,11 +571,6 @@ module _ (bs : List ℕ) (at : ℕ) (c : CodeAt bs at) (k : 0x20 ≤ byte-at bs 
     pub behind-fits : Fits w64 (at + 5)
     behind-fits = omega (arith, has-length bs at c k)
 
-pub while-kind :
-    (bs : List ℕ) (at : ℕ) → CodeAt bs at →
-    0x20 ≤ byte-at bs at → (byte-at bs at ≡ 0x20 → ⊥) → (byte-at bs at ≡ 0x21 → ⊥) → byte-at bs at ≡ 0x22
-while-kind bs at c = code-frame bs at c .kinds
-
 -- ---- a list of codes, at the code that is next
 module _ (env : Env) (limit : Option ℕ) (bs : List ℕ) (from e fuel : ℕ) (s₀ : Config) (k₀ : Counted) (at : ℕ) (s : Config) (k : Counted)
     (g : Going env limit bs from e fuel s₀ k₀ at s k) (c : CodesAt bs from e) (inside : at < e) where
@@ -589,10 +584,7 @@ module _ (env : Env) (limit : Option ℕ) (bs : List ℕ) (from e fuel : ℕ) (s
   pub next-less : (m : ℕ) → fuel + (length bs - from) ≡ m → fuel + (length bs - (at + 1)) < m
   next-less m is = omega (arith, starts bs at next-code, g .past)
 
-  -- a Block is entered behind its length, and leaves less of the list
-  pub block-fits : byte-at bs at ≡ 0x20 → length bs * 1 < 2 ^ 63 → Fits w64 (at + 5)
-  block-fits kind room = omega (arith, has-length bs at next-code (omega (arith, kind)))
-
+  -- a Block that is entered leaves less of the list
   pub block-less : e - (at + 5) < e - at
   block-less = omega (arith, inside)
 
@@ -604,13 +596,9 @@ module _ (env : Env) (limit : Option ℕ) (bs : List ℕ) (from e fuel : ℕ) (s
       (r : Exit) (t : Config) (l : Counted) → StepsIns env limit bs at s k r t l → byte-at bs at < 0x20 → r .number ≡ 0 → e - r .place < e - at
   rest-less-ins r t l ran kind z = rest-less r t l (ins-ran env limit bs at fuel s k r t l kind ran) z
 
-pub next-tested : (k : ℕ) → 0x20 ≤ k → (k ≡ 0x20 → ⊥) → 0x21 ≤ k
-next-tested k h n = omega (arith, h, n)
-
--- ---- a comparison as a step, which answers x whatever fill word, flags and xmms are
-abbrev Answers : ℕ → List ℕ → List ℕ → List ℕ → ℕ → List ℕ → List ℕ → Counted → Compared → Counted → Type 0
-Answers limit addresses tags bs at regs values k x l =
-    (fill flags : ℕ) (xmms : List ℕ) → DecidesAt (environment addresses tags fill) (some limit) bs at (held regs xmms flags values) k x l
+-- a structure that is no Block
+pub past-block : (k : ℕ) → 0x20 ≤ k → (k ≡ 0x20 → ⊥) → 0x21 ≤ k
+past-block k h n = omega (arith, h, n)
 
 -- ---- an IfElse or a While: it stands there, and so does its comparison
 pub is-tested : (bs : List ℕ) (at : ℕ) → CodeAt bs at → 0x21 ≤ byte-at bs at → TestedAt bs at (eqb (byte-at bs at) 0x21)
@@ -618,11 +606,11 @@ is-tested bs at c k = go (eqb (byte-at bs at) 0x21) refl
   where
     go : (b : Bool) → eqb (byte-at bs at) 0x21 ≡ b → TestedAt bs at b
     go true h = record { code = c; kind = eqb-true _ _ h }
-    go false h = record { code = c; kind = while-kind bs at c (omega arith) (λ z. omega (arith, z, k)) (eqb-false _ _ h) }
+    go false h = record { code = c; kind = code-frame bs at c .kinds (omega arith) (λ z. omega (arith, z, k)) (eqb-false _ _ h) }
 
-pub is-structure : (bs : List ℕ) (at : ℕ) (chooses : Bool) → TestedAt bs at chooses → 0x20 ≤ byte-at bs at
-is-structure bs at true w = omega (arith, w .kind)
-is-structure bs at false w = omega (arith, w .kind)
+pub tested-kind : (bs : List ℕ) (at : ℕ) (chooses : Bool) → TestedAt bs at chooses → 0x20 ≤ byte-at bs at
+tested-kind bs at true w = omega (arith, w .kind)
+tested-kind bs at false w = omega (arith, w .kind)
 
 test-there : (bs : List ℕ) (at : ℕ) (chooses : Bool) → TestedAt bs at chooses → OcmpAt bs (test-at at chooses)
 test-there bs at true w = let c = choice-inside bs at (w .code) (w .kind) in (c .mid, c .stands, omega (arith, c .within))
@@ -652,7 +640,11 @@ module _ (bs : List ℕ) (at first : ℕ) (n : ℕ) (size : n ≡ number-at 4 bs
         let stands = subst (λ (b : Bool). Stands is-ocmp bs (test-at at b) (choice .mid)) (sym chosen) (choice .stands) in
         omega (arith, choice .within, behind (choice .mid) stands, size, other)
 
--- where it goes on
+-- where it ends, and where it goes on
+abbrev pub end-at : List ℕ → ℕ → Bool → ℕ → ℕ
+end-at bs at chooses first =
+    let second = first + number-at 4 bs (at + 1) in cond chooses (second + number-at 4 bs (at + 5)) second
+
 module _ (bs : List ℕ) (at : ℕ) (chooses : Bool) (x : Compared) (n : ℕ) (size : n ≡ number-at 4 bs (at + 1)) where
   pub end-chosen : (o : ℕ) → o ≡ number-at 4 bs (at + 5) → chooses ≡ true → x .next + n + o ≡ end-at bs at chooses (x .next)
   end-chosen o other h = rw (h, size, other)
@@ -666,6 +658,17 @@ module _ (bs : List ℕ) (at : ℕ) (chooses : Bool) (x : Compared) (n : ℕ) (s
 
     pub way-fails : (x .how ≡ 1 → ⊥) → record { part = x .next + n; behind = end; end = end } ≡ way-from bs at chooses x
     way-fails h = rw (end-is, size, ne-eqb (x .how) 1 h)
+
+-- where a way leads
+ways :
+    (first second end n : ℕ) (way : Way) (b : Bool) → eqb n 1 ≡ b →
+    way ≡ cond b (record { part = first; behind = second; end = end }) (record { part = second; behind = end; end = end }) →
+    (way .end ≡ end)
+    × (((n ≡ 1) × (way .part ≡ first) × (way .behind ≡ second)) ⊎ ((n ≡ 1 → ⊥) × (way .part ≡ second) × (way .behind ≡ end)))
+ways first second end n way true t e =
+    (ap (λ (v : Way). v .end) e, inl (eqb-true n 1 t, ap (λ (v : Way). v .part) e, ap (λ (v : Way). v .behind) e))
+ways first second end n way false t e =
+    (ap (λ (v : Way). v .end) e, inr (eqb-false n 1 t, ap (λ (v : Way). v .part) e, ap (λ (v : Way). v .behind) e))
 
 -- ---- its rounds, of which an IfElse has one: what holds at the head of the loop over them
 pub record Testing (env : Env) (limit : Option ℕ) (bs : List ℕ) (at fuel : ℕ) (s₀ : Config) (k₀ : Counted) (chooses : Bool) (test left : ℕ)
@@ -692,33 +695,53 @@ module _ (env : Env) (limit : Option ℕ) (bs : List ℕ) (at fuel : ℕ) (s₀ 
   pub turns-spent : (chooses : Bool) → Head chooses → chooses ≡ false → not (eqb left 0) ≡ false → Runs env limit bs at fuel s₀ k₀ (exit 1 at) s k
   turns-spent true w h z = absurd (true≢false h)
   turns-spent false w h z =
-      let none : left ≡ 0 = eqb-true left 0 (not-false _ z) in
-      loop-ran env limit bs at fuel s₀ k₀ left s k (w .looping) (exit 1 at) s k (loop-spent env limit bs at left s k (w .tested .kind) none)
-      (λ _ _ _ y. absurd (omega (arith, y)))
+      looped env limit bs at fuel s₀ k₀ left s k (w .looping) (exit 1 at) s k
+      (loop-spent env limit bs at left s k (w .tested .kind) (eqb-true left 0 (not-false _ z)))
 
   -- its comparison has answered x and left j counted
   module _ (x : Compared) (j : Counted) where
+    at-test : (chooses : Bool) → Head chooses → DecidesAt env limit bs test s k x j → DecidesAt env limit bs (test-at at chooses) s k x j
+    at-test chooses w compared = subst (λ (q : ℕ). DecidesAt env limit bs q s k x j) (w .is-test) compared
+
     pub behind-test : (chooses : Bool) → Head chooses → DecidesAt env limit bs test s k x j → x .how ≤ 1 → BehindTest bs at chooses (x .next)
-    behind-test chooses w compared read e h =
-        compared e (subst (λ (q : ℕ). Stands is-ocmp bs q e) (sym (w .is-test)) h) .next read
+    behind-test chooses w compared read e h = at-test chooses w compared e h .next read
 
     pub turn-stopped :
         (chooses : Bool) → Head chooses → (chooses ≡ false → left ≡ 0 → ⊥) → DecidesAt env limit bs test s k x j → 1 < x .how →
         Runs env limit bs at fuel s₀ k₀ (exit (x .how) test) s j
     turn-stopped true w some-fuel compared h =
-        let p : at + 9 ≡ test = sym (w .is-test) in
         looped env limit bs at fuel s₀ k₀ left s k (w .looping) (exit (x .how) test) s j
-        (subst (λ (q : ℕ). Runs env limit bs at left s k (exit (x .how) q) s j) p
-        (if-stops env limit bs at left s k (w .tested .kind) x j (subst (λ (q : ℕ). DecidesAt env limit bs q s k x j) (w .is-test) compared) h))
+        (subst (λ (q : ℕ). Runs env limit bs at left s k (exit (x .how) q) s j) (sym (w .is-test))
+        (if-stops env limit bs at left s k (w .tested .kind) x j (at-test true w compared) h))
     turn-stopped false w some-fuel compared h =
-        let p : at + 5 ≡ test = sym (w .is-test) in
-        let here = subst (λ (q : ℕ). DecidesAt env limit bs q s k x j) (w .is-test) compared in
-        loop-ran env limit bs at fuel s₀ k₀ left s k (w .looping) (exit (x .how) test) s j
-        (subst (λ (q : ℕ). (c : Code) (e : ℕ) → Spells c bs at e → run-code env limit c left s k ≡ ended (how (exit (x .how) q)) s j) p
-        (loop-stopped env limit bs at left s k (w .tested .kind) (some-fuel refl) x j here h))
-        (λ _ _ _ z. absurd (omega (arith, z, h)))
+        looped env limit bs at fuel s₀ k₀ left s k (w .looping) (exit (x .how) test) s j
+        (subst (λ (q : ℕ). Runs env limit bs at left s k (exit (x .how) q) s j) (sym (w .is-test))
+        (loop-stopped env limit bs at left s k (w .tested .kind) (some-fuel refl) x j (at-test false w compared) h))
 
--- the fuel for a round, by the loop's test, and that a comparison which ends a While ends it, by the test behind it
+    -- a round of a While, which ends where its way does
+    round-at :
+        Head false → (false ≡ false → left ≡ 0 → ⊥) → DecidesAt env limit bs test s k x j → x .how ≤ 1 →
+        (way : Way) → way ≡ way-from bs at false x → Round env limit bs at left s k x j (way .end)
+    round-at w some-fuel compared read way is =
+        record {
+          kind = w .tested .kind;
+          some-fuel = some-fuel refl;
+          compared = at-test false w compared;
+          read = read;
+          end-is = ways _ _ _ (x .how) way (eqb (x .how) 1) refl is .0;
+        }
+
+    -- a While whose comparison does not hold is at its end
+    pub turns-over :
+        (chooses : Bool) → Head chooses → (chooses ≡ false → left ≡ 0 → ⊥) → DecidesAt env limit bs test s k x j →
+        (way : Way) → way ≡ way-from bs at chooses x → x .how ≡ 0 → not chooses ≡ true →
+        Runs env limit bs at fuel s₀ k₀ (exit 0 (way .end)) (with-flags (env .fill) s) j
+    turns-over true w some-fuel compared way is z c = absurd (true≢false (sym c))
+    turns-over false w some-fuel compared way is z c =
+        looped env limit bs at fuel s₀ k₀ left s k (w .looping) (exit 0 (way .end)) (with-flags (env .fill) s) j
+        (round-over env limit bs at left s k x j (way .end) (round-at w some-fuel compared (omega (arith, z)) way is) z)
+
+-- by the loop's test a While has fuel for the round, and by the test behind its comparison that holds
 pub some-fuel : (chooses : Bool) (left : ℕ) → (chooses ≡ true) ⊎ ((chooses ≡ false) × (not (eqb left 0) ≡ true)) → chooses ≡ false → left ≡ 0 → ⊥
 some-fuel chooses left (inl h) f z = true≢false (sym h ∙ f)
 some-fuel chooses left (inr h) f z = true≢false (sym (h .1) ∙ ap not (eq-eqb left 0 z))
@@ -726,15 +749,6 @@ some-fuel chooses left (inr h) f z = true≢false (sym (h .1) ∙ ap not (eq-eqb
 pub goes-round : (chooses : Bool) (n : ℕ) → ((n ≡ 0) × (not chooses ≡ false)) ⊎ (n ≡ 0 → ⊥) → chooses ≡ false → n ≡ 0 → ⊥
 goes-round chooses n (inl h) f z = true≢false (sym (ap not f) ∙ h .1)
 goes-round chooses n (inr h) f z = h z
-
-pub turn-is-stopped :
-    (limit : ℕ) (addresses tags bs regs xmms values : List ℕ) (fill at fuel test left flags : ℕ) (s₀ : Config) (k₀ k j : Counted) (chooses : Bool)
-    (x : Compared) →
-    Testing (environment addresses tags fill) (some limit) bs at fuel s₀ k₀ chooses test left (held regs xmms flags values) k →
-    (chooses ≡ false → left ≡ 0 → ⊥) → Answers limit addresses tags bs test regs values k x j → 1 < x .how →
-    Runs (environment addresses tags fill) (some limit) bs at fuel s₀ k₀ (exit (x .how) test) (held regs xmms flags values) j
-turn-is-stopped limit addresses tags bs regs xmms values fill at fuel test left flags s₀ k₀ k j chooses x w f a h =
-    turn-stopped _ _ bs at fuel s₀ k₀ test left _ k x j chooses w f (a fill flags xmms) h
 
 -- a round whose comparison has answered x and left j counted, and goes on, where the evaluator has come to it with the measure m
 pub record Turn (env : Env) (limit : Option ℕ) (bs : List ℕ) (at fuel m : ℕ) (s₀ : Config) (k₀ : Counted) (test left : ℕ) (s : Config)
@@ -748,17 +762,6 @@ pub record Turn (env : Env) (limit : Option ℕ) (bs : List ℕ) (at fuel m : �
   pub cells : Cells (env .addresses) (env .tags) (s₀ .values)
   pub measured : fuel + (length bs - (at + 1)) ≡ m
 
--- where a way leads
-ways :
-    (first second end n : ℕ) (way : Way) (b : Bool) → eqb n 1 ≡ b →
-    way ≡ cond b (record { part = first; behind = second; end = end }) (record { part = second; behind = end; end = end }) →
-    (way .end ≡ end)
-    × (((n ≡ 1) × (way .part ≡ first) × (way .behind ≡ second)) ⊎ ((n ≡ 1 → ⊥) × (way .part ≡ second) × (way .behind ≡ end)))
-ways first second end n way true t e =
-    (ap (λ (v : Way). v .end) e, inl (eqb-true n 1 t, ap (λ (v : Way). v .part) e, ap (λ (v : Way). v .behind) e))
-ways first second end n way false t e =
-    (ap (λ (v : Way). v .end) e, inr (eqb-false n 1 t, ap (λ (v : Way). v .part) e, ap (λ (v : Way). v .behind) e))
-
 module _ (env : Env) (limit : Option ℕ) (bs : List ℕ) (at fuel m : ℕ) (s₀ : Config) (k₀ : Counted) (test left : ℕ) (s : Config)
     (k : Counted) (x : Compared) (j : Counted) (way : Way) where
   abbrev Turns : Bool → Type 0
@@ -770,9 +773,9 @@ module _ (env : Env) (limit : Option ℕ) (bs : List ℕ) (at fuel m : ℕ) (s�
       let d = ways _ _ _ (x .how) way (eqb (x .how) 1) refl (w .way-is) in
       record {
         kind = w .head .tested .kind;
-        compared = subst (λ (q : ℕ). DecidesAt env limit bs q s k x j) (w .head .is-test) (w .compared);
+        compared = at-test env limit bs at fuel s₀ k₀ test left s k x j true (w .head) (w .compared);
         read = w .read;
-        mid = second-at bs at (x .next);
+        mid = x .next + number-at 4 bs (at + 1);
         mid-is = refl;
         end-is = d .0;
         way = ⊎-elim inl (λ h. inr (h .0, h .1, h .2 ∙ sym (d .0))) (d .1);
@@ -781,13 +784,7 @@ module _ (env : Env) (limit : Option ℕ) (bs : List ℕ) (at fuel m : ℕ) (s�
   as-round : Turns false → Round env limit bs at left s k x j (way .end) × (way .part ≡ x .next) × (way .behind ≡ way .end)
   as-round w =
       let d = ways _ _ _ (x .how) way (eqb (x .how) 1) refl (w .way-is) in
-      let round : Round env limit bs at left s k x j (way .end) = record {
-        kind = w .head .tested .kind;
-        some-fuel = w .some-fuel refl;
-        compared = subst (λ (q : ℕ). DecidesAt env limit bs q s k x j) (w .head .is-test) (w .compared);
-        read = w .read;
-        end-is = d .0;
-      } in
+      let round = round-at env limit bs at fuel s₀ k₀ test left s k x j (w .head) (w .some-fuel) (w .compared) (w .read) way (w .way-is) in
       ⊎-elim (λ h. (round, h .1, h .2 ∙ sym (d .0))) (λ h. absurd (w .holds refl (omega (arith, w .read, h .0)))) (d .1)
 
   -- its part's code, and that there are codes to its end, which begin behind the test
@@ -801,17 +798,17 @@ module _ (env : Env) (limit : Option ℕ) (bs : List ℕ) (at fuel m : ℕ) (s�
   pub turn-code : (chooses : Bool) → Turns chooses → CodeAt bs (way .part)
   turn-code chooses w = part-there chooses w .0
 
--- and its part, whose codes begin at p, gets less fuel
+-- and its part, whose codes begin at p, with the fuel that it is given
 pub record Taken (env : Env) (limit : Option ℕ) (bs : List ℕ) (at fuel m : ℕ) (s₀ : Config) (k₀ : Counted) (test left : ℕ) (s : Config)
-    (k : Counted) (x : Compared) (j : Counted) (way : Way) (chooses : Bool) (p less : ℕ) : Type 0 where
+    (k : Counted) (x : Compared) (j : Counted) (way : Way) (chooses : Bool) (p given : ℕ) : Type 0 where
   pub turn : Turn env limit bs at fuel m s₀ k₀ test left s k x j way chooses
   pub begins : p ≡ codes-from bs (way .part)
-  pub fuel-is : less ≡ part-fuel chooses left
+  pub fuel-is : given ≡ part-fuel chooses left
 
 module _ (env : Env) (limit : Option ℕ) (bs : List ℕ) (at fuel m : ℕ) (s₀ : Config) (k₀ : Counted) (test left : ℕ) (s : Config)
-    (k : Counted) (x : Compared) (j : Counted) (way : Way) (p less : ℕ) where
+    (k : Counted) (x : Compared) (j : Counted) (way : Way) (p given : ℕ) where
   abbrev Takes : Bool → Type 0
-  Takes chooses = Taken env limit bs at fuel m s₀ k₀ test left s k x j way chooses p less
+  Takes chooses = Taken env limit bs at fuel m s₀ k₀ test left s k x j way chooses p given
 
   pub taken-codes : (chooses : Bool) → Takes chooses → CodesAt bs p (way .behind)
   taken-codes chooses w = rw (w .begins) (part-there env limit bs at fuel m s₀ k₀ test left s k x j way chooses (w .turn) .1)
@@ -820,24 +817,24 @@ module _ (env : Env) (limit : Option ℕ) (bs : List ℕ) (at fuel m : ℕ) (s�
   taken-cells chooses w =
       let v = w .turn in record { searchable = v .cells .searchable; long = v .head .looping .long ∙ v .cells .long }
 
-  pub taken-less : (chooses : Bool) → Takes chooses → less + (length bs - p) < m
+  pub taken-less : (chooses : Bool) → Takes chooses → given + (length bs - p) < m
   taken-less chooses w =
       let v = w .turn in
       let t = part-there env limit bs at fuel m s₀ k₀ test left s k x j way chooses v in
-      let f : less ≤ left = fuel-falls chooses (w .fuel-is) in
+      let f : given ≤ left = fuel-falls chooses (w .fuel-is) in
       omega (arith, v .measured, v .head .looping .less, starts bs (way .part) (t .0), t .2, codes-past bs (way .part), w .begins, f)
     where
-      fuel-falls : (b : Bool) → less ≡ part-fuel b left → less ≤ left
+      fuel-falls : (b : Bool) → given ≡ part-fuel b left → given ≤ left
       fuel-falls true f = omega (arith, f)
       fuel-falls false f = omega (arith, f)
 
   -- there is less fuel for the rounds that follow
-  pub taken-falls : (chooses : Bool) → Takes chooses → chooses ≡ false → less < left
+  pub taken-falls : (chooses : Bool) → Takes chooses → chooses ≡ false → given < left
   taken-falls true w c = absurd (true≢false c)
   taken-falls false w c = let z = w .turn .some-fuel refl in omega (arith, w .fuel-is, z)
 
   -- the part has ended in r
-  module _ (r : Exit) (t : Config) (l : Counted) (ran : RunsAll env limit bs p (way .behind) less (with-flags (env .fill) s) j r t l) where
+  module _ (r : Exit) (t : Config) (l : Counted) (ran : RunsAll env limit bs p (way .behind) given (with-flags (env .fill) s) j r t l) where
     chosen-exit :
         Takes true → (r′ : Exit) → how r′ ≡ how r → (r′ .number ≡ 0 → r′ .place ≡ way .end) → Runs env limit bs at fuel s₀ k₀ r′ t l
     chosen-exit w r′ o n =
@@ -855,8 +852,8 @@ module _ (env : Env) (limit : Option ℕ) (bs : List ℕ) (at fuel m : ℕ) (s�
     pub taken-stops : (chooses : Bool) → Takes chooses → (r .number ≡ 0 → ⊥) → Runs env limit bs at fuel s₀ k₀ r t l
     taken-stops true w h = chosen-exit w r refl (λ z. absurd (h z))
     taken-stops false w h =
-        loop-ran env limit bs at fuel s₀ k₀ left s k (w .turn .head .looping) r t l
-        (round-stops env limit bs at left s k x j (way .end) (round-of w) (w .turn .holds refl) r t l (body-ran w) h) (λ _ _ _ z. absurd (h z))
+        looped env limit bs at fuel s₀ k₀ left s k (w .turn .head .looping) r t l
+        (round-stops env limit bs at left s k x j (way .end) (round-of w) (w .turn .holds refl) r t l (body-ran w) h)
 
     pub taken-done : (chooses : Bool) → Takes chooses → chooses ≡ true → r .number ≡ 0 → Runs env limit bs at fuel s₀ k₀ (exit 0 (way .end)) t l
     taken-done true w c h = chosen-exit w (exit 0 (way .end)) (sym (how-done r h)) (λ _. refl)
@@ -864,7 +861,7 @@ module _ (env : Env) (limit : Option ℕ) (bs : List ℕ) (at fuel m : ℕ) (s�
 
     pub taken-goes :
         (chooses : Bool) → Takes chooses → chooses ≡ false → r .number ≡ 0 → length (t .values) ≡ length (s .values) →
-        Testing env limit bs at fuel s₀ k₀ chooses test less t l
+        Testing env limit bs at fuel s₀ k₀ chooses test given t l
     taken-goes true w c h long = absurd (true≢false c)
     taken-goes false w c h long =
         let head = w .turn .head in
@@ -875,29 +872,6 @@ module _ (env : Env) (limit : Option ℕ) (bs : List ℕ) (at fuel m : ℕ) (s�
           less = omega (arith, head .looping .less);
         } in
         record { tested = head .tested; is-test = head .is-test; looping = rw (w .fuel-is) again }
-
--- a While whose comparison does not hold is at its end
-pub turns-over :
-    (limit : ℕ) (addresses tags bs regs xmms values : List ℕ) (fill at fuel test left flags : ℕ) (s₀ : Config) (k₀ k j : Counted) (chooses : Bool)
-    (x : Compared) (way : Way) →
-    Testing (environment addresses tags fill) (some limit) bs at fuel s₀ k₀ chooses test left (held regs xmms flags values) k →
-    (chooses ≡ false → left ≡ 0 → ⊥) → Answers limit addresses tags bs test regs values k x j → way ≡ way-from bs at chooses x →
-    x .how ≡ 0 → not chooses ≡ true →
-    Runs (environment addresses tags fill) (some limit) bs at fuel s₀ k₀ (exit 0 (way .end)) (held regs xmms fill values) j
-turns-over limit addresses tags bs regs xmms values fill at fuel test left flags s₀ k₀ k j true x way w f a is z c = absurd (true≢false (sym c))
-turns-over limit addresses tags bs regs xmms values fill at fuel test left flags s₀ k₀ k j false x way w f a is z c =
-    let s = held regs xmms flags values in
-    let here = subst (λ (q : ℕ). DecidesAt (environment addresses tags fill) (some limit) bs q s k x j) (w .is-test) (a fill flags xmms) in
-    let round : Round (environment addresses tags fill) (some limit) bs at left s k x j (way .end) = record {
-      kind = w .tested .kind;
-      some-fuel = f refl;
-      compared = here;
-      read = omega (arith, z);
-      end-is = ways _ _ _ (x .how) way (eqb (x .how) 1) refl is .0;
-    } in
-    loop-ran _ _ bs at fuel s₀ k₀ left s k (w .looping) _ _ _
-    (loop-done _ _ bs at left s k (w .tested .kind) (f refl) x j here z)
-    (λ d e y _. round-ends _ _ bs at left s k x j (way .end) round d e y)
 
 -- ---- what a check answered is the verdict of its definition
 pub is-accepted : (v : Checked) (w : Verdict) → verdict v ≡ w → v ≡ Accepted → w ≡ accepted

@@ -35,10 +35,6 @@ pub has-length : (bs : List ℕ) (at : ℕ) → CodeAt bs at → 0x20 ≤ byte-a
 has-length bs at c k = omega (arith, structure-long (c .code) bs at (c .end) (c .spelled) k, c .inside)
 
 -- the parts of a structure that stands inside the bytes
-pub block-inside :
-    (bs : List ℕ) (at : ℕ) → CodeAt bs at → byte-at bs at ≡ 0x20 → at + 5 + number-at 4 bs (at + 1) ≤ length bs
-block-inside bs at c k = omega (arith, code-frame bs at c .block k, c .inside)
-
 pub record Choice (bs : List ℕ) (at : ℕ) : Type 0 where
   pub mid : ℕ
   pub stands : Stands is-ocmp bs (at + 9) mid
@@ -429,29 +425,26 @@ module _ (env : Env) (limit : Option ℕ) (bs : List ℕ) (at fuel : ℕ) (s : C
   chosen-ran =
       if-ran env limit bs at fuel s k (w .kind) x j (w .compared) (w .read) (w .mid) end part behind (w .mid-is) (w .end-is) (w .way)
 
--- ---- what holds at the head of the loop over the rounds of a While. The one round of an IfElse is at the first
+-- ---- what holds at the head of the loop over rounds, to which an IfElse comes once
 pub record Looping (env : Env) (limit : Option ℕ) (bs : List ℕ) (at fuel : ℕ) (s₀ : Config) (k₀ : Counted) (left : ℕ) (s : Config) (k : Counted) : Type 0 where
   pub same : (c : Code) (e : ℕ) → Spells c bs at e → run-code env limit c fuel s₀ k₀ ≡ run-code env limit c left s k
   pub long : length (s .values) ≡ length (s₀ .values)
   pub less : left ≤ fuel
 
--- a way out of the loop
-pub loop-ran :
-    (env : Env) (limit : Option ℕ) (bs : List ℕ) (at fuel : ℕ) (s₀ : Config) (k₀ : Counted) (left : ℕ) (s : Config) (k : Counted) →
-    Looping env limit bs at fuel s₀ k₀ left s k →
-    (r : Exit) (t : Config) (l : Counted) →
-    ((c : Code) (e : ℕ) → Spells c bs at e → run-code env limit c left s k ≡ ended (how r) t l) →
-    ((c : Code) (e : ℕ) → Spells c bs at e → r .number ≡ 0 → r .place ≡ e) →
-    Runs env limit bs at fuel s₀ k₀ r t l
-loop-ran env limit bs at fuel s₀ k₀ left s k w r t l g p c e h =
-    record { ends = sym (w .same c e h ∙ g c e h); next = p c e h }
-
+-- a run from the head of the loop on is the run
 pub looped :
     (env : Env) (limit : Option ℕ) (bs : List ℕ) (at fuel : ℕ) (s₀ : Config) (k₀ : Counted) (left : ℕ) (s : Config) (k : Counted) →
     Looping env limit bs at fuel s₀ k₀ left s k → (r : Exit) (t : Config) (l : Counted) → Runs env limit bs at left s k r t l →
     Runs env limit bs at fuel s₀ k₀ r t l
-looped env limit bs at fuel s₀ k₀ left s k w r t l ran =
-    loop-ran env limit bs at fuel s₀ k₀ left s k w r t l (λ c e h. sym (ran c e h .ends)) (λ c e h. ran c e h .next)
+looped env limit bs at fuel s₀ k₀ left s k w r t l ran c e h =
+    let went = ran c e h in record { ends = went .ends ∙ sym (w .same c e h); next = went .next }
+
+-- a run that is not done says nothing of the place behind
+unfinished :
+    (env : Env) (limit : Option ℕ) (bs : List ℕ) (at left : ℕ) (s : Config) (k : Counted) (r : Exit) (t : Config) (l : Counted) →
+    (r .number ≡ 0 → ⊥) → ((c : Code) (e : ℕ) → Spells c bs at e → run-code env limit c left s k ≡ ended (how r) t l) →
+    Runs env limit bs at left s k r t l
+unfinished env limit bs at left s k r t l z g c e h = record { ends = sym (g c e h); next = λ y. absurd (z y) }
 
 module _ (env : Env) (limit : Option ℕ) (body : ℕ → Part) (p q : ℕ) (c : Ocmp) (s : Config) (k : Counted) where
   rounds-spent : (left : ℕ) → left ≡ 0 → rounds env limit body p q c left s k ≡ ended (spent p) s k
@@ -469,12 +462,14 @@ module _ (env : Env) (limit : Option ℕ) (body : ℕ → Part) (p q : ℕ) (c :
   rounds-go (suc f) h = ap (λ (n : ℕ). decide env limit q c (round n) (ended done) s k) (sym (sub-one (suc f)))
 
 module _ (env : Env) (limit : Option ℕ) (bs : List ℕ) (at left : ℕ) (s : Config) (k : Counted) (kind : byte-at bs at ≡ 0x22) where
-  pub loop-spent : left ≡ 0 → (c : Code) (e : ℕ) → Spells c bs at e → run-code env limit c left s k ≡ ended (spent at) s k
+  pub loop-spent : left ≡ 0 → Runs env limit bs at left s k (exit 1 at) s k
   unfolding run-code
-  loop-spent z c e h =
+  loop-spent z =
+      unfinished env limit bs at left s k (exit 1 at) s k (λ y. omega (arith, y))
+      (λ c e h.
       let w = while-there c bs at e h kind in
       ap (λ (b : Code). run-code env limit b left s k) (w .is)
-      ∙ rounds-spent env limit (run-code env limit (w .body)) at (at + 5) (w .test) s k left z
+      ∙ rounds-spent env limit (run-code env limit (w .body)) at (at + 5) (w .test) s k left z)
 
   module _ (inn : left ≡ 0 → ⊥) (x : Compared) (j : Counted) (compared : DecidesAt env limit bs (at + 5) s k x j) where
     -- the next round, and those that follow, behind its comparison
@@ -492,16 +487,16 @@ module _ (env : Env) (limit : Option ℕ) (bs : List ℕ) (at left : ℕ) (s : C
         ∙ rounds-go env limit (run-code env limit (w .body)) at (at + 5) (w .test) s k left inn
         ∙ ap (λ (o : Ocmp). decide env limit (at + 5) o next (ended done) s k) (w .says)
 
-    pub loop-stopped :
-        1 < x .how → (c : Code) (e : ℕ) → Spells c bs at e →
-        run-code env limit c left s k ≡ ended (how (exit (x .how) (at + 5))) s j
-    loop-stopped z c e h =
+    pub loop-stopped : 1 < x .how → Runs env limit bs at left s k (exit (x .how) (at + 5)) s j
+    loop-stopped z =
+        unfinished env limit bs at left s k (exit (x .how) (at + 5)) s j (λ y. omega (arith, y, z))
+        (λ c e h.
         let w = while-there c bs at e h kind in
         tested c e h
         ∙ ocmp-stops env limit (at + 5) (ocmp-at bs (at + 5)) s k (w .mid) x j (compared (w .mid) (w .stands))
-        (round env limit (run-code env limit (w .body)) at (at + 5) (w .test) s k (left - 1)) (ended done) z
+        (round env limit (run-code env limit (w .body)) at (at + 5) (w .test) s k (left - 1)) (ended done) z)
 
-    pub loop-done :
+    loop-done :
         x .how ≡ 0 → (c : Code) (e : ℕ) → Spells c bs at e → run-code env limit c left s k ≡ ended done (with-flags (env .fill) s) j
     loop-done z c e h =
         let w = while-there c bs at e h kind in
@@ -584,8 +579,13 @@ pub record Round (env : Env) (limit : Option ℕ) (bs : List ℕ) (at left : ℕ
 
 module _ (env : Env) (limit : Option ℕ) (bs : List ℕ) (at left : ℕ) (s : Config) (k : Counted) (x : Compared) (j : Counted) (end : ℕ)
     (w : Round env limit bs at left s k x j end) where
-  pub round-ends : (c : Code) (e : ℕ) → Spells c bs at e → end ≡ e
-  round-ends = loop-ends env limit bs at left s k (w .kind) (w .some-fuel) x j (w .compared) (w .read) end (w .end-is)
+  -- its comparison does not hold
+  pub round-over : x .how ≡ 0 → Runs env limit bs at left s k (exit 0 end) (with-flags (env .fill) s) j
+  round-over z c e h =
+      record {
+        ends = sym (loop-done env limit bs at left s k (w .kind) (w .some-fuel) x j (w .compared) z c e h);
+        next = λ _. loop-ends env limit bs at left s k (w .kind) (w .some-fuel) x j (w .compared) (w .read) end (w .end-is) c e h;
+      }
 
   pub round-there : CodeAt bs at → CodeAt bs (x .next) × CodesAt bs (codes-from bs (x .next)) end × (at + 5 < x .next)
   round-there = body-there env limit bs at left s k (w .kind) (w .some-fuel) x j (w .compared) (w .read) end (w .end-is)
@@ -595,5 +595,7 @@ module _ (env : Env) (limit : Option ℕ) (bs : List ℕ) (at left : ℕ) (s : C
     pub round-goes : r .number ≡ 0 → (c : Code) (e : ℕ) → Spells c bs at e → run-code env limit c left s k ≡ run-code env limit c (left - 1) t l
     round-goes = loop-goes env limit bs at left s k (w .kind) (w .some-fuel) x j (w .compared) (w .read) end (w .end-is) y r t l ran
 
-    pub round-stops : (r .number ≡ 0 → ⊥) → (c : Code) (e : ℕ) → Spells c bs at e → run-code env limit c left s k ≡ ended (how r) t l
-    round-stops = loop-stops env limit bs at left s k (w .kind) (w .some-fuel) x j (w .compared) (w .read) end (w .end-is) y r t l ran
+    pub round-stops : (r .number ≡ 0 → ⊥) → Runs env limit bs at left s k r t l
+    round-stops z =
+        unfinished env limit bs at left s k r t l z
+        (loop-stops env limit bs at left s k (w .kind) (w .some-fuel) x j (w .compared) (w .read) end (w .end-is) y r t l ran z)

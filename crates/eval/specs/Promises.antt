@@ -180,8 +180,16 @@ pub record CodesAt (bs : List ℕ) (from end : ℕ) : Type 0 where
 abbrev pub codes-from : List ℕ → ℕ → ℕ
 codes-from bs at = cond (eqb (byte-at bs at) 0x20) (at + 5) at
 
+-- an exit from s and k to t and l is that of the code that stands at a place, whichever it is
+abbrev pub Runs : Env → Option ℕ → List ℕ → ℕ → ℕ → Config → Counted → Exit → Config → Counted → Type 0
+Runs env limit bs at fuel s k r t l = (c : Code) (e : ℕ) → Spells c bs at e → Reached (run-code env limit c fuel s k) e r t l
+
+-- an exit from s and k to t and l is that of the list of codes between two places, whichever it is
+abbrev pub RunsAll : Env → Option ℕ → List ℕ → ℕ → ℕ → ℕ → Config → Counted → Exit → Config → Counted → Type 0
+RunsAll env limit bs from e fuel s k r t l = (cs : Codes) → SpellsAll cs bs from e → Reached (run-codes env limit cs fuel s k) e r t l
+
 -- ---- an IfElse, which chooses between two parts, and a While, which does not
--- one of them stands at a place, inside the bytes
+-- an IfElse or a While stands at a place, inside the bytes
 pub record TestedAt (bs : List ℕ) (at : ℕ) (chooses : Bool) : Type 0 where
   pub code : CodeAt bs at
   pub kind : byte-at bs at ≡ cond chooses 0x21 0x22
@@ -190,36 +198,20 @@ pub record TestedAt (bs : List ℕ) (at : ℕ) (chooses : Bool) : Type 0 where
 abbrev pub test-at : ℕ → Bool → ℕ
 test-at at chooses = cond chooses (at + 9) (at + 5)
 
--- a place is the one behind its comparison
+-- its comparison ends at a place
 abbrev pub BehindTest : List ℕ → ℕ → Bool → ℕ → Type 0
 BehindTest bs at chooses next = (e : ℕ) → Stands is-ocmp bs (test-at at chooses) e → next ≡ e
 
--- the fuel of the part that is run next
+-- the fuel of the part that is run next: all of it in an IfElse, one less in a While
 abbrev pub part-fuel : Bool → ℕ → ℕ
 part-fuel chooses left = cond chooses left (left - 1)
 
--- where a first part that begins at a place ends
-abbrev pub second-at : List ℕ → ℕ → ℕ → ℕ
-second-at bs at first = first + number-at 4 bs (at + 1)
-
--- where the structure ends whose first part begins at a place
-abbrev pub end-at : List ℕ → ℕ → Bool → ℕ → ℕ
-end-at bs at chooses first = cond chooses (second-at bs at first + number-at 4 bs (at + 5)) (second-at bs at first)
-
--- where it goes on behind its comparison: with the first part where that holds, and else with the second; a While has none, which begins at its end
+-- the way behind the comparison that answered x: the first part where it holds, and else the second, which in a While is empty and stands at its end
 abbrev pub way-from : List ℕ → ℕ → Bool → Compared → Way
 way-from bs at chooses x =
-    let second = second-at bs at (x .next) in
-    let end = end-at bs at chooses (x .next) in
+    let second = x .next + number-at 4 bs (at + 1) in
+    let end = cond chooses (second + number-at 4 bs (at + 5)) second in
     cond (eqb (x .how) 1) (record { part = x .next; behind = second; end = end }) (record { part = second; behind = end; end = end })
-
--- an exit from s and k to t and l is that of the code that stands at a place, whichever it is
-abbrev pub Runs : Env → Option ℕ → List ℕ → ℕ → ℕ → Config → Counted → Exit → Config → Counted → Type 0
-Runs env limit bs at fuel s k r t l = (c : Code) (e : ℕ) → Spells c bs at e → Reached (run-code env limit c fuel s k) e r t l
-
--- an exit from s and k to t and l is that of the list of codes between two places, whichever it is
-abbrev pub RunsAll : Env → Option ℕ → List ℕ → ℕ → ℕ → ℕ → Config → Counted → Exit → Config → Counted → Type 0
-RunsAll env limit bs from e fuel s k r t l = (cs : Codes) → SpellsAll cs bs from e → Reached (run-codes env limit cs fuel s k) e r t l
 
 -- ---- the cycle, of what it is lent
 -- a lent value, as it is given and as it is left

@@ -1,6 +1,6 @@
 // The evaluator's cycle: a list of codes runs its instructions, enters its Blocks, and calls `eval_code` for an IfElse or a
 // While, whose parts are lists again. The codes of a list and the rounds of a While are loops, so that native depth is the
-// nesting of the code.
+// nesting of IfElses and Whiles.
 ghost use mathlib.Core.Path.{_≡_};
 ghost use mathlib.Core.Bool.{false};
 ghost use Prim.Native.Nat.{_+_, _^_, _≤_, _<_};
@@ -13,7 +13,7 @@ use crate::step::step_comparison;
 use crate::step::step_instruction;
 use code::number4;
 
-// Where the codes of a part begin, so that a part that is a Block costs no turn of the cycle.
+// Where the codes of a part begin. Its list would enter a Block too, a turn of the loop later.
 fn first_code(code: &[u8], part: usize) -> usize
     requires { ⌜ CodeAt (now code) part ⌝ }
     ensures { λ r. ⌜ r ≡ codes-from (now (code .entry)) part ⌝ }
@@ -30,7 +30,7 @@ fn test_at(at: usize, chooses: bool) -> usize
 }
 
 // Where an IfElse or a While goes on behind its comparison: where the part begins that is run next, where that ends, and where
-// the whole ends. A While has no second part: there, that begins at the end.
+// the whole ends. The second part of a While is empty, and stands at its end.
 pub struct Way {
     pub part: usize,
     pub behind: usize,
@@ -63,7 +63,7 @@ fn way_from(code: &[u8], at: usize, chooses: bool, compared: Compared) -> Way
     }
 }
 
-// A body and the rounds behind it get one less; the part of an IfElse gets all of it.
+// The fuel of the part that is run next. A body gets one less, as do the rounds behind it; a part of an IfElse gets all.
 fn part_fuel(chooses: bool, left: u32) -> u32
     requires { ⌜ (chooses ≡ false → left ≡ 0 → ⊥) ⌝ }
     ensures { λ r. ⌜ r ≡ part-fuel chooses left ⌝ }
@@ -142,8 +142,8 @@ pub fn eval_codes(
     }
 }
 
-// An IfElse, which chooses between two parts and has one round, or a While, which has rounds while its comparison holds. They
-// share the call that compares and the one that runs a part: what is called in one place is inlined there.
+// An IfElse, which chooses between two parts and has one round, or a While, which has rounds while there is fuel and its
+// comparison holds. As one function they call `step_comparison` in one place, where it is inlined.
 fn eval_code(
     code: &[u8],
     at: usize,
@@ -176,19 +176,18 @@ fn eval_code(
         }
         *flags = fill;
         let way = way_from(code, at, chooses, compared);
-        let end = way.end;
         if compared.how == 0 && !chooses {
             return Exit {
                 number: 0,
-                place: end,
+                place: way.end,
             };
         }
-        let less = part_fuel(chooses, left);
+        let given = part_fuel(chooses, left);
         let ran = eval_codes(
             code,
             first_code(code, way.part),
             way.behind,
-            less,
+            given,
             fill,
             regs,
             xmms,
@@ -209,11 +208,12 @@ fn eval_code(
         if chooses {
             return Exit {
                 number: 0,
-                place: end,
+                place: way.end,
             };
         }
-        left = less;
+        left = given;
     }
+    // A While without fuel: an IfElse has returned.
     Exit {
         number: 1,
         place: at,

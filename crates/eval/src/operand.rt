@@ -108,6 +108,7 @@ pub fn load(
             }
         }
         Form::Memory => {
+            // Lent anew: see `cell_at`.
             let code: &[u8] = code;
             let addresses: &[u64] = addresses;
             let tags: &[u8] = tags;
@@ -175,6 +176,7 @@ pub fn resolve(
             }
         }
         Form::Memory => {
+            // Lent anew: see `cell_at`.
             let code: &[u8] = code;
             let addresses: &[u64] = addresses;
             let tags: &[u8] = tags;

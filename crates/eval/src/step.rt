@@ -57,8 +57,8 @@ pub fn step_instruction(
     ran
 }
 
-// The comparison of an IfElse or a While. It is lent what it reads: to set flags to the fill word, where it completes, is left
-// to the caller.
+// The comparison of an IfElse or a While. It changes the count alone: where it completes, its caller sets flags to the fill
+// word.
 pub fn step_comparison(
     code: &[u8],
     at: usize,

@@ -13,9 +13,9 @@ use mathlib.Core.Path.{_≡_, _∙_}
 use mathlib.Core.Bool.{false}
 use lib.Dec.{eqb}
 use Rattle.code.specs.Records.{byte-at}
-use Rattle.eval.specs.Promises.{environment, held, tally}
+use Rattle.eval.specs.Promises.{environment, held, tally, DecidesAt}
 use Rattle.eval.proofs.CycleLaws.{starts, ins-ran, Going, going-starts, block-goes, codes-go, codes-stop, codes-done}
-use Rattle.eval.proofs.Asked.{next-code, next-ins, next-tested, next-less, rest-less, rest-less-ins, block-fits, block-less, test-fits, Testing, testing-starts, test-stands, some-fuel, goes-round, turn-is-stopped, behind-test, turns-over, turns-spent, Turn, turn-code, Taken, taken-codes, taken-cells, taken-less, taken-falls, taken-stops, taken-done, taken-goes}
+use Rattle.eval.proofs.Asked.{behind-fits, next-code, next-ins, next-less, rest-less, rest-less-ins, block-less, past-block, test-fits, Testing, testing-starts, test-stands, some-fuel, goes-round, turn-stopped, behind-test, turns-over, turns-spent, Turn, turn-code, Taken, taken-codes, taken-cells, taken-less, taken-falls, taken-stops, taken-done, taken-goes}
 use Rattle.eval.proofs.cycle.eval_code.Reads as eval-code
 use Rattle.eval.proofs.cycle.eval_code.Kinds as eval-code-kinds
 use Rattle.eval.proofs.cycle.+eval_code+eval_codes.Lts-eval_code as eval-code-lts
@@ -72,8 +72,8 @@ codes-meets t =
     (λ c κs. (search next-ins, search))
     (λ c. search) (λ c. search (codes-stop, ins-ran))
     (λ c. search rest-less-ins) (λ c. search (codes-go, ins-ran))
-    (λ c. search block-fits) (λ c. search block-less) (λ c. search block-goes)
-    (λ c κs. (search next-less, (search next-code, (search next-tested, search))))
+    (λ c. search (behind-fits, next-code)) (λ c. search block-less) (λ c. search block-goes)
+    (λ c κs. (search next-less, (search next-code, (search past-block, search))))
     (λ c. search) (λ c. search codes-stop)
     (λ c. search rest-less) (λ c. search codes-go)
     (λ c. search) (λ c. search codes-done)
@@ -109,6 +109,19 @@ fuelled :
     eqb (byte-at (a .code .now) (a .at)) 0x21 ≡ false → c .before .loop .left ≡ 0 → ⊥
 fuelled t c = some-fuel _ _ (⊎-elim (λ h. inl (h .taken)) (λ h. inr (h .0 .left, h .1 .taken)) (c .if1 .came))
 
+-- what the comparison has answered
+compared :
+    (t : ℕ) (c : eval-code-lts.After-step-comparison (code-claims t) (at one of-code eval-code.Pre t) eval-code.Post Inv-code μ-code) →
+    let head = c .before .before .before .before .before in
+    let a = head .before .before .before .before .before .before .before .args in
+    let x = c .step-comparison in
+    let l = head .loop in
+    DecidesAt (environment (a .addresses .now) (a .tags .now) (a .fill)) (some (a .limit)) (a .code .now) (head .before .test-at .result)
+    (held (l .regs) (l .xmms) (l .flags) (l .values)) (tally (l .counted)) (x .result) (tally (x .last .1 .1 .1 .1 .1 .1 .0))
+compared t c =
+    let head = c .before .before .before .before .before in
+    c .step-comparison .ensures (head .before .before .before .before .before .before .before .args .fill) (head .loop .flags) (head .loop .xmms)
+
 -- the round that the comparison began
 turn :
     (t : ℕ) (c : eval-code-lts.Joined4 (code-claims t) (at one of-code eval-code.Pre t) eval-code.Post Inv-code μ-code) →
@@ -125,11 +138,10 @@ turn t c =
     let answer = c .before .before .before .before .before in
     let head = answer .before .before .before .before .before in
     let start = head .before .before .before .before .before .before .before in
-    let x = answer .step-comparison in
     record {
       head = head .loop .inv;
       some-fuel = fuelled t (answer .before .before .before .before);
-      compared = x .ensures (start .args .fill) (head .loop .flags) (head .loop .xmms);
+      compared = compared t answer;
       read = c .before .before .before .if3 .left;
       holds = goes-round _ _ (⊎-elim (λ h. inl (h .0 .taken, h .1 .left)) (λ h. inr (h .left)) (c .if4 .came));
       way-is = c .before .before .way-from .ensures;
@@ -159,13 +171,19 @@ code-meets t =
     (λ c. search starts) (λ c κs. search test-fits)
     (λ c. search testing-starts)
     (λ c κs. (search test-stands, search))
-    (λ c. search) (λ c. let f = fuelled t (c .before .before .before .before .before .before) in search turn-is-stopped)
-    (λ c κs.
-    let head = c .before .before .before .before .before .before .before in
-    let fill = head .before .before .before .before .before .before .before .args .fill in
-    let compared = c .before .before .step-comparison .ensures fill (head .loop .flags) (head .loop .xmms) in
-    (head .loop .inv .tested, behind-test _ _ _ _ _ _ _ _ _ _ _ _ _ _ (head .loop .inv) compared (c .if3 .left)))
-    (λ c. search) (λ c. let f = fuelled t (c .before .before .before .before .before .before .before .before .before .before) in search turns-over)
+    (λ c. search)
+    (λ c. let answer = compared t (c .before .before) in let f = fuelled t (c .before .before .before .before .before .before) in search turn-stopped)
+    (λ c κs. let head = c .before .before .before .before .before .before .before .loop .inv in (
+      head .tested,
+      behind-test _ _ _ _ _ _ _ _ _ _ _ _ _ _ head (compared t (c .before .before)) (c .if3 .left),
+    ))
+    (λ c. search)
+    (λ c.
+    let way = c .before .before .before in
+    let answer = way .before .before .before in
+    let head = answer .before .before .before .before .before in
+    turns-over _ _ _ _ _ _ _ _ _ _ _ _ _ _ (head .loop .inv) (fuelled t (answer .before .before .before .before)) (compared t answer) _
+    (way .way-from .ensures) (c .before .if4 .taken) (c .if5 .taken))
     (λ c κs. turn t c .some-fuel)
     (λ c κs. let w = turn t (c .before) in search turn-code)
     (λ c κs. let w = taken t (c .before .before .before .before .before) in (search taken-less, (search taken-codes, search taken-cells)))

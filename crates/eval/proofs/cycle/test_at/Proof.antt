@@ -1,4 +1,4 @@
--- `eval::cycle::test_at` meets its contract. Assumes nothing.
+-- `eval::cycle::test_at` meets its contract: neither sum reaches 2^64. Assumes nothing.
 use native.Mathlib.Omega.{arith}
 use Rattle.eval.proofs.cycle.test_at.Statement.{statement}
 use Rattle.eval.proofs.cycle.test_at.Tie as tie
