@@ -3,9 +3,9 @@
 use Prim.Native.Nat.{ℕ, zero, suc, _+_, _/_, _^_, _≤_, _<_}
 use mathlib.Core.Path.{_≡_, refl, sym, _∙_}
 use mathlib.Core.Bool.{Bool, true, false, cond}
-use mathlib.Core.List.{List, [], _∷_, _++_}
+use mathlib.Core.List.{List, [], _∷_}
 use mathlib.Core.Option.{some}
-use native.Mathlib.Nat.{le-of-suc-le-suc, not-suc-le-zero, add-zero, add-suc, suc-add}
+use native.Mathlib.Nat.{le-of-suc-le-suc, not-suc-le-zero}
 use native.Mathlib.Omega.{arith}
 use borrow.Author.Tests.{ltb-true, ltb-false, eqb-true, eqb-false}
 use lib.Dec.{eqb, ltb}
@@ -13,6 +13,7 @@ use lib.IntN.{ℤ}
 use lib.ListN.{length, getD, set, length-set}
 use lib.Seq.{getD-set-same, getD-set-other}
 use Rattle.machine.specs.Cells.{Verdict, accepted, refused, is-tag, cell-rule, check-from, check-cells, SameLengths, Ascending, Searchable, Ordered, find-cell}
+use Rattle.machine.specs.Continuing.{Not}
 use Rattle.machine.proofs.CellLaws.{by-tag, GoodCell, good-of, rule-of-good, check-on, check-stop, tags-differ, values-differ, too-many, check-all}
 use Rattle.machine.proofs.FindLaws.{find-hit}
 
@@ -30,11 +31,14 @@ pub record Accepted (xs ts vs : List ℕ) : Type 0 where
   pub tagged : (i : ℕ) → i < length ts → is-tag (getD ts i 0) ≡ true
   pub fitting : (i : ℕ) → i < length vs → getD vs i 0 < 2 ^ getD ts i 0
 
-same-tail : (a t v : ℕ) (xs ts vs : List ℕ) → SameLengths (a ∷ xs) (t ∷ ts) (v ∷ vs) → SameLengths xs ts vs
+pub same-tail : (a t v : ℕ) (xs ts vs : List ℕ) → SameLengths (a ∷ xs) (t ∷ ts) (v ∷ vs) → SameLengths xs ts vs
 same-tail a t v xs ts vs s = record { tags = omega (arith, s .tags); values = omega (arith, s .values) }
 
 not-accepted : (n i : ℕ) → refused n i ≡ accepted → ⊥
 not-accepted n i e = let z : _≡_ {A = ℕ} 0 1 = cc in omega arith
+
+not-refused : (n : ℕ) (v : Verdict) → v ≡ accepted → Not n v
+not-refused n v e i r = not-accepted n i (sym r ∙ e)
 
 follow-cons : (last a t v : ℕ) (xs ts vs : List ℕ) → GoodCell last a t v → Follow (a + t / 8) xs ts vs → Follow last (a ∷ xs) (t ∷ ts) (v ∷ vs)
 follow-cons last a t v xs ts vs g f = record { ordered = (g .from, f .ordered); tagged = tagged; fitting = fitting }
@@ -90,29 +94,28 @@ follow-ok i last (a ∷ xs) (t ∷ ts) (v ∷ vs) f =
     ∙ follow-ok (suc i) (a + t / 8) xs ts vs
     (record { ordered = f .ordered .1; tagged = λ k h. f .tagged (suc k) (omega arith); fitting = λ k h. f .fitting (suc k) (omega arith) })
 
--- the three first tests
-lengths-of : (xs ts vs : List ℕ) → check-cells xs ts vs ≡ accepted → SameLengths xs ts vs
-lengths-of xs ts vs e = go (eqb (length ts) (length xs)) refl (eqb (length vs) (length xs)) refl
+-- what follows from no 11, and from no 12
+pub lengths-of : (xs ts vs : List ℕ) → Not 11 (check-cells xs ts vs) → SameLengths xs ts vs
+lengths-of xs ts vs n = go (eqb (length ts) (length xs)) refl (eqb (length vs) (length xs)) refl
   where
     go : (b : Bool) → eqb (length ts) (length xs) ≡ b → (c : Bool) → eqb (length vs) (length xs) ≡ c → SameLengths xs ts vs
     go true p true q = record { tags = eqb-true (length ts) (length xs) p; values = eqb-true (length vs) (length xs) q }
-    go false p c q = absurd (not-accepted 11 0 (tags-differ xs ts vs (eqb-false (length ts) (length xs) p) ∙ e))
+    go false p c q = absurd (n 0 (sym (tags-differ xs ts vs (eqb-false (length ts) (length xs) p))))
     go true p false q =
-        absurd
-        (not-accepted 11 0 (values-differ xs ts vs (eqb-true (length ts) (length xs) p) (eqb-false (length vs) (length xs) q) ∙ e))
+        absurd (n 0 (sym (values-differ xs ts vs (eqb-true (length ts) (length xs) p) (eqb-false (length vs) (length xs) q))))
 
-few-of : (xs ts vs : List ℕ) → SameLengths xs ts vs → check-cells xs ts vs ≡ accepted → length xs ≤ 1024
-few-of xs ts vs s e = go (ltb 1024 (length xs)) refl
+pub few-of : (xs ts vs : List ℕ) → SameLengths xs ts vs → Not 12 (check-cells xs ts vs) → length xs ≤ 1024
+few-of xs ts vs s n = go (ltb 1024 (length xs)) refl
   where
     go : (b : Bool) → ltb 1024 (length xs) ≡ b → length xs ≤ 1024
-    go true p = absurd (not-accepted 12 0 (too-many xs ts vs s (ltb-true 1024 (length xs) p) ∙ e))
+    go true p = absurd (n 0 (sym (too-many xs ts vs s (ltb-true 1024 (length xs) p))))
     go false p = ltb-false 1024 (length xs) p
 
 -- ---- accepted cells are these, and these are accepted
 pub accepted-of : (xs ts vs : List ℕ) → check-cells xs ts vs ≡ accepted → Accepted xs ts vs
 accepted-of xs ts vs e =
-    let s = lengths-of xs ts vs e in
-    let l = few-of xs ts vs s e in
+    let s = lengths-of xs ts vs (not-refused 11 _ e) in
+    let l = few-of xs ts vs s (not-refused 12 _ e) in
     let f = follow-of 0 0 xs ts vs s (omega arith) (sym (check-all xs ts vs s l) ∙ e) in
     record { same = s; few = l; ordered = f .ordered; tagged = f .tagged; fitting = f .fitting }
 
@@ -120,38 +123,6 @@ pub of-accepted : (xs ts vs : List ℕ) → Accepted xs ts vs → check-cells xs
 of-accepted xs ts vs a =
     check-all xs ts vs (a .same) (a .few)
     ∙ follow-ok 0 0 xs ts vs (record { ordered = a .ordered; tagged = a .tagged; fitting = a .fitting })
-
--- ---- a front part and the rest (request 2026-05)
--- the end that checking leaves
-pub end-from : ℕ → List ℕ → List ℕ → ℕ
-end-from last [] ts = last
-end-from last (a ∷ xs) [] = last
-end-from last (a ∷ xs) (t ∷ ts) = end-from (a + t / 8) xs ts
-
--- the first verdict that refuses
-pub and-then : Verdict → Verdict → Verdict
-and-then accepted v = v
-and-then (refused n i) v = refused n i
-
-pub check-split : (i last : ℕ) (xs ts vs ys us ws : List ℕ) → SameLengths xs ts vs
-    → check-from i last (xs ++ ys) (ts ++ us) (vs ++ ws) ≡ and-then (check-from i last xs ts vs) (check-from (i + length xs) (end-from last xs ts) ys us ws)
-unfolding check-from end-from and-then
-check-split i last [] [] [] ys us ws s = rw add-zero
-check-split i last [] (t ∷ ts) vs ys us ws s = absurd (omega (arith, s .tags))
-check-split i last [] [] (v ∷ vs) ys us ws s = absurd (omega (arith, s .values))
-check-split i last (a ∷ xs) [] vs ys us ws s = absurd (omega (arith, s .tags))
-check-split i last (a ∷ xs) (t ∷ ts) [] ys us ws s = absurd (omega (arith, s .values))
-check-split i last (a ∷ xs) (t ∷ ts) (v ∷ vs) ys us ws s =
-    go (eqb (cell-rule last a t v) 0) (check-split (suc i) (a + t / 8) xs ts vs ys us ws (same-tail a t v xs ts vs s))
-  where
-    go : (b : Bool)
-        → check-from (suc i) (a + t / 8) (xs ++ ys) (ts ++ us) (vs ++ ws)
-        ≡ and-then (check-from (suc i) (a + t / 8) xs ts vs) (check-from (suc i + length xs) (end-from (a + t / 8) xs ts) ys us ws)
-        → cond b (check-from (suc i) (a + t / 8) (xs ++ ys) (ts ++ us) (vs ++ ws)) (refused (cell-rule last a t v) i)
-        ≡ and-then (cond b (check-from (suc i) (a + t / 8) xs ts vs) (refused (cell-rule last a t v) i))
-        (check-from (i + suc (length xs)) (end-from (a + t / 8) xs ts) ys us ws)
-    go true e = rw add-suc (rw suc-add at e)
-    go false e = refl
 
 -- ---- where accepted cells lie
 tag-bytes : (t : ℕ) → is-tag t ≡ true → 1 ≤ t / 8

@@ -10,7 +10,7 @@ use borrow.Author.Tests.{ltb-false, leb-false, lt-ltb, le-ltb, le-leb, lt-leb, e
 use lib.Dec.{eqb, ltb, leb}
 use lib.ListN.{length, getD, drop, drop-of-length-le}
 use lib.Seq.{drop-cons}
-use Rattle.machine.specs.Cells.{accepted, refused, is-tag, cell-rule, check-from, check-cells, SameLengths}
+use Rattle.machine.specs.Cells.{Verdict, accepted, refused, is-tag, cell-rule, check-from, check-cells, SameLengths}
 
 -- ---- tags
 -- what holds of the four tags holds of a tag
@@ -148,3 +148,7 @@ module _ (xs ts vs : List ℕ) where
   pub check-all : SameLengths xs ts vs → length xs ≤ 1024 → check-cells xs ts vs ≡ check-from 0 0 xs ts vs
   unfolding check-cells
   check-all s h = rw (eq-eqb (length xs) (length ts) (sym (s .tags)), eq-eqb (length xs) (length vs) (sym (s .values)), le-ltb 1024 (length xs) h)
+
+  -- what the code answers, whose end at first is a number of two words
+  pub from-first : (v : Verdict) (n : ℕ) → v ≡ check-from 0 n xs ts vs → n ≡ 0 → SameLengths xs ts vs → length xs ≤ 1024 → v ≡ check-cells xs ts vs
+  from-first v n a e s h = a ∙ rw e (sym (check-all s h))

@@ -4,6 +4,7 @@ pub mod CellLaws
 pub mod FindLaws
 pub mod OperandLaws
 pub mod Accepting
+pub mod Continuing
 pub mod MemoryLaws
 pub mod SpellLaws
 pub mod ByteLaws

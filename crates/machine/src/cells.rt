@@ -15,7 +15,7 @@ ghost use mathlib.Core.Path.{_≡_};
 ghost use mathlib.Core.Bool.{cond};
 ghost use Prim.Native.Nat.{ℕ, _+_, _-_, _/_, _^_, _<_};
 ghost use lib.IntN.{pos};
-ghost use lib.ListN.{length, getD};
+ghost use lib.ListN.{length, getD, drop};
 ghost use Rattle.machine.specs.Operands.{NamesRegisters, eval-maddr};
 ghost use Rattle.machine.specs.Wide.{number};
 ghost use Rattle.machine.specs.Cells.{verdict, check-cells, check-from, cell-rule, is-tag, SameLengths, Ascending, Part, Searchable, index-of, find-cell, leads, led-to};
@@ -61,13 +61,19 @@ fn broken_rule(last: Wide, address: u64, tag: u8, value: u64) -> u8
     0
 }
 
-// The end of the cell before is a running value, 0 at first.
-fn check_each(addresses: &[u64], tags: &[u8], values: &[u64]) -> Checked
+// The cells from the index `from` on, where the cell before ends at `last`: from there on that end is a running value.
+pub fn check_from(
+    addresses: &[u64],
+    tags: &[u8],
+    values: &[u64],
+    from: usize,
+    last: Wide,
+) -> Checked
     requires { ⌜ SameLengths (now addresses) (now tags) (now values) ⌝ }
-    ensures { λ r. ⌜ verdict r ≡ check-from 0 0 (now (addresses .entry)) (now (tags .entry)) (now (values .entry)) ⌝ }
+    ensures { λ r. ⌜ verdict r ≡ check-from from (number last) (drop from (now (addresses .entry))) (drop from (now (tags .entry))) (drop from (now (values .entry))) ⌝ }
 {
-    let mut last = of_word(0);
-    let mut i = 0;
+    let mut last = last;
+    let mut i = from;
     while i < addresses.len() {
         let address = addresses[i];
         let tag = tags[i];
@@ -94,7 +100,7 @@ pub fn check_cells(addresses: &[u64], tags: &[u8], values: &[u64]) -> Checked
     if 1024 < addresses.len() {
         return Checked::Refused(12, 0);
     }
-    check_each(addresses, tags, values)
+    check_from(addresses, tags, values, 0, of_word(0))
 }
 
 // The one index where an address can stand, before `above`: halves the part that is left, one comparison each. Both ends move,

@@ -12,8 +12,10 @@ pub use addressing::operand_address;
 pub use addressing::register_address;
 pub use cells::cell_of;
 pub use cells::check_cells;
+pub use cells::check_from;
 pub use cells::find_cell;
 pub use reg::Reg;
+pub use wide::Wide;
 pub use xmm::set_xmm;
 pub use xmm::xmm_at;
 
