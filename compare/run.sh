@@ -3,7 +3,7 @@
 #
 #     compare/run.sh [N [SEED]]     first systematic jobs under step limits, then N jobs (100,000) from
 #                                   SEED (a new one), then lists of builder calls, a tenth as many but
-#                                   at least 1,000
+#                                   at least 1,000, then as many lists of cells and their splits
 set -eu
 cd "$(dirname "$0")/.."
 rt staticlib capi
@@ -15,4 +15,5 @@ seed="${2:-new}"
 target/compare/release/compare batch "$jobs" "$seed" c
 lists=$((jobs / 10))
 [ "$lists" -ge 1000 ] || lists=1000
-exec target/compare/release/compare builds "$lists" "$seed"
+target/compare/release/compare builds "$lists" "$seed"
+exec target/compare/release/compare cells "$lists" "$seed"

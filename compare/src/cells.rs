@@ -4,6 +4,9 @@ use crate::reader::Trouble;
 
 pub const MOST: usize = 1_024;
 
+/// The first number that is no address. A cell may end here.
+pub const TOP: u128 = 1 << 64;
+
 #[derive(Clone, Copy, Debug, PartialEq, Eq)]
 pub struct Cell {
     pub address: u64,
@@ -18,18 +21,22 @@ impl Cell {
     }
 }
 
+/// The cells that three lists of one length tell of.
+pub fn cells_of(addresses: &[u64], tags: &[u8], values: &[u64]) -> Vec<Cell> {
+    let cell = |i: usize| Cell {
+        address: addresses[i],
+        tag: tags[i],
+        value: values[i],
+    };
+    (0..tags.len()).map(cell).collect()
+}
+
 /// The three lists as they are lent: addresses, tags, values.
 pub fn check_lists(addresses: &[u64], tags: &[u8], values: &[u64]) -> Result<Vec<Cell>, Trouble> {
     if addresses.len() != tags.len() || tags.len() != values.len() {
         return Err(refusal(11, 0));
     }
-    let cells: Vec<Cell> = (0..tags.len())
-        .map(|i| Cell {
-            address: addresses[i],
-            tag: tags[i],
-            value: values[i],
-        })
-        .collect();
+    let cells = cells_of(addresses, tags, values);
     check(&cells)?;
     Ok(cells)
 }
@@ -38,13 +45,24 @@ pub fn check(cells: &[Cell]) -> Result<(), Trouble> {
     if cells.len() > MOST {
         return Err(refusal(12, 0));
     }
-    for (i, cell) in cells.iter().enumerate() {
-        let previous = if i == 0 { None } else { Some(&cells[i - 1]) };
-        if let Some(number) = broken_rule(cell, previous) {
-            return Err(refusal(number, i));
+    check_rest(cells, 0, 0)
+}
+
+/// Checks the cells behind a front, of which only its count and the end it
+/// left are known: the first of the rest has the index `first`.
+pub fn check_rest(rest: &[Cell], first: usize, mut end: u128) -> Result<(), Trouble> {
+    for (i, cell) in rest.iter().enumerate() {
+        if let Some(number) = broken_rule(cell, end) {
+            return Err(refusal(number, first + i));
         }
+        end = cell.end();
     }
     Ok(())
+}
+
+/// The end that accepted cells leave: 0 where there are none, at most 2^64.
+pub fn end_left(cells: &[Cell]) -> u128 {
+    cells.last().map_or(0, Cell::end)
 }
 
 fn refusal(number: u8, index: usize) -> Trouble {
@@ -54,52 +72,20 @@ fn refusal(number: u8, index: usize) -> Trouble {
     }
 }
 
-fn broken_rule(cell: &Cell, previous: Option<&Cell>) -> Option<u8> {
+/// `end` is the end of the cell before, 0 where there is none.
+fn broken_rule(cell: &Cell, end: u128) -> Option<u8> {
     if ![8, 16, 32, 64].contains(&cell.tag) {
         return Some(13);
     }
     if u128::from(cell.value) >= 1u128 << cell.tag {
         return Some(14);
     }
-    let overlaps = previous.is_some_and(|p| u128::from(cell.address) < p.end());
-    if overlaps || cell.end() > 1u128 << 64 {
+    if u128::from(cell.address) < end || cell.end() > TOP {
         return Some(15);
     }
     None
 }
 
 #[cfg(test)]
-mod tests {
-    use super::*;
-
-    fn index_of(list: &[(u64, u8, u64)]) -> Option<(u8, usize)> {
-        let addresses: Vec<u64> = list.iter().map(|c| c.0).collect();
-        let tags: Vec<u8> = list.iter().map(|c| c.1).collect();
-        let values: Vec<u64> = list.iter().map(|c| c.2).collect();
-        let answer = check_lists(&addresses, &tags, &values);
-        answer.err().map(|t| (t.number, t.place))
-    }
-
-    #[test]
-    fn rules_in_their_order() {
-        assert_eq!(index_of(&[]), None);
-        assert_eq!(index_of(&[(0, 7, 1 << 63)]), Some((13, 0)));
-        assert_eq!(index_of(&[(0, 8, 255)]), None);
-        assert_eq!(index_of(&[(0, 8, 256)]), Some((14, 0)));
-        assert_eq!(index_of(&[(4, 8, 0), (4, 16, 65_536)]), Some((14, 1)));
-        assert_eq!(index_of(&[(4, 8, 0), (4, 16, 65_535)]), Some((15, 1)));
-        assert_eq!(index_of(&[(4, 8, 0), (5, 16, 65_535)]), None);
-        assert_eq!(index_of(&[(u64::MAX, 8, 0)]), None);
-        assert_eq!(index_of(&[(u64::MAX, 16, 0)]), Some((15, 0)));
-    }
-
-    #[test]
-    fn lists_of_different_length_and_too_many() {
-        let refused = |n, m, k| check_lists(&vec![0; n], &vec![8; m], &vec![0; k]).unwrap_err();
-        assert_eq!(refused(1, 2, 2), refusal(11, 0));
-        assert_eq!(refused(2, 2, 1), refusal(11, 0));
-        assert_eq!(refused(1_025, 1_025, 1_024), refusal(11, 0));
-        assert_eq!(refused(1_025, 1_025, 1_025), refusal(12, 0));
-        assert_eq!(refused(1_024, 1_024, 1_024), refusal(15, 1));
-    }
-}
+#[path = "cells_tests.rs"]
+mod tests;

@@ -1,5 +1,5 @@
 //! An evaluator and a builder written apart from the port, from document 01,
-//! requests 2026-01 to 2026-04 and the F* text alone, and their comparison
+//! requests 2026-01 to 2026-05 and the F* text alone, and their comparison
 //! with it.
 
 // Calls of the linked port are the only ones that Rust cannot check.
@@ -12,7 +12,9 @@ mod bound;
 mod build;
 mod builder;
 mod bytes;
+mod cell_lists;
 mod cells;
+mod checkers;
 mod checks;
 #[cfg(test)]
 mod count_table;
@@ -36,6 +38,8 @@ mod scene;
 mod selfcheck;
 mod settle;
 mod source;
+mod split_tally;
+mod splits;
 mod state;
 mod store;
 mod sweep;
@@ -64,9 +68,11 @@ compare check FILE PROGRAM       run a stored set through a program
 compare make SEED INDEX JOBFILE  write one generated job
 compare builds N SEED [BUILDER]  compare N generated lists of builder calls
 compare store-builds DIR         write stored lists to DIR/systematic and random
+compare cells N SEED [CHECKER]   compare N generated lists of cells, and their splits
 PROGRAM is a path with arguments, or `self` for this evaluator, or (built
 with the feature c_target) `c` for the port linked in; for `limited` only
-these two. BUILDER is `c`, or `self` for the rule over a build's fields.";
+these two. BUILDER is `c`, or `self` for the rule over a build's fields;
+CHECKER is `c`, or `self` for one that looks back at the cell before.";
 
 fn main() -> ExitCode {
     let words: Vec<String> = std::env::args().skip(1).collect();
@@ -107,6 +113,8 @@ fn command(words: &[String]) -> Result<(), String> {
             write_builds(dir, "systematic", builder::systematic()?)?;
             write_builds(dir, "random", builder::random())
         }
+        ["cells", n, seed] => run_cells(n, seed, "c"),
+        ["cells", n, seed, checker] => run_cells(n, seed, checker),
         _ => Err(USAGE.to_string()),
     }
 }
@@ -171,6 +179,17 @@ fn run_builds(n: &str, seed: &str, name: &str) -> Result<(), String> {
     let mut builder = builder::builder_of(name)?;
     println!("{lists} call lists, seed {seed}");
     let tally = builder::compare(lists, seed, builder.as_mut());
+    print!("{}", tally.report());
+    tally.verdict()?;
+    println!("no difference, seed {seed}");
+    Ok(())
+}
+
+fn run_cells(n: &str, seed: &str, name: &str) -> Result<(), String> {
+    let (lists, seed) = (number(n)?, seed_of(seed)?);
+    let checker = checkers::checker_of(name)?;
+    println!("{lists} lists of cells, seed {seed}");
+    let tally = splits::compare(lists, seed, checker)?;
     print!("{}", tally.report());
     tally.verdict()?;
     println!("no difference, seed {seed}");

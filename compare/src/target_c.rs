@@ -5,6 +5,7 @@
 use crate::answer::{Answer, Outcome};
 use crate::cells::Cell;
 use crate::job::Job;
+use crate::reader::Trouble;
 use crate::state::Start;
 use crate::target::Target;
 use pokchrei::{Cells, Setting, State, JOB_ROOM};
@@ -45,6 +46,15 @@ impl Target for Linked {
         let after = (start_of(&state), with_values(&job.cells, &values));
         Some(outcome(job, answer_of(&end.answer), end.steps, after))
     }
+}
+
+/// Its check of cells alone.
+pub fn check_cells(addresses: &[u64], tags: &[u8], values: &[u64]) -> Result<(), Trouble> {
+    let answer = pokchrei::check_cells(addresses, tags, values);
+    answer.map_err(|refusal| Trouble {
+        number: refusal.number,
+        place: refusal.place,
+    })
 }
 
 /// A refusal has no end of its own: what was lent has to be as before.
