@@ -12,7 +12,7 @@ const TOP: u64 = 18446744073709551615;
 // address, tag, value
 struct Cell(u64, u8, u64);
 
-fn is_verdict(got: Checked, expected: Checked) -> bool {
+pub fn is_verdict(got: Checked, expected: Checked) -> bool {
     match got {
         Checked::Accepted => match expected {
             Checked::Accepted => true,

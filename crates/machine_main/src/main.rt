@@ -1,8 +1,9 @@
-// Executes the boundary cases of cells, exact addresses, searches and xmms. A line that does not say "N of N" is an error.
+// Executes the boundary cases of cells, their splits, exact addresses, searches and xmms. A line that does not say "N of N" is an error.
 
 mod addresses;
 mod cells;
 mod searches;
+mod splits;
 mod tally;
 mod xmms;
 
@@ -18,6 +19,19 @@ fn check_cells() {
     tell(b"cells, 15 by the cell before", cells::follows(none_yet()));
     tell(b"cells, 15 by the end", cells::ends(none_yet()));
     tell(b"cells, order", cells::orders(none_yet()));
+}
+
+fn check_splits() {
+    tell(b"splits, accepted", splits::accepted(none_yet()));
+    tell(b"splits, 13", splits::tags(none_yet()));
+    tell(b"splits, 14", splits::values(none_yet()));
+    tell(
+        b"splits, 15 by the cell before",
+        splits::follows(none_yet()),
+    );
+    tell(b"splits, 15 by the end", splits::ends(none_yet()));
+    tell(b"splits, behind 2^64", splits::tops(none_yet()));
+    tell(b"splits, order", splits::orders(none_yet()));
 }
 
 fn check_addresses() {
@@ -43,6 +57,7 @@ fn check_searches() {
 
 fn main() {
     check_cells();
+    check_splits();
     check_addresses();
     check_searches();
     tell(b"xmms", xmms::xmms(none_yet()));
