@@ -14,13 +14,14 @@ use Rattle.code.specs.WellFormed.{WfCode, WfCodes}
 use Rattle.code.specs.Writer.{bytes-of-ocmp, bytes-of-code, bytes-of-codes, place-code, place-codes}
 use Rattle.code.proofs.Held.{length-bytes}
 use Rattle.code.proofs.Placing.{same-bytes, same-bytes-all}
+use Rattle.code.proofs.Joining.{join}
 use Rattle.builder.specs.declared.build.Build.{Build}
 use Rattle.builder.specs.Building.{build-after, buffer-after}
 use Rattle.builder.specs.Calls.{Call, open-block, open-if-else, open-while, add, close, bytes-of-call}
 use Rattle.built.specs.Sketch.{Open, block, true-part, while-part, false-part, Sketch, _▷_, calls-of-code, calls-of-codes, parts-open, code-fits, close-fits, none, some}
 use Rattle.built.specs.Claims.{after, taken}
 use Rattle.built.proofs.Parts.{size, size-open}
-use Rattle.built.proofs.Steps.{join, put, add-code, closed, next, steps, from-none, placed-size, code-added, codes-added}
+use Rattle.built.proofs.Steps.{put, add-code, closed, next, steps, from-none, placed-size, code-added, codes-added}
 use Rattle.built.proofs.Named.{WfCall}
 use Rattle.built.proofs.Fine.{fits-at, depth-at, Fine, adds, next-size}
 use Rattle.built.proofs.Calling.{either}

@@ -11,6 +11,7 @@ use Rattle.code.specs.Spells.{NestsAll}
 use Rattle.code.specs.WellFormed.{WfCodes}
 use Rattle.code.specs.Writer.{bytes-of-code, bytes-of-codes, place-code}
 use Rattle.code.proofs.Placing.{same-bytes}
+use Rattle.code.proofs.Joining.{join}
 use Rattle.code.proofs.ReadBack.{code-bytes}
 use Rattle.code.proofs.Reading.{writing}
 use Rattle.builder.specs.declared.build.Build.{Build}
@@ -19,7 +20,7 @@ use Rattle.builder.specs.Building.{empty}
 use Rattle.built.specs.Sketch.{Sketch, codes, _▷_, bytes-so-far, calls-of-code, calls-of-codes, calls-so-far, parts-open}
 use Rattle.built.specs.Claims.{AllTyped, IsFinished, end, taken-calls, front, SoFar, Finished, Builds}
 use Rattle.built.proofs.Parts.{size}
-use Rattle.built.proofs.Steps.{join, add-code, steps, code-added}
+use Rattle.built.proofs.Steps.{add-code, steps, code-added}
 use Rattle.built.proofs.Sound.{Sound, legal-none, sound-depth}
 use Rattle.built.proofs.Kept.{Tracks, code-kept, close-kept}
 use Rattle.built.proofs.Running.{Stands, Runs, runs}

@@ -8,9 +8,10 @@ use Rattle.code.specs.declared.tree.Ocmp.{Ocmp}
 use Rattle.code.specs.Tree.{Code, Block, IfElse, While, Codes, ⟨⟩, _∷ᶜ_}
 use Rattle.code.specs.Spells.{Nests, NestsAll}
 use Rattle.code.specs.WellFormed.{WfOcmp, WfCode, WfCodes}
+use Rattle.code.proofs.Joining.{join}
 use Rattle.built.specs.Sketch.{Open, block, true-part, while-part, false-part, Sketch, codes, _▷_, parts-open, none, some, code-fits, close-fits}
 use Rattle.built.proofs.Parts.{size}
-use Rattle.built.proofs.Steps.{join, put, add-code, closed}
+use Rattle.built.proofs.Steps.{put, add-code, closed}
 
 -- ---- codes in a part
 

@@ -7,14 +7,10 @@ use lib.ListN.{length, length-append}
 use Rattle.code.specs.Tree.{Code, Ins, Block, IfElse, While, Codes, ⟨⟩, _∷ᶜ_}
 use Rattle.code.specs.Writer.{bytes-of-ocmp, bytes-of-code, bytes-of-codes, place-code, place-codes}
 use Rattle.code.proofs.Placing.{same-bytes}
+use Rattle.code.proofs.Joining.{join, join-none, join-assoc, join-bytes}
 use Rattle.builder.specs.Calls.{Call, open-block, open-if-else, open-while, add, close}
 use Rattle.built.specs.Sketch.{Open, block, true-part, while-part, false-part, Sketch, codes, _▷_, bytes-of-open, bytes-so-far, calls-of-code, calls-of-codes, calls-of-open, calls-so-far}
 use Rattle.built.proofs.Parts.{inside, start, size, size-open}
-
--- codes, and then others
-unfoldable pub join : Codes → Codes → Codes
-join ⟨⟩ ds = ds
-join (c ∷ᶜ cs) ds = c ∷ᶜ join cs ds
 
 -- a code behind those of an open part
 unfoldable pub put : Open → Code → Open
@@ -58,21 +54,6 @@ steps-append [] ys s = refl
 steps-append (x ∷ xs) ys s = steps-append xs ys (next x s)
 
 -- ---- codes that are joined
-join-none : (cs : Codes) → join cs ⟨⟩ ≡ cs
-unfolding join
-join-none ⟨⟩ = refl
-join-none (c ∷ᶜ cs) = ap (_∷ᶜ_ c) (join-none cs)
-
-join-assoc : (bs cs ds : Codes) → join (join bs cs) ds ≡ join bs (join cs ds)
-unfolding join
-join-assoc ⟨⟩ cs ds = refl
-join-assoc (b ∷ᶜ bs) cs ds = ap (_∷ᶜ_ b) (join-assoc bs cs ds)
-
-join-bytes : (cs ds : Codes) → bytes-of-codes (join cs ds) ≡ bytes-of-codes cs ++ bytes-of-codes ds
-unfolding join bytes-of-codes
-join-bytes ⟨⟩ ds = refl
-join-bytes (c ∷ᶜ cs) ds = rw (join-bytes cs ds, append-assoc)
-
 join-calls : (cs ds : Codes) → calls-of-codes (join cs ds) ≡ calls-of-codes cs ++ calls-of-codes ds
 unfolding join calls-of-codes
 join-calls ⟨⟩ ds = refl

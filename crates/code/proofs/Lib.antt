@@ -17,3 +17,4 @@ pub mod CodeFrames
 pub mod Held
 pub mod ReadBack
 pub mod Placing
+pub mod Joining

@@ -15,6 +15,7 @@ use Rattle.code.specs.Tree.{Code, Codes, ⟨⟩, _∷ᶜ_}
 use Rattle.code.specs.Records.{is-ocmp, byte-at, number-at, ocmp-at}
 use Rattle.code.specs.Spells.{Stands, Spells, SpellsAll}
 use Rattle.code.proofs.Sound.{stands-past}
+use Rattle.code.proofs.Joining.{join, join-spelled}
 use Rattle.code.proofs.CodeFrames.{Frame, frame, ins-there, block-there, if-there, while-there, first-there, none-there, list-of-one, structure-long}
 use Rattle.eval.specs.Config.{Env, Config, with-flags, Outcome, done, fault, stopped, spent, refused}
 use Rattle.eval.specs.Instructions.{eval-ocmp}
@@ -141,16 +142,6 @@ module _ (bs : List ℕ) (at : ℕ) where
       go false = omega arith
 
 -- ---- the codes of a Block, and those that follow it, are codes in a row
-with-rest : Codes → Codes → Codes
-with-rest ⟨⟩ rest = rest
-with-rest (c ∷ᶜ cs) rest = c ∷ᶜ with-rest cs rest
-
-rest-spelled :
-    (cs rest : Codes) (bs : List ℕ) (at m e : ℕ) → SpellsAll cs bs at m → SpellsAll rest bs m e → SpellsAll (with-rest cs rest) bs at e
-unfolding SpellsAll with-rest
-rest-spelled ⟨⟩ rest bs at m e h k = subst (λ (x : ℕ). SpellsAll rest bs x e) (sym h) k
-rest-spelled (c ∷ᶜ cs) rest bs at m e h k = (h .0, h .1, rest-spelled cs rest bs (h .0) m e (h .2) k)
-
 -- what goes on behind what goes on
 continue-twice :
     (o : Outcome) (s : Config) (k : Counted) (f g h : Part) →
@@ -165,13 +156,13 @@ continue-twice (refused n p) s k f g h is = refl
 
 run-rest :
     (env : Env) (limit : Option ℕ) (cs rest : Codes) (fuel : ℕ) (s : Config) (k : Counted) →
-    run-codes env limit (with-rest cs rest) fuel s k ≡ and-then (run-codes env limit cs fuel s k) (run-codes env limit rest fuel)
-unfolding run-codes with-rest continue
+    run-codes env limit (join cs rest) fuel s k ≡ and-then (run-codes env limit cs fuel s k) (run-codes env limit rest fuel)
+unfolding run-codes join continue
 run-rest env limit ⟨⟩ rest fuel s k = refl
 run-rest env limit (c ∷ᶜ cs) rest fuel s k =
     let e = run-code env limit c fuel s k in
     continue-twice (e .end .how) (e .end .config) (e .counted) (run-codes env limit cs fuel) (run-codes env limit rest fuel)
-    (run-codes env limit (with-rest cs rest) fuel) (run-rest env limit cs rest fuel)
+    (run-codes env limit (join cs rest) fuel) (run-rest env limit cs rest fuel)
 
 module _ (env : Env) (limit : Option ℕ) (bs : List ℕ) (at e fuel : ℕ) (s : Config) (k : Counted) (kind : byte-at bs at ≡ 0x20) (inside : at < e) where
   entered :
@@ -181,8 +172,8 @@ module _ (env : Env) (limit : Option ℕ) (bs : List ℕ) (at e fuel : ℕ) (s :
   entered cs h =
       let f = first-there cs bs at e h inside in
       let b = block-there (f .first) bs at (f .mid) (f .spelled) kind in (
-        with-rest (b .codes) (f .rest),
-        rest-spelled (b .codes) (f .rest) bs (at + 5) (f .mid) e (b .spelled) (f .spelled-rest),
+        join (b .codes) (f .rest),
+        join-spelled (b .codes) (f .rest) bs (at + 5) (f .mid) e (b .spelled) (f .spelled-rest),
         ap (λ (x : Codes). run-codes env limit x fuel s k) (f .is)
             ∙ ap (λ (c : Code). run-codes env limit (c ∷ᶜ f .rest) fuel s k) (b .is)
             ∙ sym (run-rest env limit (b .codes) (f .rest) fuel s k),
