@@ -70,7 +70,9 @@ pub fn check_from(
     last: Wide,
 ) -> Checked
     requires { ⌜ SameLengths (now addresses) (now tags) (now values) ⌝ }
-    ensures { λ r. ⌜ verdict r ≡ check-from from (number last) (drop from (now (addresses .entry))) (drop from (now (tags .entry))) (drop from (now (values .entry))) ⌝ }
+    ensures { λ r. ⌜
+        verdict r ≡ check-from from (number last)
+        (drop from (now (addresses .entry))) (drop from (now (tags .entry))) (drop from (now (values .entry))) ⌝ }
 {
     let mut last = last;
     let mut i = from;
