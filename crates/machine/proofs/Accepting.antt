@@ -2,7 +2,7 @@
 -- says accepted exactly of these, by induction over the cells with the running end; a store of a word to a 64-bit cell keeps them so.
 use Prim.Native.Nat.{ℕ, zero, suc, _+_, _/_, _^_, _≤_, _<_}
 use mathlib.Core.Path.{_≡_, refl, sym, _∙_}
-use mathlib.Core.Bool.{Bool, true, false, cond}
+use mathlib.Core.Bool.{Bool, true, false}
 use mathlib.Core.List.{List, [], _∷_}
 use mathlib.Core.Option.{some}
 use native.Mathlib.Nat.{le-of-suc-le-suc, not-suc-le-zero}
@@ -12,8 +12,7 @@ use lib.Dec.{eqb, ltb}
 use lib.IntN.{ℤ}
 use lib.ListN.{length, getD, set, length-set}
 use lib.Seq.{getD-set-same, getD-set-other}
-use Rattle.machine.specs.Cells.{Verdict, accepted, refused, is-tag, cell-rule, check-from, check-cells, SameLengths, Ascending, Searchable, Ordered, find-cell}
-use Rattle.machine.specs.Continuing.{Not}
+use Rattle.machine.specs.Cells.{accepted, refused, is-tag, cell-rule, check-from, check-cells, SameLengths, Ascending, Searchable, Ordered, find-cell}
 use Rattle.machine.proofs.CellLaws.{by-tag, GoodCell, good-of, rule-of-good, check-on, check-stop, tags-differ, values-differ, too-many, check-all}
 use Rattle.machine.proofs.FindLaws.{find-hit}
 
@@ -36,9 +35,6 @@ same-tail a t v xs ts vs s = record { tags = omega (arith, s .tags); values = om
 
 not-accepted : (n i : ℕ) → refused n i ≡ accepted → ⊥
 not-accepted n i e = let z : _≡_ {A = ℕ} 0 1 = cc in omega arith
-
-not-refused : (n : ℕ) (v : Verdict) → v ≡ accepted → Not n v
-not-refused n v e i r = not-accepted n i (sym r ∙ e)
 
 follow-cons : (last a t v : ℕ) (xs ts vs : List ℕ) → GoodCell last a t v → Follow (a + t / 8) xs ts vs → Follow last (a ∷ xs) (t ∷ ts) (v ∷ vs)
 follow-cons last a t v xs ts vs g f = record { ordered = (g .from, f .ordered); tagged = tagged; fitting = fitting }
@@ -95,27 +91,27 @@ follow-ok i last (a ∷ xs) (t ∷ ts) (v ∷ vs) f =
     (record { ordered = f .ordered .1; tagged = λ k h. f .tagged (suc k) (omega arith); fitting = λ k h. f .fitting (suc k) (omega arith) })
 
 -- what follows from no 11, and from no 12
-pub lengths-of : (xs ts vs : List ℕ) → Not 11 (check-cells xs ts vs) → SameLengths xs ts vs
+pub lengths-of : (xs ts vs : List ℕ) → (check-cells xs ts vs ≡ refused 11 0 → ⊥) → SameLengths xs ts vs
 lengths-of xs ts vs n = go (eqb (length ts) (length xs)) refl (eqb (length vs) (length xs)) refl
   where
     go : (b : Bool) → eqb (length ts) (length xs) ≡ b → (c : Bool) → eqb (length vs) (length xs) ≡ c → SameLengths xs ts vs
     go true p true q = record { tags = eqb-true (length ts) (length xs) p; values = eqb-true (length vs) (length xs) q }
-    go false p c q = absurd (n 0 (sym (tags-differ xs ts vs (eqb-false (length ts) (length xs) p))))
+    go false p c q = absurd (n (sym (tags-differ xs ts vs (eqb-false (length ts) (length xs) p))))
     go true p false q =
-        absurd (n 0 (sym (values-differ xs ts vs (eqb-true (length ts) (length xs) p) (eqb-false (length vs) (length xs) q))))
+        absurd (n (sym (values-differ xs ts vs (eqb-true (length ts) (length xs) p) (eqb-false (length vs) (length xs) q))))
 
-pub few-of : (xs ts vs : List ℕ) → SameLengths xs ts vs → Not 12 (check-cells xs ts vs) → length xs ≤ 1024
+pub few-of : (xs ts vs : List ℕ) → SameLengths xs ts vs → (check-cells xs ts vs ≡ refused 12 0 → ⊥) → length xs ≤ 1024
 few-of xs ts vs s n = go (ltb 1024 (length xs)) refl
   where
     go : (b : Bool) → ltb 1024 (length xs) ≡ b → length xs ≤ 1024
-    go true p = absurd (n 0 (sym (too-many xs ts vs s (ltb-true 1024 (length xs) p))))
+    go true p = absurd (n (sym (too-many xs ts vs s (ltb-true 1024 (length xs) p))))
     go false p = ltb-false 1024 (length xs) p
 
 -- ---- accepted cells are these, and these are accepted
 pub accepted-of : (xs ts vs : List ℕ) → check-cells xs ts vs ≡ accepted → Accepted xs ts vs
 accepted-of xs ts vs e =
-    let s = lengths-of xs ts vs (not-refused 11 _ e) in
-    let l = few-of xs ts vs s (not-refused 12 _ e) in
+    let s = lengths-of xs ts vs (λ r. not-accepted 11 0 (sym r ∙ e)) in
+    let l = few-of xs ts vs s (λ r. not-accepted 12 0 (sym r ∙ e)) in
     let f = follow-of 0 0 xs ts vs s (omega arith) (sym (check-all xs ts vs s l) ∙ e) in
     record { same = s; few = l; ordered = f .ordered; tagged = f .tagged; fitting = f .fitting }
 

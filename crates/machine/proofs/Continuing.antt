@@ -1,6 +1,6 @@
 -- Request 2026-05: checking goes on from the end that it left. By induction over the front part: what it leaves for the rest is an index and an end,
 -- and both are parameters of `check-from`.
-use Prim.Native.Nat.{ℕ, zero, suc, _+_, _/_, _^_, _≤_, _<_, min}
+use Prim.Native.Nat.{ℕ, zero, suc, _+_, _/_, _≤_, _<_, min}
 use mathlib.Core.Path.{_≡_, refl, sym, ap, _∙_}
 use mathlib.Core.Bool.{Bool, true, false, cond}
 use mathlib.Core.List.{List, [], _∷_, _++_}
@@ -8,9 +8,9 @@ use native.Mathlib.Nat.{add-zero, zero-add, add-suc, suc-add, min-le-right}
 use native.Mathlib.Omega.{arith}
 use lib.Dec.{eqb}
 use lib.ListN.{length, take, drop, length-append, length-take}
-use lib.Seq.{take-append-seam, drop-append-seam}
-use Rattle.machine.specs.Cells.{Verdict, accepted, refused, is-tag, cell-rule, check-from, check-cells, SameLengths}
-use Rattle.machine.specs.Continuing.{end-from, end-left, and-then, Not, Continuing}
+use lib.Seq.{take-at, drop-at}
+use Rattle.machine.specs.Cells.{Verdict, accepted, refused, cell-rule, check-from, check-cells, SameLengths}
+use Rattle.machine.specs.Continuing.{end-from, end-left, and-then, Continuing}
 use Rattle.machine.proofs.CellLaws.{GoodCell, rule-of-good, check-on, check-all}
 use Rattle.machine.proofs.Accepting.{same-tail, lengths-of, few-of, accepted-of}
 
@@ -51,12 +51,12 @@ same-front k xs ts vs s = record { tags = as-many k xs ts (s .tags); values = as
 few-front : (k : ℕ) (xs : List ℕ) → length xs ≤ 1024 → length (take k xs) ≤ 1024
 few-front k xs h = rw length-take (omega (arith, min-le-right k (length xs)))
 
-goes-on : (xs ts vs : List ℕ) → SameLengths xs ts vs → length xs ≤ 1024 → (k : ℕ)
+split-all : (xs ts vs : List ℕ) → SameLengths xs ts vs → length xs ≤ 1024 → (k : ℕ)
     → and-then (check-cells (take k xs) (take k ts) (take k vs))
     (check-from k (end-left (take k xs) (take k ts)) (drop k xs) (drop k ts) (drop k vs))
     ≡ check-cells xs ts vs
 unfolding end-left
-goes-on xs ts vs s h k =
+split-all xs ts vs s h k =
     ap (λ (v : Verdict). and-then v (rest k)) (check-all (take k xs) (take k ts) (take k vs) (same-front k xs ts vs s) (few-front k xs h))
     ∙ ap (λ (n : ℕ). and-then (check-from 0 0 (take k xs) (take k ts) (take k vs)) (rest n)) (sym (zero-add k))
     ∙ split 0 0 k xs ts vs s ∙ sym (check-all xs ts vs s h)
@@ -83,33 +83,20 @@ module _ (xs ts vs : List ℕ) (a t v : ℕ) (acc : check-cells xs ts vs ≡ acc
   longer : SameLengths (xs ++ a ∷ []) (ts ++ t ∷ []) (vs ++ v ∷ [])
   longer = record { tags = as-long ts t (same .tags); values = as-long vs v (same .values) }
 
-  front : (ys : List ℕ) (b : ℕ) → length ys ≡ length xs → take (length xs) (ys ++ b ∷ []) ≡ ys
-  front ys b e = rw (sym e) (take-append-seam ys (b ∷ []))
-
-  rest : (ys : List ℕ) (b : ℕ) → length ys ≡ length xs → drop (length xs) (ys ++ b ∷ []) ≡ b ∷ []
-  rest ys b e = rw (sym e) (drop-append-seam ys (b ∷ []))
-
   one-more : GoodCell (end-left xs ts) a t v → check-cells (xs ++ a ∷ []) (ts ++ t ∷ []) (vs ++ v ∷ []) ≡ accepted
   unfolding check-from
   one-more g =
-      sym (goes-on (xs ++ a ∷ []) (ts ++ t ∷ []) (vs ++ v ∷ []) longer (rw length-append (omega arith)) (length xs))
+      sym (split-all (xs ++ a ∷ []) (ts ++ t ∷ []) (vs ++ v ∷ []) longer (rw length-append (omega arith)) (length xs))
       ∙ rw (
-        front xs a refl,
-        front ts t (same .tags),
-        front vs v (same .values),
-        rest xs a refl,
-        rest ts t (same .tags),
-        rest vs v (same .values),
+        take-at xs (a ∷ []) _ refl,
+        take-at ts (t ∷ []) _ (same .tags),
+        take-at vs (v ∷ []) _ (same .values),
+        drop-at xs (a ∷ []) _ refl,
+        drop-at ts (t ∷ []) _ (same .tags),
+        drop-at vs (v ∷ []) _ (same .values),
         acc,
       )
       (check-on (length xs) (end-left xs ts) a t v [] [] [] (rule-of-good (end-left xs ts) a t v g))
-
-to-the-end : (xs ts vs : List ℕ) (a t v : ℕ) → check-cells xs ts vs ≡ accepted → length xs < 1024
-    → is-tag t ≡ true → v < 2 ^ t → end-left xs ts ≤ a → a + t / 8 ≡ 2 ^ 64
-    → check-cells (xs ++ a ∷ []) (ts ++ t ∷ []) (vs ++ v ∷ []) ≡ accepted
-to-the-end xs ts vs a t v e h tag fits from ends =
-    one-more xs ts vs a t v e h
-    (record { tag = tag; fits = fits; from = from; within = omega (arith, ends) })
 
 -- ---- request 2026-05
 pub continuing : Continuing
@@ -118,6 +105,7 @@ continuing =
     record {
       at-first = refl;
       behind = λ xs ts a t e. end-behind 0 xs ts a t e;
-      goes-on = λ xs ts vs no-11 no-12 k. let s = lengths-of xs ts vs no-11 in goes-on xs ts vs s (few-of xs ts vs s no-12) k;
-      to-the-end = to-the-end;
+      goes-on = λ xs ts vs no-11 no-12 k. let s = lengths-of xs ts vs no-11 in split-all xs ts vs s (few-of xs ts vs s no-12) k;
+      to-the-end = λ xs ts vs a t v acc fewer tag fits from ends.
+          one-more xs ts vs a t v acc fewer (record { tag = tag; fits = fits; from = from; within = omega (arith, ends) });
     }

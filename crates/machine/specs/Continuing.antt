@@ -22,18 +22,14 @@ abbrev pub and-then : Verdict → Verdict → Verdict
 and-then accepted w = w
 and-then (refused n i) w = refused n i
 
--- a verdict with another number, or accepted
-abbrev pub Not : ℕ → Verdict → Type 0
-Not n v = (i : ℕ) → v ≡ refused n i → ⊥
-
 -- ---- the claims
 pub record Continuing : Type 0 where
   -- the end that no cells leave is 0
   pub at-first : end-left [] [] ≡ 0
   -- the end that cells leave is that of the last
   pub behind : (xs ts : List ℕ) (a t : ℕ) → length ts ≡ length xs → end-left (xs ++ a ∷ []) (ts ++ t ∷ []) ≡ a + t / 8
-  -- with no 11 or 12: the first k cells and, if they are accepted, the rest from the end they left, its indexes counted on, are answered as all cells
-  pub goes-on : (xs ts vs : List ℕ) → Not 11 (check-cells xs ts vs) → Not 12 (check-cells xs ts vs) → (k : ℕ)
+  -- cells that are not refused with 11 or 12 have the verdict of the first k and, behind accepted ones, of the others, from index k and the end left on
+  pub goes-on : (xs ts vs : List ℕ) → (check-cells xs ts vs ≡ refused 11 0 → ⊥) → (check-cells xs ts vs ≡ refused 12 0 → ⊥) → (k : ℕ)
       → and-then (check-cells (take k xs) (take k ts) (take k vs))
       (check-from k (end-left (take k xs) (take k ts)) (drop k xs) (drop k ts) (drop k vs))
       ≡ check-cells xs ts vs

@@ -22,7 +22,7 @@ struct Cells {
     high: [u64; 5],
 }
 
-// The front and, if it is accepted, the rest from the end that it left.
+// The answer of a refused front, or of the rest behind an accepted one, which ends at `left`.
 fn in_two(addresses: &[u64], tags: &[u8], values: &[u64], at: usize, left: Wide) -> Checked
     requires { ⌜ SameLengths (now addresses) (now tags) (now values) ⌝ }
     requires { ⌜ at ≤ length (now addresses) ⌝ }
