@@ -2,13 +2,14 @@
 -- Assumes nothing.
 use Prim.Native.Nat.{ℕ, zero, suc, _+_, _-_, _*_, _^_, _≤_, _<_}
 use mathlib.Core.Path.{_≡_, refl, ap, _∙_}
-use mathlib.Core.Bool.{Bool, true, false, cond}
+use mathlib.Core.Bool.{Bool, true, false}
 use mathlib.Core.List.{List, [], _∷_}
 use native.Mathlib.Omega.{arith}
 use borrow.Author.Tests.{ltb-true, ltb-false}
 use lib.Dec.{ltb}
-use lib.IntN.{pos, negsuc}
 use lib.ListN.{length, getD}
+use Rattle.words.specs.Signed.{signed-word}
+use Rattle.words.proofs.SignedLaws.{not-negative, is-negative}
 use Rattle.machine.specs.declared.Operand.{Operand}
 use Rattle.code.specs.Layout.{Byte, number, amount, numbers-from, shape}
 use Rattle.code.specs.Tree.{Code, Ins, Block, IfElse, While, Codes, ⟨⟩, _∷ᶜ_}
@@ -31,11 +32,9 @@ module _ (bs : List ℕ) (bytes : Bytes bs) where
   pub word-lt : (at : ℕ) → number-at 8 bs at < 2 ^ 64
   word-lt at = number-lt bs bytes 8 at
 
-  signed-of :
-      (n x : ℕ) (t : Bool) → ltb x (2 ^ (n - 1)) ≡ t → x < 2 ^ n → 2 ^ n ≡ 2 * 2 ^ (n - 1) →
-      Signed n (cond t (pos x) (negsuc (2 ^ n - 1 - x)))
-  signed-of n x true h l e = ltb-true _ _ h
-  signed-of n x false h l e = let m : 2 ^ (n - 1) ≤ x = ltb-false _ _ h in omega arith
+  signed-of : (n x : ℕ) (t : Bool) → ltb x (2 ^ (n - 1)) ≡ t → x < 2 ^ n → 2 ^ n ≡ 2 * 2 ^ (n - 1) → Signed n (signed-word n x)
+  signed-of n x true h l e = rw (not-negative n x (ltb-true _ _ h)) (ltb-true _ _ h)
+  signed-of n x false h l e = let m : 2 ^ (n - 1) ≤ x = ltb-false _ _ h in rw (is-negative n x m l) (omega arith)
 
   pub signed2 : (at : ℕ) → Signed 16 (signed-at 2 bs at)
   unfolding signed-at

@@ -4,10 +4,10 @@ use mathlib.Core.Path.{_≡_, refl, sym, ap, subst, _∙_}
 use mathlib.Core.Bool.{true}
 use mathlib.Core.List.{List, [], _∷_, _++_, append-assoc}
 use native.Mathlib.Omega.{arith}
-use borrow.Author.Tests.{lt-ltb, le-ltb}
 use lib.IntN.{ℤ, pos, negsuc}
 use lib.ListN.{length, length-append}
 use lib.Seq.{getD-append-seam}
+use Rattle.words.proofs.SignedLaws.{not-negative, is-negative}
 use Rattle.machine.specs.Bytes.{byte}
 use Rattle.machine.proofs.SpellLaws.{byte-first, byte-next}
 use Rattle.machine.specs.declared.Maddr.{Maddr}
@@ -77,13 +77,12 @@ pub signed-held :
 unfolding signed-bytes signed-at
 signed-held n full twice (pos k) bs at h l =
     let e : number-at n bs at ≡ k = number-held n k bs at h (omega arith) in
-    rw (e, lt-ltb k (2 ^ (8 * n - 1)) l)
+    rw (e, not-negative (8 * n) k l)
 signed-held n full twice (negsuc k) bs at h l =
     let x = 2 ^ (8 * n) - 1 - k in
     let e : number-at n bs at ≡ x = number-held n x bs at h (omega arith) in
     let m : 2 ^ (8 * n - 1) ≤ x = omega arith in
-    let y : 2 ^ (8 * n) - 1 - x ≡ k = omega arith in
-    rw (e, le-ltb x (2 ^ (8 * n - 1)) m, y)
+    rw (e, is-negative (8 * n) x m (omega arith)) (ap negsuc (omega arith))
 
 -- operands; a record has at most 13 bytes
 maddr-length-le : (m : Maddr) → length (bytes-of-maddr m) ≤ 13

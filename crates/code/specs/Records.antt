@@ -1,10 +1,11 @@
 -- Code records: a kind byte, a body whose length the kind fixes, then as many operand records as the kind fixes.
-use Prim.Native.Nat.{ℕ, zero, suc, _+_, _-_, _*_, _^_}
+use Prim.Native.Nat.{ℕ, zero, suc, _+_, _-_, _*_}
 use mathlib.Core.Bool.{Bool, _&&_, _||_, cond}
 use mathlib.Core.List.{List, [], _∷_}
-use lib.Dec.{eqb, ltb, leb}
-use lib.IntN.{ℤ, pos, negsuc}
+use lib.Dec.{eqb, leb}
+use lib.IntN.{ℤ}
 use lib.ListN.{length, getD}
+use Rattle.words.specs.Signed.{signed-word}
 use Rattle.machine.specs.Registers.{reg}
 use Rattle.machine.specs.Bytes.{spelled}
 use Rattle.machine.specs.declared.Maddr.the-variants.{MConst, MReg, MIndex}
@@ -65,10 +66,7 @@ number-at n bs at = spelled n (λ j. byte-at bs (at + j))
 
 -- the signed number that n bytes spell, two's complement
 unfoldable pub signed-at : ℕ → List ℕ → ℕ → ℤ
-signed-at n bs at =
-    cond (ltb (number-at n bs at) (2 ^ (8 * n - 1)))
-    (pos (number-at n bs at))
-    (negsuc (2 ^ (8 * n) - 1 - number-at n bs at))
+signed-at n bs at = signed-word (8 * n) (number-at n bs at)
 
 -- the operands, from 40 on, of the bytes behind a kind byte
 abbrev operand-forms : List ℕ → ℕ → List Operand

@@ -3,6 +3,8 @@ ghost use mathlib.Core.Path.{_≡_};
 ghost use Prim.Native.Nat.{_+_, _<_, _≤_, _^_};
 ghost use lib.ListN.{length};
 ghost use Rattle.code.specs.Records.{number-at, signed-at};
+use words::signed16;
+use words::signed64;
 
 pub fn wide(x: u8) -> usize
     ensures { λ r. ⌜ (r ≡ x) × (r < 256) ⌝ }
@@ -34,25 +36,16 @@ pub fn number8(code: &[u8], at: usize) -> u64
     low + high * 0x1_0000_0000
 }
 
-// Two's complement without a cast that loses bits.
 pub fn signed2(code: &[u8], at: usize) -> i16
     requires { ⌜ at + 2 ≤ length (now code) ⌝ }
     ensures { λ r. ⌜ r ≡ signed-at 2 (now (code .entry)) at ⌝ }
 {
-    let n = number2(code, at);
-    if n < 0x8000 {
-        return n as i16;
-    }
-    -1 - ((0xffff - n) as i16)
+    signed16(number2(code, at) as u16)
 }
 
 pub fn signed8(code: &[u8], at: usize) -> i64
     requires { ⌜ at + 8 ≤ length (now code) ⌝ }
     ensures { λ r. ⌜ r ≡ signed-at 8 (now (code .entry)) at ⌝ }
 {
-    let n = number8(code, at);
-    if n < 0x8000_0000_0000_0000 {
-        return n as i64;
-    }
-    -1 - ((0xffff_ffff_ffff_ffff - n) as i64)
+    signed64(number8(code, at))
 }

@@ -17,6 +17,7 @@ use mathlib.Core.List.{List}
 use Rattle.words.specs.Bits.{bit}
 use Rattle.words.specs.Sums.{Subtracted}
 use Rattle.words.proofs.BitLaws.{bit-lt}
+use Rattle.words.proofs.Differences.{sub-eq, pos-sub, neg-sub, sub-plus, sub-minus}
 use Rattle.words.proofs.SumLaws.{sub-mod-lt, subtracted-number}
 use Rattle.machine.specs.Registers.{reg-at}
 use Rattle.machine.specs.Operands.{in-range, wild, exact, eval-maddr}
@@ -38,47 +39,6 @@ under n m h = rw (lt-ltb n m h)
 above : (n m : ℕ) → m + 2 ^ 64 ≤ n → in-range (subℕ n m) ≡ none
 unfolding in-range wild
 above n m h = rw (le-ltb n m (omega arith), le-leb (2 ^ 64) (n - m) (omega arith))
-
--- ---- sums as differences
-sub-eq : (a b c d : ℕ) → a + d ≡ c + b → subℕ a b ≡ subℕ c d
-sub-eq a b c d e = go (ltb a b) refl
-  where
-    go : (t : Bool) → ltb a b ≡ t → subℕ a b ≡ subℕ c d
-    go true p =
-        let h : a < b = ltb-true a b p in
-        rw (p, lt-ltb c d (omega arith)) (ap negsuc (omega arith))
-    go false p =
-        let h : b ≤ a = ltb-false a b p in
-        rw (p, le-ltb c d (omega arith)) (ap pos (omega arith))
-
-pos-sub : (n : ℕ) → pos n ≡ subℕ n 0
-pos-sub n = rw (le-ltb n 0 (omega arith)) (ap pos (omega arith))
-
-neg-sub : (a x : ℕ) → pos a +ℤ negℤ (pos x) ≡ subℕ a x
-neg-sub a zero = pos-sub (a + 0) ∙ rw add-zero
-neg-sub a (suc x) = refl
-
-sub-plus : (a x o : ℕ) → subℕ a x +ℤ pos o ≡ subℕ (a + o) x
-sub-plus a x o = go (ltb a x) refl
-  where
-    go : (t : Bool) → ltb a x ≡ t → subℕ a x +ℤ pos o ≡ subℕ (a + o) x
-    go true p =
-        let h : a < x = ltb-true a x p in
-        rw p (sub-eq o (suc (x - suc a)) (a + o) x (omega arith))
-    go false p =
-        let h : x ≤ a = ltb-false a x p in
-        rw p (pos-sub (a - x + o) ∙ sub-eq (a - x + o) 0 (a + o) x (omega arith))
-
-sub-minus : (a x o : ℕ) → subℕ a x +ℤ negsuc o ≡ subℕ a (x + suc o)
-sub-minus a x o = go (ltb a x) refl
-  where
-    go : (t : Bool) → ltb a x ≡ t → subℕ a x +ℤ negsuc o ≡ subℕ a (x + suc o)
-    go true p =
-        let h : a < x = ltb-true a x p in
-        rw (p, lt-ltb a (x + suc o) (omega arith)) (ap negsuc (omega arith))
-    go false p =
-        let h : x ≤ a = ltb-false a x p in
-        rw p (sub-eq (a - x) (suc o) a (x + suc o) (omega arith))
 
 -- ---- the four signs of scale and offset, by the tests that the code makes
 pub plus-plus : (base index : ℕ) (s o : ℤ) → ltZ s (pos 0) ≡ false → ltZ o (pos 0) ≡ false → exact base s index o ≡ subℕ (natAbs s * index + base + natAbs o) 0

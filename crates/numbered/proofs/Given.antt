@@ -10,6 +10,7 @@ use borrow.Author.Tests.{not-true, not-false, eqb-true, eqb-false}
 use lib.Dec.{eqb}
 use lib.IntN.{ℤ}
 use lib.ListN.{getD}
+use Rattle.words.specs.Signed.{signed-word}
 use Rattle.machine.specs.Registers.{reg}
 use Rattle.machine.specs.declared.Maddr.the-variants.{MConst, MReg, MIndex}
 use Rattle.machine.specs.declared.Operand.{Operand as Operand′}
@@ -21,7 +22,7 @@ use Rattle.code.specs.Kinds.{class, is-used}
 use Rattle.code.proofs.KindLaws.{class-ins, counts}
 use Rattle.code.proofs.Classes.{tag, ins-kind, ocmp-kind, operand-kind, not-ocmp, not-operand, code-used, ins-is-code, ocmp-used, others-2, others-3}
 use Rattle.numbered.specs.declared.operands.Numbers.{Numbers}
-use Rattle.numbered.specs.Given.{signed-word, operand-of, operand-given, operands-given, is-instruction, is-comparison}
+use Rattle.numbered.specs.Given.{operand-of, operand-given, operands-given, is-instruction, is-comparison}
 
 -- the first of five where the second to the fifth are not picked
 first-or-none :

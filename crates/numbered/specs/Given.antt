@@ -1,20 +1,15 @@
 -- Instructions and comparisons as numbers and arrays.
-use Prim.Native.Nat.{ℕ, zero, suc, _-_, _^_}
-use mathlib.Core.Bool.{Bool, true, _&&_, cond}
+use Prim.Native.Nat.{ℕ, zero, suc, _-_}
+use mathlib.Core.Bool.{Bool, true, _&&_}
 use mathlib.Core.List.{List, [], _∷_}
-use lib.Dec.{ltb}
 use lib.ListN.{getD}
-use lib.IntN.{ℤ, pos, negsuc}
+use Rattle.words.specs.Signed.{signed-word}
 use Rattle.machine.specs.Registers.{reg}
 use Rattle.machine.specs.declared.Maddr.the-variants.{MConst, MReg, MIndex}
 use Rattle.machine.specs.declared.Operand.{Operand}
 use Rattle.machine.specs.declared.Operand.the-variants.{OConst, OReg, OMem}
 use Rattle.code.specs.Records.{is-ins, is-ocmp, is-operand, operand-count}
 use Rattle.numbered.specs.declared.operands.Numbers.{Numbers}
-
--- the signed number of n bits, two's complement
-unfoldable pub signed-word : ℕ → ℕ → ℤ
-signed-word n x = cond (ltb x (2 ^ (n - 1))) (pos x) (negsuc (2 ^ n - 1 - x))
 
 -- operand i, in the order of the kinds from 40 on
 unfoldable pub operand-of : Numbers → ℕ → Operand

@@ -1,12 +1,14 @@
 // A record as numbers, and its operands.
 ghost use mathlib.Core.Path.{_≡_};
 ghost use Prim.Native.Nat.{_<_, _≤_};
-ghost use Rattle.numbered.specs.Given.{signed-word, operand-of, operand-given, operands-given};
+ghost use Rattle.numbered.specs.Given.{operand-of, operand-given, operands-given};
 use code::Class;
 use code::class_of;
 use machine::Maddr;
 use machine::Operand;
 use machine::Reg;
+use words::signed16;
+use words::signed64;
 
 // A kind, the bytes of a body, and up to three operands: their kinds, registers or bases, indexes, scales, constants or
 // addresses, and offsets; scales and offsets in two's complement. What the kind does not have is not looked at.
@@ -19,25 +21,6 @@ pub struct Numbers {
     pub scales: [u16; 3],
     pub numbers: [u64; 3],
     pub offsets: [u64; 3],
-}
-
-// Two's complement without a cast that loses bits.
-fn signed16(n: u16) -> i16
-    ensures { λ r. ⌜ r ≡ signed-word 16 n ⌝ }
-{
-    if n < 0x8000 {
-        return n as i16;
-    }
-    -1 - ((0xffff - n) as i16)
-}
-
-fn signed64(n: u64) -> i64
-    ensures { λ r. ⌜ r ≡ signed-word 64 n ⌝ }
-{
-    if n < 0x8000_0000_0000_0000 {
-        return n as i64;
-    }
-    -1 - ((0xffff_ffff_ffff_ffff - n) as i64)
 }
 
 // Operand i; a kind that is none is read as a constant.

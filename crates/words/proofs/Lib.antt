@@ -3,6 +3,8 @@ pub mod BitLaws
 pub mod CountLaws
 pub mod ShiftLaws
 pub mod SumLaws
+pub mod Differences
+pub mod SignedLaws
 pub mod ProductLaws
 pub mod FlagLaws
 pub mod PartLaws

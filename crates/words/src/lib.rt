@@ -7,6 +7,7 @@ mod flags;
 mod halves;
 mod lanes;
 mod product;
+mod signed;
 mod sums;
 
 pub use bits::iand32;
@@ -47,6 +48,9 @@ pub use lanes::shuffle_lanes;
 pub use product::mul_div;
 pub use product::mul_mod;
 pub use product::mul_wide;
+pub use signed::add_overflows;
+pub use signed::signed16;
+pub use signed::signed64;
 pub use sums::add32;
 pub use sums::add64;
 pub use sums::sub32;

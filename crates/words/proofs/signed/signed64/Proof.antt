@@ -1,9 +1,9 @@
 -- Below half the number is itself, from half on it is its complement.
 use mir.Syntax.{w64}
-use Rattle.numbered.proofs.Signed.{signed-low, complement-fits, signed-high}
+use Rattle.words.proofs.SignedLaws.{signed-low, complement-fits, signed-high}
 use borrow.Author.Needs.{needs}
-use Rattle.numbered.proofs.operands.signed64.Statement.{statement}
-use Rattle.numbered.proofs.operands.signed64.Tie as tie
+use Rattle.words.proofs.signed.signed64.Statement.{statement}
+use Rattle.words.proofs.signed.signed64.Tie as tie
 
 pub signed64-spec : {M : Type 1} → statement M
 signed64-spec =

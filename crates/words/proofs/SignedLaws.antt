@@ -1,0 +1,168 @@
+-- A word as a signed number is the word less 2 ^ n where it is negative. So a sum of two is the sum of the words less 2 ^ n once for each negative
+-- one, and where it leaves the range both have one sign and the word of the sum has the other.
+use Prim.Native.Nat.{ℕ, zero, suc, _+_, _-_, _*_, _^_, _≤_, _<_}
+use mathlib.Core.Path.{_≡_, refl, sym, _∙_, ap, ap₂}
+use mathlib.Core.Bool.{Bool, true, false, not, _&&_, _||_, Bool·beq}
+use mathlib.Core.Logic.{_⊎_, inl, inr, ⊎-elim}
+use native.Mathlib.Omega.{arith}
+use borrow.Author.Tests.{ltb-true, ltb-false, leb-true, leb-false, lt-ltb, le-ltb, lt-leb, le-leb}
+use lib.Dec.{ltb, leb}
+use lib.IntN.{ℤ, pos, negsuc, subℕ, negℤ, _+ℤ_, _-ℤ_}
+use lib.Pow.{pow-pos}
+use lib.Signed.{ltZ, leZ}
+use mir.Syntax.{Width}
+use mir.Val.{bits, hbits, SFits, toZ, ofZ}
+use mir.ValLaws.{toZ-pos, toZ-ofZ}
+use Rattle.words.specs.Bits.{bit}
+use Rattle.words.specs.Signed.{signed-word, signed-sum, leaves}
+use Rattle.words.specs.Sums.{sum-mod, sum-carry, Added}
+use Rattle.words.proofs.BitLaws.{bit-lt}
+use Rattle.words.proofs.SumLaws.{sum-mod-lt, added-number}
+use Rattle.words.proofs.Differences.{pos-sub, neg-sub, sub-plus, sub-sub}
+
+module _ (n x : ℕ) where
+  pub sub-low : x < 2 ^ (n - 1) → signed-word n x ≡ subℕ x 0
+  unfolding signed-word
+  sub-low h = rw (lt-ltb x (2 ^ (n - 1)) h) (pos-sub x)
+
+  pub sub-high : 2 ^ (n - 1) ≤ x → signed-word n x ≡ subℕ x (2 ^ n)
+  unfolding signed-word
+  sub-high h = rw (le-ltb x (2 ^ (n - 1)) h) (neg-sub x (2 ^ n))
+
+  pub not-negative : x < 2 ^ (n - 1) → signed-word n x ≡ pos x
+  unfolding signed-word
+  not-negative h = rw (lt-ltb x (2 ^ (n - 1)) h)
+
+  pub is-negative : 2 ^ (n - 1) ≤ x → x < 2 ^ n → signed-word n x ≡ negsuc (2 ^ n - 1 - x)
+  is-negative h k = sub-high h ∙ rw (lt-ltb x (2 ^ n) k) (ap negsuc (omega arith))
+
+-- ---- the language's signed integers, of width w, read a word so too
+less-one : (k : ℕ) → negsuc 0 -ℤ pos k ≡ negsuc k
+less-one zero = refl
+less-one (suc k) = ap (λ (n : ℕ). negsuc (suc n)) (omega arith)
+
+module _ (w : Width) (n : ℕ) (full : 2 ^ n ≡ 2 ^ bits w) (half : 2 ^ (n - 1) ≡ 2 ^ hbits w) (r : ℕ) where
+  pub signed-low : r < 2 ^ hbits w → toZ w r ≡ signed-word n r
+  signed-low l = toZ-pos w r l ∙ sym (not-negative n r (omega arith))
+
+  module _ (high : 2 ^ hbits w ≤ r) (twice : 2 ^ bits w ≡ 2 * 2 ^ hbits w) (fits : r < 2 ^ bits w) where
+    complement : negsuc 0 -ℤ toZ w (2 ^ bits w - 1 - r) ≡ negsuc (2 ^ bits w - 1 - r)
+    complement = ap (λ (z : ℤ). negsuc 0 -ℤ z) (toZ-pos w (2 ^ bits w - 1 - r) (omega arith)) ∙ less-one (2 ^ bits w - 1 - r)
+
+    pub complement-fits : SFits w (negsuc 0 -ℤ toZ w (2 ^ bits w - 1 - r))
+    complement-fits = rw complement (record { sfits = omega arith })
+
+    pub signed-high : toZ w (ofZ w (negsuc 0 -ℤ toZ w (2 ^ bits w - 1 - r))) ≡ signed-word n r
+    signed-high =
+        toZ-ofZ w (negsuc 0 -ℤ toZ w (2 ^ bits w - 1 - r)) complement-fits
+        ∙ complement
+        ∙ sym (is-negative n r (omega arith) (omega arith) ∙ ap negsuc (omega arith))
+
+-- ---- sums
+-- two words that are x and y too large as signed numbers
+pub sum-sub : (n a b c x y : ℕ) → signed-word n a ≡ subℕ a x → signed-word n b ≡ subℕ b y → signed-sum n a b c ≡ subℕ (a + b + c) (x + y)
+unfolding signed-sum
+sum-sub n a b c x y p q = rw (p, q) (ap (λ (z : ℤ). z +ℤ pos c) (sub-sub a x b y) ∙ sub-plus (a + b) (x + y) c)
+
+-- ---- when a difference leaves -(m + 1) to m
+abbrev outside : ℕ → ℤ → Bool
+outside m z = ltZ z (negsuc m) || leZ (pos (suc m)) z
+
+module _ (m s t : ℕ) where
+  below : s + suc m < t → outside m (subℕ s t) ≡ true
+  below h = rw (lt-ltb s t (omega arith), lt-ltb m (t - suc s) (omega arith))
+
+  above : t + suc m ≤ s → outside m (subℕ s t) ≡ true
+  above h = rw (le-ltb s t (omega arith), le-leb (suc m) (s - t) (omega arith))
+
+  within : t ≤ s + suc m → s < t + suc m → outside m (subℕ s t) ≡ false
+  within h k = go (ltb s t) refl
+    where
+      go : (b : Bool) → ltb s t ≡ b → outside m (subℕ s t) ≡ false
+      go true p = let l : s < t = ltb-true s t p in rw (p, le-ltb m (t - suc s) (omega arith))
+      go false p = let l : t ≤ s = ltb-false s t p in rw (p, lt-leb (suc m) (s - t) (omega arith))
+
+-- the same of n bits
+module _ (n s t : ℕ) where
+  is-outside : leaves n (subℕ s t) ≡ outside (2 ^ (n - 1) - 1) (subℕ s t)
+  unfolding leaves
+  is-outside =
+      let positive : 2 ^ (n - 1) ≡ suc (2 ^ (n - 1) - 1) = omega (arith, pow-pos (n - 1)) in
+      ap (λ (h : ℕ). ltZ (subℕ s t) (negℤ (pos h)) || leZ (pos h) (subℕ s t)) positive
+
+  pub leaves-below : s + 2 ^ (n - 1) < t → leaves n (subℕ s t) ≡ true
+  leaves-below h = is-outside ∙ below (2 ^ (n - 1) - 1) s t (omega (arith, pow-pos (n - 1)))
+
+  pub leaves-above : t + 2 ^ (n - 1) ≤ s → leaves n (subℕ s t) ≡ true
+  leaves-above h = is-outside ∙ above (2 ^ (n - 1) - 1) s t (omega (arith, pow-pos (n - 1)))
+
+  pub leaves-not : t ≤ s + 2 ^ (n - 1) → s < t + 2 ^ (n - 1) → leaves n (subℕ s t) ≡ false
+  leaves-not h k = is-outside ∙ within (2 ^ (n - 1) - 1) s t (omega (arith, pow-pos (n - 1))) (omega (arith, pow-pos (n - 1)))
+
+-- ---- a sum of two words of n bits and a carry
+module _ (n a b word : ℕ) (carry out : Bool) (twice : 2 ^ n ≡ 2 ^ (n - 1) + 2 ^ (n - 1)) (ha : a < 2 ^ n) (hb : b < 2 ^ n)
+    (sum : Added n (a + b + bit carry) word out) where
+  -- whether a word is negative
+  abbrev negative : ℕ → Bool
+  negative x = leb (2 ^ (n - 1)) x
+
+  -- the sum is its word, or 2 ^ n more
+  parted : (word ≡ a + b + bit carry) ⊎ (word + 2 ^ n ≡ a + b + bit carry)
+  parted = go out (added-number n (a + b + bit carry) word out sum (omega (arith, bit-lt carry)))
+    where
+      go : (o : Bool) → word + bit o * 2 ^ n ≡ a + b + bit carry → (word ≡ a + b + bit carry) ⊎ (word + 2 ^ n ≡ a + b + bit carry)
+      go true e = inr (omega arith)
+      go false e = inl (omega arith)
+
+  word-fits : word < 2 ^ n
+  word-fits = rw (sum .word-is) (sum-mod-lt n (a + b + bit carry))
+
+  both-low : a < 2 ^ (n - 1) → b < 2 ^ (n - 1) → leaves n (signed-sum n a b (bit carry)) ≡ negative word
+  both-low h k =
+      let s : word ≡ a + b + bit carry = ⊎-elim (λ e. e) (λ e. absurd (omega (arith, bit-lt carry))) parted in
+      ap (leaves n) (sum-sub n a b (bit carry) 0 0 (sub-low n a h) (sub-low n b k)) ∙ go (negative word) refl s
+    where
+      go : (r : Bool) → negative word ≡ r → word ≡ a + b + bit carry → leaves n (subℕ (a + b + bit carry) (0 + 0)) ≡ negative word
+      go true p s = leaves-above n (a + b + bit carry) (0 + 0) (omega (arith, leb-true (2 ^ (n - 1)) word p)) ∙ sym p
+      go false p s = leaves-not n (a + b + bit carry) (0 + 0) (omega arith) (omega (arith, leb-false (2 ^ (n - 1)) word p)) ∙ sym p
+
+  both-high : 2 ^ (n - 1) ≤ a → 2 ^ (n - 1) ≤ b → leaves n (signed-sum n a b (bit carry)) ≡ not (negative word)
+  both-high h k =
+      let s : word + 2 ^ n ≡ a + b + bit carry = ⊎-elim (λ e. absurd (omega (arith, word-fits))) (λ e. e) parted in
+      ap (leaves n) (sum-sub n a b (bit carry) (2 ^ n) (2 ^ n) (sub-high n a h) (sub-high n b k)) ∙ go (negative word) refl s
+    where
+      go : (r : Bool) → negative word ≡ r → word + 2 ^ n ≡ a + b + bit carry
+          → leaves n (subℕ (a + b + bit carry) (2 ^ n + 2 ^ n)) ≡ not (negative word)
+      go true p s =
+          leaves-not n (a + b + bit carry) (2 ^ n + 2 ^ n) (omega (arith, leb-true (2 ^ (n - 1)) word p)) (omega (arith, word-fits)) ∙ rw p
+      go false p s = leaves-below n (a + b + bit carry) (2 ^ n + 2 ^ n) (omega (arith, leb-false (2 ^ (n - 1)) word p)) ∙ rw p
+
+  -- x and y are 0 and 2 ^ n, or the reverse
+  apart : (x y : ℕ) → x + y ≡ 2 ^ n → signed-word n a ≡ subℕ a x → signed-word n b ≡ subℕ b y → 2 ^ (n - 1) ≤ a + b → a + b + 1 < 2 ^ n + 2 ^ (n - 1)
+      → leaves n (signed-sum n a b (bit carry)) ≡ false
+  apart x y e p q h k =
+      ap (leaves n) (sum-sub n a b (bit carry) x y p q) ∙ leaves-not n (a + b + bit carry) (x + y) (omega arith) (omega (arith, bit-lt carry))
+
+  pub overflows : leaves n (signed-sum n a b (bit carry)) ≡ (Bool·beq (negative a) (negative b) && not (Bool·beq (negative a) (negative word)))
+  overflows = go (negative a) (negative b) refl refl
+    where
+      high : (w : Bool) → not w ≡ not (Bool·beq true w)
+      high true = refl
+      high false = refl
+
+      low : (w : Bool) → w ≡ not (Bool·beq false w)
+      low true = refl
+      low false = refl
+
+      go : (p q : Bool) → negative a ≡ p → negative b ≡ q
+          → leaves n (signed-sum n a b (bit carry)) ≡ (Bool·beq p q && not (Bool·beq p (negative word)))
+      go true true p q = both-high (leb-true _ a p) (leb-true _ b q) ∙ high (negative word)
+      go true false p q =
+          let h = leb-true _ a p in
+          let k = leb-false _ b q in
+          apart (2 ^ n) 0 (omega arith) (sub-high n a h) (sub-low n b k) (omega arith) (omega arith)
+      go false true p q =
+          let h = leb-false _ a p in
+          let k = leb-true _ b q in
+          apart 0 (2 ^ n) (omega arith) (sub-low n a h) (sub-high n b k) (omega arith) (omega arith)
+      go false false p q = both-low (leb-false _ a p) (leb-false _ b q) ∙ low (negative word)
