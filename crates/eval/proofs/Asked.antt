@@ -36,6 +36,7 @@ use Rattle.code.proofs.Frames.{operand-frame}
 use Rattle.code.proofs.CodeFrames.{ocmp-frame}
 use Rattle.code.proofs.Families.{Stood, ins-inside, lane-kinds, two-stood, lea-stood, mul-stood, mulx-stood, quads-stood, shifts-stood, shuffle-stood, word-shift-stood, extract-stood, inserts-stood}
 use Rattle.code.proofs.Forms.{constant-is, register-is, register-below}
+use Rattle.eval.specs.FlagRule.{FlagRule, base-flags}
 use Rattle.eval.specs.Config.{Env, Config, with-flags}
 use Rattle.eval.specs.Config as Config
 use Rattle.eval.specs.Counted.{Counted, nothing-counted, ended}
@@ -61,53 +62,53 @@ Finds addresses tags regs bs at absent f = (m : Maddr) → operand-at bs at ≡ 
 
 module _ (addresses tags regs values bs : List ℕ) (at next : ℕ) (is-next : next ≡ behind bs at) (form : Form)
     (is : form ≡ form-of (operand-at bs at)) where
-  module _ (fill flags : ℕ) (xmms : List ℕ) where
+  module _ (fill : ℕ) (rule : FlagRule) (flags : ℕ) (xmms : List ℕ) where
     abbrev Load : Loaded → Type 0
-    Load r = Loads (environment addresses tags fill) (held regs xmms flags values) (operand-at bs at) (behind bs at) r
+    Load r = Loads (environment addresses tags fill rule) (held regs xmms flags values) (operand-at bs at) (behind bs at) r
 
     abbrev Resolve : Slot → Type 0
-    Resolve t = Resolves (environment addresses tags fill) (held regs xmms flags values) (operand-at bs at) (behind bs at) t
+    Resolve t = Resolves (environment addresses tags fill rule) (held regs xmms flags values) (operand-at bs at) (behind bs at) t
 
     module _ (n : ℕ) (constant : form ≡ Const n) where
       pub loads-constant : Load (record { number = 0; word = n; next = next })
-      loads-constant = rw is-next (load-constant _ _ _ _ _ _ fill flags xmms n (constant-is _ n (sym is ∙ constant)))
+      loads-constant = rw is-next (load-constant _ _ _ _ _ _ fill rule flags xmms n (constant-is _ n (sym is ∙ constant)))
 
       pub no-constant : (t : Slot) → t ≡ no-slot 32 next → Resolve t
-      no-constant t e = resolve-constant _ _ _ _ _ _ fill flags xmms n (constant-is _ n (sym is ∙ constant)) t (e ∙ ap (no-slot 32) is-next)
+      no-constant t e = resolve-constant _ _ _ _ _ _ fill rule flags xmms n (constant-is _ n (sym is ∙ constant)) t (e ∙ ap (no-slot 32) is-next)
 
     module _ (r : Reg) (register : form ≡ Register r) where
       pub loads-register : Load (record { number = 0; word = reg-at regs r; next = next })
-      loads-register = rw is-next (load-register _ _ _ _ _ _ fill flags xmms r (register-is _ r (sym is ∙ register)))
+      loads-register = rw is-next (load-register _ _ _ _ _ _ fill rule flags xmms r (register-is _ r (sym is ∙ register)))
 
       module _ (b : Bool) (rsp : b ≡ eqb (r .number) (Rsp .number)) where
         pub no-rsp : b ≡ true → (t : Slot) → t ≡ no-slot 32 next → Resolve t
         no-rsp h t e =
-            resolve-rsp _ _ _ _ _ _ fill flags xmms r (register-is _ r (sym is ∙ register)) b rsp h t (e ∙ ap (no-slot 32) is-next)
+            resolve-rsp _ _ _ _ _ _ fill rule flags xmms r (register-is _ r (sym is ∙ register)) b rsp h t (e ∙ ap (no-slot 32) is-next)
 
         pub resolves-register :
             b ≡ false → OperandBytes bs at →
             Resolve (record { how = 0; index = r .number; word = reg-at regs r; next = next })
         resolves-register h stands =
             let q = register-is _ r (sym is ∙ register) in
-            rw is-next (resolve-register _ _ _ _ _ _ fill flags xmms r q b rsp h (register-below bs at stands r q))
+            rw is-next (resolve-register _ _ _ _ _ _ fill rule flags xmms r q b rsp h (register-below bs at stands r q))
 
     module _ (memory : form ≡ Memory) (f : Sought) where
       module _ (found : Finds addresses tags regs bs at 31 f) where
         pub loads-cell : f .number ≡ 0 → Load (record { number = 0; word = getD values (f .index) 0; next = next })
-        loads-cell e = rw is-next (load-cell _ _ _ _ _ _ fill flags xmms form is memory 31 f found (omega arith) e)
+        loads-cell e = rw is-next (load-cell _ _ _ _ _ _ fill rule flags xmms form is memory 31 f found (omega arith) e)
 
         pub loads-none : (f .number ≡ 0 → ⊥) → Load (record { number = f .number; word = 0; next = next })
-        loads-none e = rw is-next (load-none _ _ _ _ _ _ fill flags xmms form is memory 31 f found (omega arith) e refl)
+        loads-none e = rw is-next (load-none _ _ _ _ _ _ fill rule flags xmms form is memory 31 f found (omega arith) e refl)
 
       module _ (found : Finds addresses tags regs bs at 32 f) where
         pub resolves-cell :
             f .number ≡ 0 → Cells addresses tags values →
             Resolve (record { how = 1; index = f .index; word = getD values (f .index) 0; next = next })
-        resolves-cell e cells = rw is-next (resolve-cell _ _ _ _ _ _ fill flags xmms form is memory 32 f found (omega arith) e cells)
+        resolves-cell e cells = rw is-next (resolve-cell _ _ _ _ _ _ fill rule flags xmms form is memory 32 f found (omega arith) e cells)
 
         pub no-cell : (f .number ≡ 0 → ⊥) → (t : Slot) → t ≡ no-slot (f .number) next → Resolve t
         no-cell e t g =
-            resolve-none _ _ _ _ _ _ fill flags xmms form is memory 32 f found (omega arith) e refl t (g ∙ ap (no-slot (f .number)) is-next)
+            resolve-none _ _ _ _ _ _ fill rule flags xmms form is memory 32 f found (omega arith) e refl t (g ∙ ap (no-slot (f .number)) is-next)
 
 -- f is what was found for a memory operand, in some registers
 pub record IsFound (addresses tags bs : List ℕ) (at : ℕ) (f : Sought) : Type 0 where
@@ -133,7 +134,7 @@ module _ (bs : List ℕ) (at : ℕ) (form : Form) (is : form ≡ form-of (operan
   module _ (addresses tags values : List ℕ) (cells : Cells addresses tags values) (memory : form ≡ Memory) (f : Sought)
       (w : IsFound addresses tags bs at f) (e : f .number ≡ 0) where
     pub found-inside : f .index < length values
-    found-inside = cell-inside addresses tags (w .regs) values _ 0 0 0 [] form is memory (w .absent) f (w .found) (w .above) e cells
+    found-inside = cell-inside addresses tags (w .regs) values _ 0 0 base-flags 0 [] form is memory (w .absent) f (w .found) (w .above) e cells
 
     pub found-fits : length values * 8 < 2 ^ 63 → Fits w64 (f .index * 8)
     found-fits room = omega (arith, found-inside)
@@ -153,13 +154,13 @@ third-there bs at a b is is′ o = rw (is′, is) o
 module _ (addresses tags regs values bs : List ℕ) (at : ℕ) where
   abbrev Loaded-at : Loaded → Type 0
   Loaded-at r =
-      (fill flags : ℕ) (xmms : List ℕ) →
-      Loads (environment addresses tags fill) (held regs xmms flags values) (operand-at bs at) (behind bs at) r
+      (fill : ℕ) (rule : FlagRule) (flags : ℕ) (xmms : List ℕ) →
+      Loads (environment addresses tags fill rule) (held regs xmms flags values) (operand-at bs at) (behind bs at) r
 
   abbrev Resolved-at : Slot → Type 0
   Resolved-at t =
-      (fill flags : ℕ) (xmms : List ℕ) →
-      Resolves (environment addresses tags fill) (held regs xmms flags values) (operand-at bs at) (behind bs at) t
+      (fill : ℕ) (rule : FlagRule) (flags : ℕ) (xmms : List ℕ) →
+      Resolves (environment addresses tags fill rule) (held regs xmms flags values) (operand-at bs at) (behind bs at) t
 
 -- ---- a comparison
 module _ (bs : List ℕ) (at : ℕ) (o : OcmpAt bs at) where
@@ -176,24 +177,24 @@ module _ (bs : List ℕ) (at : ℕ) (o : OcmpAt bs at) where
   second-operand next is = rw is (ocmp-frame bs at (o .0) (o .1) (o .2) .operands .second)
 
   -- its answer, from what was loaded of its operands
-  module _ (addresses tags regs xmms values : List ℕ) (fill flags e : ℕ) (stands : Stands is-ocmp bs at e) (a : Loaded)
+  module _ (addresses tags regs xmms values : List ℕ) (fill : ℕ) (rule : FlagRule) (flags e : ℕ) (stands : Stands is-ocmp bs at e) (a : Loaded)
       (one : Loaded-at addresses tags regs values bs (at + 1) a) where
     abbrev Says : ℕ → ℕ → Type 0
-    Says n next = Compares (environment addresses tags fill) (held regs xmms flags values) (ocmp-at bs at) e (record { how = n; next = next })
+    Says n next = Compares (environment addresses tags fill rule) (held regs xmms flags values) (ocmp-at bs at) e (record { how = n; next = next })
 
     inside : e ≤ length bs
     inside = stands-inside bs at (o .0) (o .1) (o .2) e stands
 
     pub says-unread : (a .number ≡ 0 → ⊥) → Says (a .number) (a .next)
-    says-unread h = first-unread _ _ bs at e stands inside a (one fill flags xmms) h
+    says-unread h = first-unread _ _ bs at e stands inside a (one fill rule flags xmms) h
 
     module _ (x : a .number ≡ 0) (b : Loaded) (two : Loaded-at addresses tags regs values bs (a .next) b) where
       pub says-unread-second : (b .number ≡ 0 → ⊥) → Says (b .number) (b .next)
-      says-unread-second h = second-unread _ _ bs at e stands inside a b (one fill flags xmms) (two fill flags xmms) x h
+      says-unread-second h = second-unread _ _ bs at e stands inside a b (one fill rule flags xmms) (two fill rule flags xmms) x h
 
       module _ (y : b .number ≡ 0) (h : Bool) (is : h ≡ comparison (byte-at bs at) (a .word) (b .word)) where
         says : Says (cond h 1 0) (b .next)
-        says = compared _ _ bs at e stands inside a b (one fill flags xmms) (two fill flags xmms) x y h (sym is)
+        says = compared _ _ bs at e stands inside a b (one fill rule flags xmms) (two fill rule flags xmms) x y h (sym is)
 
         pub says-holds : h ≡ true → Says 1 (b .next)
         says-holds k = rw k at says
@@ -232,9 +233,9 @@ pub record Halves (addresses tags regs values bs : List ℕ) (at : ℕ) (t : Slo
   pub high : Resolved-at addresses tags after values bs (at + 1) u
 
 -- ---- instructions, from what was loaded and resolved of their operands
-module _ (addresses tags regs xmms values bs : List ℕ) (fill flags at : ℕ) where
+module _ (addresses tags regs xmms values bs : List ℕ) (fill : ℕ) (rule : FlagRule) (flags at : ℕ) where
   abbrev env : Env
-  env = environment addresses tags fill
+  env = environment addresses tags fill rule
 
   abbrev s : Config
   s = held regs xmms flags values
@@ -244,20 +245,20 @@ module _ (addresses tags regs xmms values bs : List ℕ) (fill flags at : ℕ) w
     Mul x u = Ran (run-ins env at (Mul64 (operand-at bs (at + 1))) s) (behind bs (at + 1)) x u
 
     pub multiply-unread : (r .number ≡ 0 → ⊥) → Mul (exit (r .number) at) s
-    multiply-unread h = mul-unread addresses tags regs xmms values fill flags at _ _ r (src fill flags xmms) h
+    multiply-unread h = mul-unread addresses tags regs xmms values fill rule flags at _ _ r (src fill rule flags xmms) h
 
     pub multiply-done :
         r .number ≡ 0 →
         (lo hi : ℕ) → lo ≡ mul-mod 64 (getD regs 0 0) (r .word) → hi ≡ mul-div 64 (getD regs 0 0) (r .word) →
         Mul (exit 0 (r .next)) (held (set (set regs 0 lo) 3 hi) xmms fill values)
-    multiply-done h lo hi = mul-done addresses tags regs xmms values fill flags at _ _ r (src fill flags xmms) h lo hi
+    multiply-done h lo hi = mul-done addresses tags regs xmms values fill rule flags at _ _ r (src fill rule flags xmms) h lo hi
 
   module _ (t : Slot) (dst : Resolved-at addresses tags regs values bs (at + 3) t) where
     abbrev Extract : Exit → Config → Type 0
     Extract x u = Ran (run-ins env at (Pextrq (operand-at bs (at + 3)) (byte-at bs (at + 1)) (byte-at bs (at + 2))) s) (behind bs (at + 3)) x u
 
     pub extracts-nowhere : 1 < t .how → Extract (exit (t .how) at) s
-    extracts-nowhere h = extract-unwritten addresses tags regs xmms values fill flags at _ _ _ _ t (dst fill flags xmms) h
+    extracts-nowhere h = extract-unwritten addresses tags regs xmms values fill rule flags at _ _ _ _ t (dst fill rule flags xmms) h
 
     pub extracts :
         t .how ≤ 1 →
@@ -265,7 +266,7 @@ module _ (addresses tags regs xmms values bs : List ℕ) (fill flags at : ℕ) w
         quad32 x ≡ xmm-at xmms (byte-at bs (at + 1)) → v ≡ extract-nat64 (quad32 x) (byte-at bs (at + 2) % 2) →
         regs′ ≡ put-regs t v regs → values′ ≡ put-values t v values →
         Extract (exit 0 (t .next)) (held regs′ xmms flags values′)
-    extracts h = extract-done addresses tags regs xmms values fill flags at _ _ _ _ t (dst fill flags xmms) h
+    extracts h = extract-done addresses tags regs xmms values fill rule flags at _ _ _ _ t (dst fill rule flags xmms) h
 
   module _ (is : is-inserts (byte-at bs at) ≡ true) (r : Loaded) (src : Loaded-at addresses tags regs values bs (at + 3) r) where
     abbrev Insert : Exit → Config → Type 0
@@ -274,7 +275,7 @@ module _ (addresses tags regs xmms values bs : List ℕ) (fill flags at : ℕ) w
         (behind bs (at + 3)) x u
 
     pub inserts-nothing : (r .number ≡ 0 → ⊥) → Insert (exit (r .number) at) s
-    inserts-nothing h = inserts-unread addresses tags regs xmms values fill flags at _ is _ _ _ _ r (src fill flags xmms) h
+    inserts-nothing h = inserts-unread addresses tags regs xmms values fill rule flags at _ is _ _ _ _ r (src fill rule flags xmms) h
 
     pub inserts :
         r .number ≡ 0 →
@@ -283,7 +284,7 @@ module _ (addresses tags regs xmms values bs : List ℕ) (fill flags at : ℕ) w
         quad32 q ≡ inserts-word (byte-at bs at) (quad32 x) (r .word) (byte-at bs (at + 2)) →
         xmms′ ≡ set-xmm xmms (byte-at bs (at + 1)) (quad32 q) →
         Insert (exit 0 (r .next)) (held regs xmms′ flags values)
-    inserts h = inserts-done addresses tags regs xmms values fill flags at _ is _ _ _ _ r (src fill flags xmms) h
+    inserts h = inserts-done addresses tags regs xmms values fill rule flags at _ is _ _ _ _ r (src fill rule flags xmms) h
 
   -- a destination and a source
   module _ (t : Slot) (r : Loaded) (w : Operands2 addresses tags regs values bs at t r) where
@@ -293,31 +294,31 @@ module _ (addresses tags regs xmms values bs : List ℕ) (fill flags at : ℕ) w
         (behind bs (behind bs (at + 1))) x u
 
     two-dst : Resolves env s (operand-at bs (at + 1)) (behind bs (at + 1)) t
-    two-dst = w .dst fill flags xmms
+    two-dst = w .dst fill rule flags xmms
 
     two-src : Loads env s (operand-at bs (behind bs (at + 1))) (behind bs (behind bs (at + 1))) r
-    two-src = load-at env s bs _ _ (two-dst .next) r (w .src fill flags xmms)
+    two-src = load-at env s bs _ _ (two-dst .next) r (w .src fill rule flags xmms)
 
     pub reads-nothing : (r .number ≡ 0 → ⊥) → Two (exit (r .number) at) s
-    reads-nothing = two-unread addresses tags regs xmms values fill flags at _ (w .kind) _ _ _ _ t r two-dst two-src
+    reads-nothing = two-unread addresses tags regs xmms values fill rule flags at _ (w .kind) _ _ _ _ t r two-dst two-src
 
     module _ (found : r .number ≡ 0) (far : Bool) (is-far : far ≡ (checks-amount (byte-at bs at) && leb 64 (r .word))) where
       pub shifts-too-far : far ≡ true → Two (exit 33 at) s
       shifts-too-far h =
-          two-amount addresses tags regs xmms values fill flags at _ (w .kind) _ _ _ _ t r two-dst two-src found (sym is-far ∙ h)
+          two-amount addresses tags regs xmms values fill rule flags at _ (w .kind) _ _ _ _ t r two-dst two-src found (sym is-far ∙ h)
 
       module _ (near : far ≡ false) where
         pub writes-nowhere : 1 < t .how → Two (exit (t .how) at) s
         writes-nowhere =
-            two-unwritten addresses tags regs xmms values fill flags at _ (w .kind) _ _ _ _ t r two-dst two-src found (sym is-far ∙ near)
+            two-unwritten addresses tags regs xmms values fill rule flags at _ (w .kind) _ _ _ _ t r two-dst two-src found (sym is-far ∙ near)
 
         pub writes :
             t .how ≤ 1 →
             (regs′ values′ : List ℕ) (v f : ℕ) →
             regs′ ≡ put-regs t v regs → values′ ≡ put-values t v values →
-            v ≡ two-word (byte-at bs at) flags (t .word) (r .word) → f ≡ two-flags (byte-at bs at) fill flags (t .word) (r .word) →
+            v ≡ two-word (byte-at bs at) flags (t .word) (r .word) → f ≡ two-flags (byte-at bs at) rule fill flags (t .word) (r .word) →
             Two (exit 0 (r .next)) (held regs′ xmms f values′)
-        writes = two-done addresses tags regs xmms values fill flags at _ (w .kind) _ _ _ _ t r two-dst two-src found (sym is-far ∙ near)
+        writes = two-done addresses tags regs xmms values fill rule flags at _ (w .kind) _ _ _ _ t r two-dst two-src found (sym is-far ∙ near)
 
   -- a destination and two sources
   module _ (t : Slot) (q r : Loaded) (w : Operands3 addresses tags regs values bs at t q r) where
@@ -328,24 +329,24 @@ module _ (addresses tags regs xmms values bs : List ℕ) (fill flags at : ℕ) w
         (behind bs (behind bs (behind bs (at + 1)))) x u
 
     lea-dst : Resolves env s (operand-at bs (at + 1)) (behind bs (at + 1)) t
-    lea-dst = w .dst fill flags xmms
+    lea-dst = w .dst fill rule flags xmms
 
     lea-one : Loads env s (operand-at bs (behind bs (at + 1))) (behind bs (behind bs (at + 1))) q
-    lea-one = load-at env s bs _ _ (lea-dst .next) q (w .one fill flags xmms)
+    lea-one = load-at env s bs _ _ (lea-dst .next) q (w .one fill rule flags xmms)
 
     lea-two : Loads env s (operand-at bs (behind bs (behind bs (at + 1)))) (behind bs (behind bs (behind bs (at + 1)))) r
-    lea-two = load-at env s bs _ _ (lea-one .next) r (w .two fill flags xmms)
+    lea-two = load-at env s bs _ _ (lea-one .next) r (w .two fill rule flags xmms)
 
     pub sum-unread : (q .number ≡ 0 → ⊥) → Lea (exit (q .number) at) s
-    sum-unread = lea-unread addresses tags regs xmms values fill flags at _ _ _ _ _ _ t q r lea-dst lea-one lea-two
+    sum-unread = lea-unread addresses tags regs xmms values fill rule flags at _ _ _ _ _ _ t q r lea-dst lea-one lea-two
 
     module _ (there : q .number ≡ 0) where
       pub sum-unread-second : (r .number ≡ 0 → ⊥) → Lea (exit (r .number) at) s
-      sum-unread-second = lea-unread-second addresses tags regs xmms values fill flags at _ _ _ _ _ _ t q r lea-dst lea-one lea-two there
+      sum-unread-second = lea-unread-second addresses tags regs xmms values fill rule flags at _ _ _ _ _ _ t q r lea-dst lea-one lea-two there
 
       module _ (found : r .number ≡ 0) where
         pub sum-unwritten : 1 < t .how → Lea (exit (t .how) at) s
-        sum-unwritten = lea-unwritten addresses tags regs xmms values fill flags at _ _ _ _ _ _ t q r lea-dst lea-one lea-two there found
+        sum-unwritten = lea-unwritten addresses tags regs xmms values fill rule flags at _ _ _ _ _ _ t q r lea-dst lea-one lea-two there found
 
         pub sum-done :
             t .how ≤ 1 →
@@ -353,7 +354,7 @@ module _ (addresses tags regs xmms values bs : List ℕ) (fill flags at : ℕ) w
             regs′ ≡ put-regs t v regs → values′ ≡ put-values t v values → v ≡ sum-mod 64 (q .word + r .word + 0) →
             Lea (exit 0 (r .next)) (held regs′ xmms flags values′)
         sum-done h regs′ values′ v a b c =
-            lea-done addresses tags regs xmms values fill flags at _ _ _ _ _ _ t q r lea-dst lea-one lea-two there found
+            lea-done addresses tags regs xmms values fill rule flags at _ _ _ _ _ _ t q r lea-dst lea-one lea-two there found
             h regs′ values′ v a b (c ∙ plus-none _ _)
 
   -- two destinations and a source
@@ -365,22 +366,22 @@ module _ (addresses tags regs xmms values bs : List ℕ) (fill flags at : ℕ) w
         (behind bs (behind bs (behind bs (at + 1)))) x u
 
     mulx-low : Resolves env s (operand-at bs (behind bs (at + 1))) (behind bs (behind bs (at + 1))) t
-    mulx-low = slot-at env s bs _ _ (w .is-second) t (w .low fill flags xmms)
+    mulx-low = slot-at env s bs _ _ (w .is-second) t (w .low fill rule flags xmms)
 
     mulx-src : Loads env s (operand-at bs (behind bs (behind bs (at + 1)))) (behind bs (behind bs (behind bs (at + 1)))) r
-    mulx-src = load-at env s bs _ _ (mulx-low .next) r (w .src fill flags xmms)
+    mulx-src = load-at env s bs _ _ (mulx-low .next) r (w .src fill rule flags xmms)
 
     pub product-unread : (r .number ≡ 0 → ⊥) → Mulx (exit (r .number) at) s
-    product-unread = mulx-unread addresses tags regs xmms values fill flags at _ _ _ _ _ t r mulx-low mulx-src
+    product-unread = mulx-unread addresses tags regs xmms values fill rule flags at _ _ _ _ _ t r mulx-low mulx-src
 
     pub product-unwritten : r .number ≡ 0 → 1 < t .how → Mulx (exit (t .how) at) s
-    product-unwritten = mulx-unwritten addresses tags regs xmms values fill flags at _ _ _ _ _ t r mulx-low mulx-src
+    product-unwritten = mulx-unwritten addresses tags regs xmms values fill rule flags at _ _ _ _ _ t r mulx-low mulx-src
 
   module _ (t : Slot) (r : Loaded) (lo hi : ℕ) (u : Slot) (w : Halves addresses tags regs values bs at t r lo hi u) where
     pub product-unresolved : 1 < u .how → Mulx t r (w .operands) (exit (u .how) at) s
     product-unresolved =
-        mulx-unresolved addresses tags regs xmms values fill flags at _ _ _ _ _ t r (mulx-low t r (w .operands)) (mulx-src t r (w .operands))
-        (w .found) (w .valid) lo hi (w .is-lo) (w .is-hi) (w .after) _ (w .is-after) refl _ u (w .high fill flags xmms)
+        mulx-unresolved addresses tags regs xmms values fill rule flags at _ _ _ _ _ t r (mulx-low t r (w .operands)) (mulx-src t r (w .operands))
+        (w .found) (w .valid) lo hi (w .is-lo) (w .is-hi) (w .after) _ (w .is-after) refl _ u (w .high fill rule flags xmms)
 
     pub product-done :
         u .how ≤ 1 →
@@ -389,8 +390,8 @@ module _ (addresses tags regs xmms values bs : List ℕ) (fill flags at : ℕ) w
         regs″ ≡ put-regs u hi regs′ → values″ ≡ put-values u hi values′ →
         Mulx t r (w .operands) (exit 0 (r .next)) (held regs″ xmms flags values″)
     product-done h regs′ values′ regs″ values″ a b c d =
-        mulx-done addresses tags regs xmms values fill flags at _ _ _ _ _ t r (mulx-low t r (w .operands)) (mulx-src t r (w .operands))
-        (w .found) (w .valid) lo hi (w .is-lo) (w .is-hi) (w .after) values′ (w .is-after) b _ u (w .high fill flags xmms)
+        mulx-done addresses tags regs xmms values fill rule flags at _ _ _ _ _ t r (mulx-low t r (w .operands)) (mulx-src t r (w .operands))
+        (w .found) (w .valid) lo hi (w .is-lo) (w .is-hi) (w .after) values′ (w .is-after) b _ u (w .high fill rule flags xmms)
         h regs″ values″ (c ∙ ap (put-regs u hi) (a ∙ sym (w .is-after))) d
 
 -- ---- an instruction: what its function is asked, and that this runs it
@@ -482,7 +483,7 @@ module _ (bs : List ℕ) (at : ℕ) (i : InsAt bs at) where
     word-shift-ran q = lanes _ _ (word-shift-stood bs at (i .0) (i .1) (i .2) q .stood)
 
   -- of the others
-  module _ (addresses tags regs xmms values : List ℕ) (fill flags : ℕ) (r : Exit) where
+  module _ (addresses tags regs xmms values : List ℕ) (fill : ℕ) (rule : FlagRule) (flags : ℕ) (r : Exit) where
     abbrev first : Operand
     first = operand-at bs (at + 1)
 
@@ -493,70 +494,70 @@ module _ (bs : List ℕ) (at : ℕ) (i : InsAt bs at) where
     third = operand-at bs (behind bs (behind bs (at + 1)))
 
     -- a run of j that ends at b, whatever the xmms are, is that of what stands there
-    abbrev WithXmms : Instruction → ℕ → List ℕ → ℕ → List ℕ → Type 0
-    WithXmms j b regs′ flags′ values′ =
+    abbrev WithXmms : FlagRule → Instruction → ℕ → List ℕ → ℕ → List ℕ → Type 0
+    WithXmms rule j b regs′ flags′ values′ =
         (xmms : List ℕ) →
-        Ran (run-ins (environment addresses tags fill) at j (held regs xmms flags values)) b r (held regs′ xmms flags′ values′)
+        Ran (run-ins (environment addresses tags fill rule) at j (held regs xmms flags values)) b r (held regs′ xmms flags′ values′)
 
     pub two-ran :
         (regs′ values′ : List ℕ) (flags′ : ℕ) (two : Bool) → two ≡ is-two (byte-at bs at) → two ≡ true →
-        WithXmms (two-ins (byte-at bs at) first second) (behind bs (behind bs (at + 1))) regs′ flags′ values′ →
-        RunsIns (environment addresses tags fill) bs at (held regs xmms flags values) r (held regs′ xmms flags′ values′)
+        WithXmms rule (two-ins (byte-at bs at) first second) (behind bs (behind bs (at + 1))) regs′ flags′ values′ →
+        RunsIns (environment addresses tags fill rule) bs at (held regs xmms flags values) r (held regs′ xmms flags′ values′)
     two-ran regs′ values′ flags′ two is h ran =
         ran-stood bs at _ 2 _ (two-stood bs at (i .0) (i .1) (i .2) _ (sym is ∙ h) refl) _ _ _ r (ran xmms)
 
     pub mul-ran :
         (regs′ : List ℕ) (flags′ : ℕ) → byte-at bs at ≡ 0x08 →
-        WithXmms (Mul64 first) (behind bs (at + 1)) regs′ flags′ values →
-        RunsIns (environment addresses tags fill) bs at (held regs xmms flags values) r (held regs′ xmms flags′ values)
+        ((rule : FlagRule) → WithXmms rule (Mul64 first) (behind bs (at + 1)) regs′ flags′ values) →
+        RunsIns (environment addresses tags fill rule) bs at (held regs xmms flags values) r (held regs′ xmms flags′ values)
     mul-ran regs′ flags′ q ran =
-        ran-stood bs at _ 1 _ (mul-stood bs at (i .0) (i .1) (i .2) q) _ _ _ r (ran xmms)
+        ran-stood bs at _ 1 _ (mul-stood bs at (i .0) (i .1) (i .2) q) _ _ _ r (ran rule xmms)
 
     -- a run of j, behind three operands, whatever the fill word, the flags and the xmms are
     abbrev WithFlags : Instruction → List ℕ → List ℕ → Type 0
     WithFlags j regs′ values′ =
-        (fill flags : ℕ) (xmms : List ℕ) →
-        Ran (run-ins (environment addresses tags fill) at j (held regs xmms flags values))
+        (fill : ℕ) (rule : FlagRule) (flags : ℕ) (xmms : List ℕ) →
+        Ran (run-ins (environment addresses tags fill rule) at j (held regs xmms flags values))
         (behind bs (behind bs (behind bs (at + 1)))) r (held regs′ xmms flags values′)
 
     pub lea-ran :
         (regs′ values′ : List ℕ) → byte-at bs at ≡ 0x03 → WithFlags (AddLea64 first second third) regs′ values′ →
-        RunsIns (environment addresses tags fill) bs at (held regs xmms flags values) r (held regs′ xmms flags values′)
+        RunsIns (environment addresses tags fill rule) bs at (held regs xmms flags values) r (held regs′ xmms flags values′)
     lea-ran regs′ values′ q ran =
-        ran-stood bs at _ 3 _ (lea-stood bs at (i .0) (i .1) (i .2) q) _ _ _ r (ran fill flags xmms)
+        ran-stood bs at _ 3 _ (lea-stood bs at (i .0) (i .1) (i .2) q) _ _ _ r (ran fill rule flags xmms)
 
     pub mulx-ran :
         (regs′ values′ : List ℕ) → byte-at bs at ≡ 0x09 → WithFlags (Mulx64 first second third) regs′ values′ →
-        RunsIns (environment addresses tags fill) bs at (held regs xmms flags values) r (held regs′ xmms flags values′)
+        RunsIns (environment addresses tags fill rule) bs at (held regs xmms flags values) r (held regs′ xmms flags values′)
     mulx-ran regs′ values′ q ran =
-        ran-stood bs at _ 3 _ (mulx-stood bs at (i .0) (i .1) (i .2) q) _ _ _ r (ran fill flags xmms)
+        ran-stood bs at _ 3 _ (mulx-stood bs at (i .0) (i .1) (i .2) q) _ _ _ r (ran fill rule flags xmms)
 
     pub quads-ran :
         (xmms′ : List ℕ) (flags′ : ℕ) → is-quads (byte-at bs at) ≡ true →
-        ((addresses tags regs values : List ℕ) →
-        Ran (run-ins (environment addresses tags fill) at (quads-ins (byte-at bs at) (byte 1) (byte 2)) (held regs xmms flags values))
+        ((rule : FlagRule) (addresses tags regs values : List ℕ) →
+        Ran (run-ins (environment addresses tags fill rule) at (quads-ins (byte-at bs at) (byte 1) (byte 2)) (held regs xmms flags values))
         (at + 3) r (held regs xmms′ flags′ values)) →
-        RunsIns (environment addresses tags fill) bs at (held regs xmms flags values) r (held regs xmms′ flags′ values)
+        RunsIns (environment addresses tags fill rule) bs at (held regs xmms flags values) r (held regs xmms′ flags′ values)
     quads-ran xmms′ flags′ h ran =
-        ran-stood bs at _ 0 _ (quads-stood bs at (i .0) (i .1) (i .2) _ h refl .stood) _ _ _ r (ran addresses tags regs values)
+        ran-stood bs at _ 0 _ (quads-stood bs at (i .0) (i .1) (i .2) _ h refl .stood) _ _ _ r (ran rule addresses tags regs values)
 
     pub extract-ran :
         (regs′ values′ : List ℕ) → byte-at bs at ≡ 0x15 →
-        ((fill flags : ℕ) →
-        Ran (run-ins (environment addresses tags fill) at (Pextrq (operand-at bs (at + 3)) (byte 1) (byte 2)) (held regs xmms flags values))
+        ((fill : ℕ) (rule : FlagRule) (flags : ℕ) →
+        Ran (run-ins (environment addresses tags fill rule) at (Pextrq (operand-at bs (at + 3)) (byte 1) (byte 2)) (held regs xmms flags values))
         (behind bs (at + 3)) r (held regs′ xmms flags values′)) →
-        RunsIns (environment addresses tags fill) bs at (held regs xmms flags values) r (held regs′ xmms flags values′)
+        RunsIns (environment addresses tags fill rule) bs at (held regs xmms flags values) r (held regs′ xmms flags values′)
     extract-ran regs′ values′ q ran =
-        ran-stood bs at _ 1 _ (extract-stood bs at (i .0) (i .1) (i .2) q .stood) _ _ _ r (ran fill flags)
+        ran-stood bs at _ 1 _ (extract-stood bs at (i .0) (i .1) (i .2) q .stood) _ _ _ r (ran fill rule flags)
 
     pub inserts-ran :
         (xmms′ : List ℕ) → is-inserts (byte-at bs at) ≡ true →
-        ((fill flags : ℕ) →
-        Ran (run-ins (environment addresses tags fill) at (inserts-ins (byte-at bs at) (byte 1) (operand-at bs (at + 3)) (byte 2))
+        ((fill : ℕ) (rule : FlagRule) (flags : ℕ) →
+        Ran (run-ins (environment addresses tags fill rule) at (inserts-ins (byte-at bs at) (byte 1) (operand-at bs (at + 3)) (byte 2))
         (held regs xmms flags values)) (behind bs (at + 3)) r (held regs xmms′ flags values)) →
-        RunsIns (environment addresses tags fill) bs at (held regs xmms flags values) r (held regs xmms′ flags values)
+        RunsIns (environment addresses tags fill rule) bs at (held regs xmms flags values) r (held regs xmms′ flags values)
     inserts-ran xmms′ h ran =
-        ran-stood bs at _ 1 _ (inserts-stood bs at (i .0) (i .1) (i .2) _ h refl .stood) _ _ _ r (ran fill flags)
+        ran-stood bs at _ 1 _ (inserts-stood bs at (i .0) (i .1) (i .2) _ h refl .stood) _ _ _ r (ran fill rule flags)
 
 -- ---- a structure: the places of its lengths fit, inside the bytes, of which there are fewer than 2 ^ 63
 module _ (bs : List ℕ) (at : ℕ) (c : CodeAt bs at) (k : 0x20 ≤ byte-at bs at) where
@@ -876,13 +877,14 @@ module _ (env : Env) (limit : Option ℕ) (bs : List ℕ) (at fuel m : ℕ) (s�
 pub is-accepted : (v : Checked) (w : Verdict) → verdict v ≡ w → v ≡ Accepted → w ≡ accepted
 is-accepted v w is e = sym is ∙ ap verdict e
 
-module _ (bs addresses tags : List ℕ) (fill fuel : ℕ) (limit : Option ℕ) (s : Config) (v : Checked) (is-code : verdict v ≡ check-code bs) where
+module _ (bs addresses tags : List ℕ) (fill : ℕ) (rule : FlagRule) (fuel : ℕ) (limit : Option ℕ) (s : Config) (v : Checked)
+    (is-code : verdict v ≡ check-code bs) where
   pub refused-code :
-      (n p : ℕ) → v ≡ Refused n p → ended (Config.refused n p) s nothing-counted ≡ run-of bs (environment addresses tags fill) fuel limit s
+      (n p : ℕ) → v ≡ Refused n p → ended (Config.refused n p) s nothing-counted ≡ run-of bs (environment addresses tags fill rule) fuel limit s
   refused-code n p e = code-refused bs _ fuel limit s n p (sym is-code ∙ ap verdict e)
 
   pub refused-cells :
       v ≡ Accepted → (u : Checked) → verdict u ≡ check-cells addresses tags (s .values) → (n i : ℕ) → u ≡ Refused n i →
-      ended (Config.refused n i) s nothing-counted ≡ run-of bs (environment addresses tags fill) fuel limit s
+      ended (Config.refused n i) s nothing-counted ≡ run-of bs (environment addresses tags fill rule) fuel limit s
   refused-cells e u is n i f =
       cells-refused bs _ fuel limit s (is-accepted v _ is-code e) n i (sym is ∙ ap verdict f)

@@ -19,6 +19,7 @@ use Rattle.code.specs.Records.{operand-at, behind}
 use Rattle.code.specs.Families.{is-two, two-ins}
 use Rattle.code.proofs.Passing.{and-both}
 use Rattle.code.proofs.Families.{after, Stood, same-two}
+use Rattle.eval.specs.FlagRule.{FlagRule}
 use Rattle.eval.specs.Config.{Env, Config, with-regs, with-values, with-flags, End, ends, done, check}
 use Rattle.eval.specs.Instructions.{checks-amount, two-word, two-flags, valid-operand, eval-operand, valid-dst-operand, update-operand, act, run-ins}
 use Rattle.eval.specs.Promises.{environment, held, Loads, Resolves, put-regs, put-values, how, Ran, RunsIns}
@@ -81,7 +82,7 @@ module _ (env : Env) (p : ℕ) (dst src : Operand) (s : Config) where
   two-write k =
       write env p dst
       (two-word k (s .flags) (eval-operand env dst s) (eval-operand env src s))
-      (two-flags k (env .fill) (s .flags) (eval-operand env dst s) (eval-operand env src s))
+      (two-flags k (env .rule) (env .fill) (s .flags) (eval-operand env dst s) (eval-operand env src s))
       s
 
   -- the check of a shift's amount
@@ -110,9 +111,9 @@ module _ (env : Env) (p : ℕ) (dst src : Operand) (s : Config) where
       let w = and-both (checks-amount k) (leb 64 b) h in
       rw (w .0, ← q, le-ltb b 64 (leb-true 64 b (w .1)))
 
-module _ (addresses tags regs xmms values : List ℕ) (fill flags p : ℕ) where
+module _ (addresses tags regs xmms values : List ℕ) (fill : ℕ) (rule : FlagRule) (flags p : ℕ) where
   abbrev env : Env
-  env = environment addresses tags fill
+  env = environment addresses tags fill rule
 
   abbrev s : Config
   s = held regs xmms flags values
@@ -150,7 +151,7 @@ module _ (addresses tags regs xmms values : List ℕ) (fill flags p : ℕ) where
             regs′ ≡ put-regs t v regs →
             values′ ≡ put-values t v values →
             v ≡ two-word k flags (t .word) (r .word) →
-            f ≡ two-flags k fill flags (t .word) (r .word) →
+            f ≡ two-flags k rule fill flags (t .word) (r .word) →
             Two (exit 0 (r .next)) (held regs′ xmms f values′)
         two-done h regs′ values′ v f a b c d =
             finished _ n (r .next) p _

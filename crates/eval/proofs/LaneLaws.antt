@@ -15,6 +15,7 @@ use Rattle.code.specs.declared.tree.Instruction.{Instruction}
 use Rattle.code.specs.declared.tree.Instruction.the-variants.{Pshufd, Pextrq, VPSLLDQ}
 use Rattle.code.specs.Families.{is-quads, is-shifts, is-inserts, quads-ins, shifts-ins, inserts-ins}
 use Rattle.code.proofs.Families.{by-quads-ins, by-shifts-ins, by-inserts-ins}
+use Rattle.eval.specs.FlagRule.{FlagRule}
 use Rattle.eval.specs.Config.{Env, Config, check}
 use Rattle.eval.specs.Instructions.{quads-word, quads-flags, shifts-word, inserts-word, eval-operand, act, run-ins}
 use Rattle.eval.specs.Promises.{environment, held, Loads, Resolves, put-regs, put-values, how, Ran}
@@ -103,9 +104,9 @@ module _ (env : Env) (p : ℕ) (regs xmms values : List ℕ) (flags : ℕ) where
     unfolding check
     shifts-fail l = failed _ b 34 p s (shifts-shape ∙ rw (le-ltb amount 32 (omega arith))) (λ h. omega arith)
 
-module _ (addresses tags regs xmms values : List ℕ) (fill flags p : ℕ) where
+module _ (addresses tags regs xmms values : List ℕ) (fill : ℕ) (rule : FlagRule) (flags p : ℕ) where
   abbrev env : Env
-  env = environment addresses tags fill
+  env = environment addresses tags fill rule
 
   abbrev now-s : Config
   now-s = held regs xmms flags values

@@ -23,6 +23,7 @@ use Rattle.code.specs.Forms.{form-of}
 use Rattle.code.specs.declared.records.Form.{Form}
 use Rattle.code.specs.declared.records.Form.the-variants.{Memory}
 use Rattle.code.proofs.Forms.{memory-is}
+use Rattle.eval.specs.FlagRule.{FlagRule}
 use Rattle.eval.specs.Config.{Env, Config, with-values}
 use Rattle.eval.specs.Instructions.{cell-of, valid-operand, eval-operand, valid-dst-operand, update-operand}
 use Rattle.eval.specs.Promises.{environment, held, Cells, Seeks, Loads, Resolves, no-slot}
@@ -50,18 +51,18 @@ valid-whatever env (OConst n) s values = refl
 valid-whatever env (OReg r) s values = refl
 valid-whatever env (OMem m) s values = refl
 
-module _ (addresses tags regs values : List ℕ) (o : Operand) (next : ℕ) (fill flags : ℕ) (xmms : List ℕ) where
+module _ (addresses tags regs values : List ℕ) (o : Operand) (next : ℕ) (fill : ℕ) (rule : FlagRule) (flags : ℕ) (xmms : List ℕ) where
   abbrev Load : Loaded → Type 0
-  Load r = Loads (environment addresses tags fill) (held regs xmms flags values) o next r
+  Load r = Loads (environment addresses tags fill rule) (held regs xmms flags values) o next r
 
   abbrev Resolve : Slot → Type 0
-  Resolve t = Resolves (environment addresses tags fill) (held regs xmms flags values) o next t
+  Resolve t = Resolves (environment addresses tags fill rule) (held regs xmms flags values) o next t
 
   -- ---- what is no destination
   no-destination :
       (n : ℕ) → 1 < n → n ≡ wild-or 32 o regs →
       (t : Slot) → t ≡ no-slot n next →
-      valid-dst-operand (environment addresses tags fill) o (held regs xmms flags values) ≡ false → Resolve t
+      valid-dst-operand (environment addresses tags fill rule) o (held regs xmms flags values) ≡ false → Resolve t
   no-destination n l is t e invalid =
       rw e record {
         valid = λ h. absurd (omega (arith, h, l));
@@ -153,7 +154,7 @@ module _ (addresses tags regs values : List ℕ) (o : Operand) (next : ℕ) (fil
       nowhere : (is-cell there ≡ false) × (f .number ≡ wild-or absent o regs)
       nowhere = let w = fails (is-cell there) (f .number) _ (found m q .number) e in (w .0, rw q (w .1))
 
-      unreadable : valid-operand (environment addresses tags fill) o (held regs xmms flags values) ≡ false
+      unreadable : valid-operand (environment addresses tags fill rule) o (held regs xmms flags values) ≡ false
       unfolding valid-operand cell-of
       unreadable = rw q (nowhere .0)
 

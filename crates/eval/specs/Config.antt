@@ -4,14 +4,16 @@ use mathlib.Core.Path.{_≡_}
 use mathlib.Core.Bool.{Bool, true, false}
 use mathlib.Core.List.{List}
 use Rattle.machine.specs.declared.State.{State}
+use Rattle.eval.specs.FlagRule.{FlagRule}
 use Rattle.eval.specs.declared.answer.Answer.{Answer}
 use Rattle.eval.specs.declared.answer.Answer.the-variants.{Done, Fault, Stopped, Spent, Refused}
 
--- what is constant in a run: the cells' addresses and tags, and the fill word
+-- what is constant in a run: the cells' addresses and tags, the fill word, and the flag rule
 pub record Env : Type 0 where
   pub addresses : List ℕ
   pub tags : List ℕ
   pub fill : ℕ
+  pub rule : FlagRule
 
 -- what changes in a run: registers, xmm words, flags, and the cells' values
 pub record Config : Type 0 where

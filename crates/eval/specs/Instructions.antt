@@ -24,11 +24,8 @@ use Rattle.code.specs.declared.tree.Ocmp.{Ocmp}
 use Rattle.code.specs.declared.tree.Ocmp.the-variants.{OEq, ONe, OLe, OGe, OLt, OGt}
 use Rattle.code.specs.Layout.{ocmp-layout}
 use Rattle.code.specs.Families.{at-kind}
+use Rattle.eval.specs.FlagRule.{FlagRule}
 use Rattle.eval.specs.Config.{Env, Config, with-regs, with-xmms, with-flags, with-values, End, ends, done, check}
-
--- the new flags of Add64 and AddCarry64: the old but for the carry of the sum of the operands a and b and the old carry c (0 in Add64)
-unfoldable pub add-flags : (fill flags a b c : ℕ) → ℕ
-add-flags fill flags a b c = update-cf flags (sum-carry 64 (a + b + c))
 
 -- the word that an instruction of a destination and a source writes, of their words a and b: Mov64, Add64, AddCarry64, Adcx64, Adox64, Sub64,
 -- IMul64, Xor64, And64, Shr64, Shl64, Popcnt64, Lzcnt64, Tzcnt64
@@ -49,13 +46,13 @@ two-word k flags a b =
     (at-kind k 0x1a (lzcnt 64 b)
     (at-kind k 0x1b (tzcnt 64 b) 0)))))))))))))
 
--- the flags that it leaves: Mov64 keeps the old ones, sums change one of them, Xor64 and Popcnt64 clear two of the fill word's, Lzcnt64 and
--- Tzcnt64 set the fill word's carry exactly for a source of 0, and the others leave the fill word
-unfoldable pub two-flags : (k fill flags a b : ℕ) → ℕ
-two-flags k fill flags a b =
+-- the flags that it leaves: Mov64 keeps the old ones, Add64 and AddCarry64 go by the flag rule, Adcx64 and Adox64 change one of the old ones, Xor64
+-- and Popcnt64 clear two of the fill word's, Lzcnt64 and Tzcnt64 set the fill word's carry exactly for a source of 0, and the others leave the fill word
+unfoldable pub two-flags : (k : ℕ) → FlagRule → (fill flags a b : ℕ) → ℕ
+two-flags k rule fill flags a b =
     at-kind k 0x01 flags
-    (at-kind k 0x02 (add-flags fill flags a b 0)
-    (at-kind k 0x04 (add-flags fill flags a b (bit (cf flags)))
+    (at-kind k 0x02 (rule fill flags a b 0)
+    (at-kind k 0x04 (rule fill flags a b (bit (cf flags)))
     (at-kind k 0x05 (update-cf flags (sum-carry 64 (a + b + bit (cf flags))))
     (at-kind k 0x06 (update-of flags (sum-carry 64 (a + b + bit (overflow flags))))
     (at-kind k 0x0b (update-cf (update-of fill false) false)
@@ -174,14 +171,14 @@ module _ (env : Env) where
   two-act k dst src s =
       let a = eval-operand dst s in
       let b = eval-operand src s in
-      to-operand (src ∷ []) [] dst (two-word k (s .flags) a b) (two-flags k (env .fill) (s .flags) a b)
+      to-operand (src ∷ []) [] dst (two-word k (s .flags) a b) (two-flags k (env .rule) (env .fill) (s .flags) a b)
 
   -- a shift; 33: its amount is 64 or more
   abbrev pub shift-act : ℕ → Operand → Operand → Config → Act
   shift-act k dst amt s =
       let a = eval-operand dst s in
       let b = eval-operand amt s in
-      to-operand (amt ∷ []) ((ltb b 64, 33) ∷ []) dst (two-word k (s .flags) a b) (two-flags k (env .fill) (s .flags) a b)
+      to-operand (amt ∷ []) ((ltb b 64, 33) ∷ []) dst (two-word k (s .flags) a b) (two-flags k (env .rule) (env .fill) (s .flags) a b)
 
   -- an instruction of two quads, by its kind
   abbrev pub quads-act : ℕ → ℕ → ℕ → Config → Act

@@ -1,3 +1,4 @@
+pub mod FlagRule
 pub mod Config
 pub mod Instructions
 pub mod Counted

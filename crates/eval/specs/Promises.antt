@@ -18,6 +18,7 @@ use Rattle.code.specs.declared.tree.Ocmp.{Ocmp}
 use Rattle.code.specs.Tree.{Code, Codes}
 use Rattle.code.specs.Records.{is-ins, is-ocmp, byte-at, number-at, ins-at, ocmp-at}
 use Rattle.code.specs.Spells.{Stands, Spells, SpellsAll}
+use Rattle.eval.specs.FlagRule.{FlagRule}
 use Rattle.eval.specs.Config.{Env, Config, with-regs, with-flags, with-values, Outcome, done, fault, stopped, spent, End}
 use Rattle.eval.specs.Config as Config
 use Rattle.eval.specs.Instructions.{valid-operand, eval-operand, valid-dst-operand, update-operand, valid-ocmp, ocmp-number, eval-ocmp, run-ins}
@@ -33,8 +34,8 @@ use Rattle.eval.specs.declared.arithmetic.Effect.{Effect}
 
 -- ---- what is lent
 -- the environment of lent addresses and tags
-abbrev pub environment : List ℕ → List ℕ → ℕ → Env
-environment addresses tags fill = record { addresses = addresses; tags = tags; fill = fill }
+abbrev pub environment : List ℕ → List ℕ → ℕ → FlagRule → Env
+environment addresses tags fill rule = record { addresses = addresses; tags = tags; fill = fill; rule = rule }
 
 -- the configuration of lent parts
 abbrev pub held : List ℕ → List ℕ → ℕ → List ℕ → Config
@@ -218,10 +219,10 @@ way-from bs at chooses x =
 abbrev Lent : Type 0 → Type 0
 Lent A = Both (RefT A) (RefT A)
 
-module _ (code : Lent (List ℕ)) (fill : ℕ) (regs xmms : Lent (List ℕ)) (flags : Lent ℕ) (addresses tags values : Lent (List ℕ)) where
+module _ (code : Lent (List ℕ)) (fill : ℕ) (rule : FlagRule) (regs xmms : Lent (List ℕ)) (flags : Lent ℕ) (addresses tags values : Lent (List ℕ)) where
   -- the environment that is lent
   abbrev env : Env
-  env = environment (now (addresses .entry)) (now (tags .entry)) fill
+  env = environment (now (addresses .entry)) (now (tags .entry)) fill rule
 
   -- the configuration that is given
   abbrev given : Config

@@ -16,9 +16,16 @@ pub struct Run {
     pub steps: u64,
 }
 
+// Which flags Add64 and AddCarry64 leave: F*'s, or those of the board.
+pub enum Evaluation {
+    Base,
+    Board,
+}
+
 // What a caller names for a run beside code, cells and start.
 pub struct Setting {
     pub fill: u64,
     pub fuel: u32,
     pub limit: u64,
+    pub evaluation: Evaluation,
 }

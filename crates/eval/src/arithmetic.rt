@@ -1,14 +1,17 @@
 // The words and flags of the instructions of a destination and a source.
 ghost use mathlib.Core.Path.{_≡_};
 ghost use mathlib.Core.Bool.{true, false};
-ghost use Prim.Native.Nat.{_+_};
+ghost use Prim.Native.Nat.{ℕ, _+_};
 ghost use lib.Dec.{eqb};
 ghost use Rattle.words.specs.Bits.{bit};
 ghost use Rattle.words.specs.Flags as Flags;
 ghost use Rattle.words.specs.Sums.{sum-mod, sum-carry};
 ghost use Rattle.code.specs.Families.{is-two};
-ghost use Rattle.eval.specs.Instructions.{add-flags, two-word, two-flags};
+ghost use Rattle.eval.specs.FlagRule.{base-flags, board-flags, flag-rule};
+ghost use Rattle.eval.specs.Instructions.{two-word, two-flags};
 ghost use Rattle.eval.specs.Promises.{IsEffect};
+use crate::answer::Evaluation;
+use words::add_overflows;
 use words::add64;
 use words::cf;
 use words::iand64;
@@ -30,14 +33,37 @@ pub struct Effect {
     pub flags: u64,
 }
 
-// Add64 and AddCarry64.
-fn addition(fill: u64, flags: u64, a: u64, b: u64, carry: bool) -> Effect
-    ensures { λ r. ⌜ IsEffect (sum-mod 64 (a + b + bit carry)) (add-flags fill flags a b (bit carry)) r ⌝ }
+// Add64 and AddCarry64 as F* has them.
+fn base_addition(flags: u64, a: u64, b: u64, carry: bool) -> Effect
+    ensures { λ r. ⌜ ((fill : ℕ) → IsEffect (sum-mod 64 (a + b + bit carry)) (base-flags fill flags a b (bit carry)) r) ⌝ }
 {
     let sum = add64(a, b, carry);
     Effect {
         word: sum.word,
         flags: update_cf(flags, sum.carry),
+    }
+}
+
+// On the board.
+fn board_addition(fill: u64, a: u64, b: u64, carry: bool) -> Effect
+    ensures { λ r. ⌜ ((flags : ℕ) → IsEffect (sum-mod 64 (a + b + bit carry)) (board-flags fill flags a b (bit carry)) r) ⌝ }
+{
+    let sum = add64(a, b, carry);
+    let filled = update_of(fill, add_overflows(a, b, carry));
+    Effect {
+        word: sum.word,
+        flags: update_cf(filled, sum.carry),
+    }
+}
+
+// Each computes the sum by itself: with the sum ahead of the choice, the compiler keeps both operands for the board, and all
+// other instructions pay for that.
+fn addition(evaluation: Evaluation, fill: u64, flags: u64, a: u64, b: u64, carry: bool) -> Effect
+    ensures { λ r. ⌜ IsEffect (sum-mod 64 (a + b + bit carry)) (flag-rule evaluation fill flags a b (bit carry)) r ⌝ }
+{
+    match evaluation {
+        Evaluation::Base => base_addition(flags, a, b, carry),
+        Evaluation::Board => board_addition(fill, a, b, carry),
     }
 }
 
@@ -83,14 +109,14 @@ fn carry_for_zero(fill: u64, source: u64) -> u64
     update_cf(fill, source == 0)
 }
 
-pub fn effect_of(kind: u8, fill: u64, flags: u64, a: u64, b: u64) -> Effect
+pub fn effect_of(kind: u8, evaluation: Evaluation, fill: u64, flags: u64, a: u64, b: u64) -> Effect
     requires { ⌜ is-two kind ≡ true ⌝ }
-    ensures { λ r. ⌜ IsEffect (two-word kind flags a b) (two-flags kind fill flags a b) r ⌝ }
+    ensures { λ r. ⌜ IsEffect (two-word kind flags a b) (two-flags kind (flag-rule evaluation) fill flags a b) r ⌝ }
 {
     match kind {
         0x01 => Effect { word: b, flags },
-        0x02 => addition(fill, flags, a, b, false),
-        0x04 => addition(fill, flags, a, b, cf(flags)),
+        0x02 => addition(evaluation, fill, flags, a, b, false),
+        0x04 => addition(evaluation, fill, flags, a, b, cf(flags)),
         0x05 => carry_addition(flags, a, b),
         0x06 => overflow_addition(flags, a, b),
         0x07 => Effect {

@@ -4,6 +4,7 @@ ghost use mathlib.Core.Bool.{true};
 ghost use mathlib.Core.List.{List};
 ghost use Prim.Native.Nat.{ℕ};
 ghost use Rattle.code.specs.Records.{is-ocmp};
+ghost use Rattle.eval.specs.FlagRule.{FlagRule};
 ghost use Rattle.eval.specs.Promises.{environment, held, Cells, comparison, OcmpAt, ComparesAt};
 use crate::operand::load;
 
@@ -42,8 +43,8 @@ pub fn compare(
     requires { ⌜ OcmpAt (now code) at ⌝ }
     requires { ⌜ Cells (now addresses) (now tags) (now values) ⌝ }
     ensures { λ r. ⌜
-        ((fill flags : ℕ) (xmms : List ℕ) →
-        ComparesAt (environment (now (addresses .entry)) (now (tags .entry)) fill) (now (code .entry)) at
+        ((fill : ℕ) (rule : FlagRule) (flags : ℕ) (xmms : List ℕ) →
+        ComparesAt (environment (now (addresses .entry)) (now (tags .entry)) fill rule) (now (code .entry)) at
         (held (now (regs .entry)) xmms flags (now (values .entry))) r)
         ⌝ }
 {

@@ -5,7 +5,9 @@ ghost use mathlib.Core.Path.{_≡_};
 ghost use mathlib.Core.Bool.{false};
 ghost use Prim.Native.Nat.{_+_, _^_, _≤_, _<_};
 ghost use Rattle.code.specs.Records.{byte-at};
+ghost use Rattle.eval.specs.FlagRule.{flag-rule};
 ghost use Rattle.eval.specs.Promises.{Cells, CodeAt, CodesAt, codes-from, TestedAt, test-at, BehindTest, way-from, part-fuel, Evaluates, EvaluatesAll};
+use crate::answer::Evaluation;
 use crate::comparison::Compared;
 use crate::exit::Exit;
 use crate::step::COUNTED;
@@ -78,7 +80,6 @@ pub fn eval_codes(
     from: usize,
     end: usize,
     fuel: u32,
-    fill: u64,
     regs: &mut [u64; 16],
     xmms: &mut [u32; 64],
     flags: &mut u64,
@@ -87,10 +88,12 @@ pub fn eval_codes(
     values: &mut [u64],
     counted: &mut [u64; COUNTED],
     limit: u64,
+    fill: u64,
+    evaluation: Evaluation,
 ) -> Exit
     requires { ⌜ CodesAt (now code) from end ⌝ }
     requires { ⌜ Cells (now addresses) (now tags) (now values) ⌝ }
-    ensures { λ r. ⌜ EvaluatesAll code fill regs xmms flags addresses tags values counted limit from end fuel r ⌝ }
+    ensures { λ r. ⌜ EvaluatesAll code fill (flag-rule evaluation) regs xmms flags addresses tags values counted limit from end fuel r ⌝ }
 {
     let mut next = from;
     while next < end {
@@ -100,6 +103,7 @@ pub fn eval_codes(
                 code,
                 next,
                 fill,
+                evaluation,
                 regs,
                 xmms,
                 flags,
@@ -120,7 +124,6 @@ pub fn eval_codes(
                 code,
                 next,
                 fuel,
-                fill,
                 regs,
                 xmms,
                 flags,
@@ -129,6 +132,8 @@ pub fn eval_codes(
                 values,
                 counted,
                 limit,
+                fill,
+                evaluation,
             );
             if went.number != 0 {
                 return went;
@@ -148,7 +153,6 @@ fn eval_code(
     code: &[u8],
     at: usize,
     fuel: u32,
-    fill: u64,
     regs: &mut [u64; 16],
     xmms: &mut [u32; 64],
     flags: &mut u64,
@@ -157,11 +161,13 @@ fn eval_code(
     values: &mut [u64],
     counted: &mut [u64; COUNTED],
     limit: u64,
+    fill: u64,
+    evaluation: Evaluation,
 ) -> Exit
     requires { ⌜ CodeAt (now code) at ⌝ }
     requires { ⌜ 0x21 ≤ byte-at (now code) at ⌝ }
     requires { ⌜ Cells (now addresses) (now tags) (now values) ⌝ }
-    ensures { λ r. ⌜ Evaluates code fill regs xmms flags addresses tags values counted limit at fuel r ⌝ }
+    ensures { λ r. ⌜ Evaluates code fill (flag-rule evaluation) regs xmms flags addresses tags values counted limit at fuel r ⌝ }
 {
     let chooses = code[at] == 0x21;
     let test = test_at(at, chooses);
@@ -188,7 +194,6 @@ fn eval_code(
             first_code(code, way.part),
             way.behind,
             given,
-            fill,
             regs,
             xmms,
             flags,
@@ -197,6 +202,8 @@ fn eval_code(
             values,
             counted,
             limit,
+            fill,
+            evaluation,
         );
         if ran.number != 0 {
             // Made anew, since a copy of the struct would copy the bytes between its fields too.

@@ -1,7 +1,9 @@
 // One instruction, by its kind: in two levels, so that each stays small. What comes most often is asked first.
 ghost use Prim.Native.Nat.{_≤_, _<_};
 ghost use lib.ListN.{getD};
+ghost use Rattle.eval.specs.FlagRule.{FlagRule, flag-rule};
 ghost use Rattle.eval.specs.Promises.{Cells, InsAt, EvaluatesIns};
+use crate::answer::Evaluation;
 use crate::exit::Exit;
 use crate::lanes::extract;
 use crate::lanes::insert;
@@ -31,7 +33,7 @@ fn lane_instruction(
     requires { ⌜ InsAt (now code) at ⌝ }
     requires { ⌜ (0x0f ≤ getD (now code) at 0) × (getD (now code) at 0 < 0x19) ⌝ }
     requires { ⌜ Cells (now addresses) (now tags) (now values) ⌝ }
-    ensures { λ r. ⌜ EvaluatesIns code fill regs xmms flags addresses tags values at r ⌝ }
+    ensures { λ r. ⌜ ((rule : FlagRule) → EvaluatesIns code fill rule regs xmms flags addresses tags values at r) ⌝ }
 {
     match code[at] {
         0x0f => two_quads(code, at, fill, xmms, flags),
@@ -55,6 +57,7 @@ pub fn instruction(
     code: &[u8],
     at: usize,
     fill: u64,
+    evaluation: Evaluation,
     regs: &mut [u64; 16],
     xmms: &mut [u32; 64],
     flags: &mut u64,
@@ -64,11 +67,21 @@ pub fn instruction(
 ) -> Exit
     requires { ⌜ InsAt (now code) at ⌝ }
     requires { ⌜ Cells (now addresses) (now tags) (now values) ⌝ }
-    ensures { λ r. ⌜ EvaluatesIns code fill regs xmms flags addresses tags values at r ⌝ }
+    ensures { λ r. ⌜ EvaluatesIns code fill (flag-rule evaluation) regs xmms flags addresses tags values at r ⌝ }
 {
     let kind = code[at];
     if is_two(kind) {
-        return two_operands(code, at, fill, regs, flags, addresses, tags, values);
+        return two_operands(
+            code,
+            at,
+            fill,
+            evaluation,
+            regs,
+            flags,
+            addresses,
+            tags,
+            values,
+        );
     }
     if 0x0e < kind {
         return lane_instruction(code, at, fill, regs, xmms, flags, addresses, tags, values);

@@ -9,6 +9,7 @@ ghost use Rattle.code.specs.declared.tree.Instruction.the-variants.{Pshufd, VPS
 ghost use Rattle.code.specs.Records.{operand-at, behind};
 ghost use Rattle.code.specs.Spells.{OperandsFrom};
 ghost use Rattle.code.specs.Families.{is-quads, is-shifts, is-inserts, quads-ins, shifts-ins, inserts-ins};
+ghost use Rattle.eval.specs.FlagRule.{FlagRule};
 ghost use Rattle.eval.specs.Config.{Env};
 ghost use Rattle.eval.specs.Instructions.{quads-word, quads-flags, shifts-word, inserts-word, run-ins};
 ghost use Rattle.eval.specs.Promises.{environment, held, Cells, Ran};
@@ -57,8 +58,8 @@ pub fn two_quads(code: &[u8], at: usize, fill: u64, xmms: &mut [u32; 64], flags:
     requires { ⌜ getD (now code) (at + 2) 0 < 16 ⌝ }
     requires { ⌜ is-quads (getD (now code) at 0) ≡ true ⌝ }
     ensures { λ r. ⌜
-        ((addresses tags regs values : List ℕ) →
-        Ran (run-ins (environment addresses tags fill) at
+        ((rule : FlagRule) (addresses tags regs values : List ℕ) →
+        Ran (run-ins (environment addresses tags fill rule) at
         (quads-ins (getD (now (code .entry)) at 0) (getD (now (code .entry)) (at + 1) 0) (getD (now (code .entry)) (at + 2) 0))
         (held regs (now (xmms .entry)) (now (flags .entry)) values)) (at + 3) r
         (held regs (now (xmms .exit)) (now (flags .exit)) values))
@@ -177,8 +178,8 @@ pub fn extract(
     requires { ⌜ getD (now code) (at + 1) 0 < 16 ⌝ }
     requires { ⌜ Cells (now addresses) (now tags) (now values) ⌝ }
     ensures { λ r. ⌜
-        ((fill flags : ℕ) →
-        Ran (run-ins (environment (now (addresses .entry)) (now (tags .entry)) fill) at
+        ((fill : ℕ) (rule : FlagRule) (flags : ℕ) →
+        Ran (run-ins (environment (now (addresses .entry)) (now (tags .entry)) fill rule) at
         (Pextrq (operand-at (now (code .entry)) (at + 3)) (getD (now (code .entry)) (at + 1) 0)
         (getD (now (code .entry)) (at + 2) 0))
         (held (now (regs .entry)) (now (xmms .entry)) flags (now (values .entry))))
@@ -228,8 +229,8 @@ pub fn insert(
     requires { ⌜ Cells (now addresses) (now tags) (now values) ⌝ }
     requires { ⌜ is-inserts (getD (now code) at 0) ≡ true ⌝ }
     ensures { λ r. ⌜
-        ((fill flags : ℕ) →
-        Ran (run-ins (environment (now (addresses .entry)) (now (tags .entry)) fill) at
+        ((fill : ℕ) (rule : FlagRule) (flags : ℕ) →
+        Ran (run-ins (environment (now (addresses .entry)) (now (tags .entry)) fill rule) at
         (inserts-ins (getD (now (code .entry)) at 0) (getD (now (code .entry)) (at + 1) 0)
         (operand-at (now (code .entry)) (at + 3)) (getD (now (code .entry)) (at + 2) 0))
         (held (now (regs .entry)) (now (xmms .entry)) flags (now (values .entry))))

@@ -14,6 +14,7 @@ mod step;
 mod twos;
 
 pub use answer::Answer;
+pub use answer::Evaluation;
 pub use answer::Run;
 pub use answer::Setting;
 pub use running::evaluate;

@@ -10,6 +10,7 @@ ghost use Rattle.code.specs.Records.{operand-at, behind};
 ghost use Rattle.code.specs.Spells.{OperandBytes};
 ghost use Rattle.code.specs.Forms.{form-of};
 ghost use Rattle.code.specs.declared.records.Form.the-variants.{Memory};
+ghost use Rattle.eval.specs.FlagRule.{FlagRule};
 ghost use Rattle.eval.specs.Promises.{environment, held, Cells, Seeks, Loads, Resolves, InBounds, no-slot, put-regs, put-values};
 use code::Form;
 use code::form_at;
@@ -85,8 +86,8 @@ pub fn load(
     requires { ⌜ OperandBytes (now code) at ⌝ }
     requires { ⌜ Cells (now addresses) (now tags) (now values) ⌝ }
     ensures { λ r. ⌜
-        ((fill flags : ℕ) (xmms : List ℕ) →
-        Loads (environment (now (addresses .entry)) (now (tags .entry)) fill)
+        ((fill : ℕ) (rule : FlagRule) (flags : ℕ) (xmms : List ℕ) →
+        Loads (environment (now (addresses .entry)) (now (tags .entry)) fill rule)
         (held (now (regs .entry)) xmms flags (now (values .entry)))
         (operand-at (now (code .entry)) at) (behind (now (code .entry)) at) r)
         ⌝ }
@@ -153,8 +154,8 @@ pub fn resolve(
     requires { ⌜ OperandBytes (now code) at ⌝ }
     requires { ⌜ Cells (now addresses) (now tags) (now values) ⌝ }
     ensures { λ r. ⌜
-        ((fill flags : ℕ) (xmms : List ℕ) →
-        Resolves (environment (now (addresses .entry)) (now (tags .entry)) fill)
+        ((fill : ℕ) (rule : FlagRule) (flags : ℕ) (xmms : List ℕ) →
+        Resolves (environment (now (addresses .entry)) (now (tags .entry)) fill rule)
         (held (now (regs .entry)) xmms flags (now (values .entry)))
         (operand-at (now (code .entry)) at) (behind (now (code .entry)) at) r)
         ⌝ }

@@ -4,6 +4,7 @@ ghost use Prim.Native.Nat.{ℕ, _+_};
 ghost use Rattle.code.specs.declared.tree.Instruction.the-variants.{Mul64, Mulx64};
 ghost use Rattle.code.specs.Records.{operand-at, behind};
 ghost use Rattle.code.specs.Spells.{OperandsFrom};
+ghost use Rattle.eval.specs.FlagRule.{FlagRule};
 ghost use Rattle.eval.specs.Instructions.{run-ins};
 ghost use Rattle.eval.specs.Promises.{environment, held, Cells, Ran};
 use crate::exit::Exit;
@@ -28,8 +29,8 @@ pub fn multiply(
     requires { ⌜ OperandsFrom 1 (now code) (at + 1) ⌝ }
     requires { ⌜ Cells (now addresses) (now tags) (now values) ⌝ }
     ensures { λ r. ⌜
-        ((xmms : List ℕ) →
-        Ran (run-ins (environment (now (addresses .entry)) (now (tags .entry)) fill) at
+        ((rule : FlagRule) (xmms : List ℕ) →
+        Ran (run-ins (environment (now (addresses .entry)) (now (tags .entry)) fill rule) at
         (Mul64 (operand-at (now (code .entry)) (at + 1)))
         (held (now (regs .entry)) xmms (now (flags .entry)) (now (values .entry))))
         (behind (now (code .entry)) (at + 1)) r
@@ -71,8 +72,8 @@ pub fn multiply_into(
     requires { ⌜ OperandsFrom 3 (now code) (at + 1) ⌝ }
     requires { ⌜ Cells (now addresses) (now tags) (now values) ⌝ }
     ensures { λ r. ⌜
-        ((fill flags : ℕ) (xmms : List ℕ) →
-        Ran (run-ins (environment (now (addresses .entry)) (now (tags .entry)) fill) at
+        ((fill : ℕ) (rule : FlagRule) (flags : ℕ) (xmms : List ℕ) →
+        Ran (run-ins (environment (now (addresses .entry)) (now (tags .entry)) fill rule) at
         (Mulx64 (operand-at (now (code .entry)) (at + 1))
         (operand-at (now (code .entry)) (behind (now (code .entry)) (at + 1)))
         (operand-at (now (code .entry)) (behind (now (code .entry)) (behind (now (code .entry)) (at + 1)))))

@@ -3,6 +3,7 @@ ghost use mathlib.Core.Path.{_≡_};
 ghost use mathlib.Core.Option.{some};
 ghost use Rattle.machine.specs.Cells.{accepted, check-cells};
 ghost use Rattle.code.specs.Reader.{check-code};
+ghost use Rattle.eval.specs.FlagRule.{flag-rule};
 ghost use Rattle.eval.specs.Config.{config, outcome};
 ghost use Rattle.eval.specs.Counted.{ended-of};
 ghost use Rattle.eval.specs.Running.{run-of};
@@ -51,7 +52,8 @@ pub fn evaluate(
     requires { ⌜ check-cells (now addresses) (now tags) (now values) ≡ accepted ⌝ }
     ensures { λ r. ⌜
         ended-of r (now (values .exit))
-        ≡ run-of (now (code .entry)) (environment (now (addresses .entry)) (now (tags .entry)) (setting .fill))
+        ≡ run-of (now (code .entry))
+        (environment (now (addresses .entry)) (now (tags .entry)) (setting .fill) (flag-rule (setting .evaluation)))
         (setting .fuel) (some (setting .limit)) (config start (now (values .entry)))
         ⌝ }
 {
@@ -60,6 +62,7 @@ pub fn evaluate(
     let mut flags = start.flags;
     let fuel = setting.fuel;
     let fill = setting.fill;
+    let evaluation = setting.evaluation;
     let limit = setting.limit;
     let mut counted = [0u64; COUNTED];
     let exit = eval_codes(
@@ -67,7 +70,6 @@ pub fn evaluate(
         0,
         code.len(),
         fuel,
-        fill,
         &mut regs,
         &mut xmms,
         &mut flags,
@@ -76,6 +78,8 @@ pub fn evaluate(
         values,
         &mut counted,
         limit,
+        fill,
+        evaluation,
     );
     let answer = answer_of(exit);
     let state = State { regs, xmms, flags };
@@ -97,7 +101,8 @@ pub fn run(
 ) -> Run
     ensures { λ r. ⌜
         ended-of r (now (values .exit))
-        ≡ run-of (now (code .entry)) (environment (now (addresses .entry)) (now (tags .entry)) (setting .fill))
+        ≡ run-of (now (code .entry))
+        (environment (now (addresses .entry)) (now (tags .entry)) (setting .fill) (flag-rule (setting .evaluation)))
         (setting .fuel) (some (setting .limit)) (config start (now (values .entry)))
         ⌝ }
     ensures { λ _. ⌜ IsInput (now (code .entry)) start setting ⌝ }

@@ -5,8 +5,10 @@ ghost use mathlib.Core.Option.{some};
 ghost use mathlib.Core.List.{List};
 ghost use Prim.Native.Nat.{ℕ, _<_};
 ghost use lib.ListN.{length};
+ghost use Rattle.eval.specs.FlagRule.{FlagRule, flag-rule};
 ghost use Rattle.eval.specs.Counted.{used-up};
 ghost use Rattle.eval.specs.Promises.{environment, held, tally, Cells, InsAt, OcmpAt, EvaluatesStep, DecidesAt};
+use crate::answer::Evaluation;
 use crate::comparison::Compared;
 use crate::comparison::compare;
 use crate::exit::Exit;
@@ -30,6 +32,7 @@ pub fn step_instruction(
     code: &[u8],
     at: usize,
     fill: u64,
+    evaluation: Evaluation,
     regs: &mut [u64; 16],
     xmms: &mut [u32; 64],
     flags: &mut u64,
@@ -41,7 +44,7 @@ pub fn step_instruction(
 ) -> Exit
     requires { ⌜ InsAt (now code) at ⌝ }
     requires { ⌜ Cells (now addresses) (now tags) (now values) ⌝ }
-    ensures { λ r. ⌜ EvaluatesStep code fill regs xmms flags addresses tags values counted limit at r ⌝ }
+    ensures { λ r. ⌜ EvaluatesStep code fill (flag-rule evaluation) regs xmms flags addresses tags values counted limit at r ⌝ }
 {
     if used_up(counted, limit) {
         return Exit {
@@ -49,7 +52,18 @@ pub fn step_instruction(
             place: at,
         };
     }
-    let ran = instruction(code, at, fill, regs, xmms, flags, addresses, tags, values);
+    let ran = instruction(
+        code,
+        at,
+        fill,
+        evaluation,
+        regs,
+        xmms,
+        flags,
+        addresses,
+        tags,
+        values,
+    );
     if ran.number != 0 {
         return ran;
     }
@@ -72,8 +86,8 @@ pub fn step_comparison(
     requires { ⌜ OcmpAt (now code) at ⌝ }
     requires { ⌜ Cells (now addresses) (now tags) (now values) ⌝ }
     ensures { λ r. ⌜
-        ((fill flags : ℕ) (xmms : List ℕ) →
-        DecidesAt (environment (now (addresses .entry)) (now (tags .entry)) fill) (some limit) (now (code .entry)) at
+        ((fill : ℕ) (rule : FlagRule) (flags : ℕ) (xmms : List ℕ) →
+        DecidesAt (environment (now (addresses .entry)) (now (tags .entry)) fill rule) (some limit) (now (code .entry)) at
         (held (now (regs .entry)) xmms flags (now (values .entry))) (tally (now (counted .entry))) r (tally (now (counted .exit))))
         ⌝ }
 {

@@ -9,8 +9,10 @@ ghost use Rattle.code.specs.declared.tree.Instruction.the-variants.{AddLea64};
 ghost use Rattle.code.specs.Records.{operand-at, behind};
 ghost use Rattle.code.specs.Spells.{OperandsFrom};
 ghost use Rattle.code.specs.Families.{is-two, two-ins};
+ghost use Rattle.eval.specs.FlagRule.{FlagRule, flag-rule};
 ghost use Rattle.eval.specs.Instructions.{checks-amount, run-ins};
 ghost use Rattle.eval.specs.Promises.{environment, held, Cells, Ran};
+use crate::answer::Evaluation;
 use crate::arithmetic::effect_of;
 use crate::exit::Exit;
 use crate::operand::load;
@@ -34,6 +36,7 @@ pub fn two_operands(
     code: &[u8],
     at: usize,
     fill: u64,
+    evaluation: Evaluation,
     regs: &mut [u64; 16],
     flags: &mut u64,
     addresses: &[u64],
@@ -45,7 +48,7 @@ pub fn two_operands(
     requires { ⌜ Cells (now addresses) (now tags) (now values) ⌝ }
     ensures { λ r. ⌜
         ((xmms : List ℕ) →
-        Ran (run-ins (environment (now (addresses .entry)) (now (tags .entry)) fill) at
+        Ran (run-ins (environment (now (addresses .entry)) (now (tags .entry)) fill (flag-rule evaluation)) at
         (two-ins (getD (now (code .entry)) at 0) (operand-at (now (code .entry)) (at + 1))
         (operand-at (now (code .entry)) (behind (now (code .entry)) (at + 1))))
         (held (now (regs .entry)) xmms (now (flags .entry)) (now (values .entry))))
@@ -74,7 +77,7 @@ pub fn two_operands(
             place: at,
         };
     }
-    let effect = effect_of(kind, fill, *flags, dst.word, src.word);
+    let effect = effect_of(kind, evaluation, fill, *flags, dst.word, src.word);
     put(dst, effect.word, regs, values);
     *flags = effect.flags;
     Exit {
@@ -94,8 +97,8 @@ pub fn add_lea(
     requires { ⌜ OperandsFrom 3 (now code) (at + 1) ⌝ }
     requires { ⌜ Cells (now addresses) (now tags) (now values) ⌝ }
     ensures { λ r. ⌜
-        ((fill flags : ℕ) (xmms : List ℕ) →
-        Ran (run-ins (environment (now (addresses .entry)) (now (tags .entry)) fill) at
+        ((fill : ℕ) (rule : FlagRule) (flags : ℕ) (xmms : List ℕ) →
+        Ran (run-ins (environment (now (addresses .entry)) (now (tags .entry)) fill rule) at
         (AddLea64 (operand-at (now (code .entry)) (at + 1))
         (operand-at (now (code .entry)) (behind (now (code .entry)) (at + 1)))
         (operand-at (now (code .entry)) (behind (now (code .entry)) (behind (now (code .entry)) (at + 1)))))

@@ -1,9 +1,15 @@
--- Word and carry are those of the sum with the carry that is handed in.
-use Rattle.eval.specs.Instructions.{add-flags}
+-- Each evaluation has its rule.
 use borrow.Author.Needs.{needs}
 use Rattle.eval.proofs.arithmetic.addition.Statement.{statement}
 use Rattle.eval.proofs.arithmetic.addition.Tie as tie
 
+returns : tie.Need-returns
+returns c = let a = c .before .before .before .args in rw (c .before .enum-told .given .1) (c .base-addition .ensures (a .fill))
+
+returns-2 : tie.Need-returns-2
+returns-2 c = let a = c .before .before .before .args in rw (c .before .enum-told2 .given .1) (c .board-addition .ensures (a .flags))
+
 pub addition-spec : {M : Type 1} → statement M
-unfolding add-flags
-addition-spec = tie.close (tie.spec (λ c κs. search needs) (λ c κs. search needs) (λ c. record { word-is = search; flags-is = cc }))
+addition-spec =
+    tie.close
+    (tie.spec (λ c. search needs) (λ c κs. search needs) (λ c. search needs) (λ c κs. search needs) returns returns-2)

@@ -13,6 +13,7 @@ use mathlib.Core.Path.{_≡_, _∙_}
 use mathlib.Core.Bool.{false}
 use lib.Dec.{eqb}
 use Rattle.code.specs.Records.{byte-at}
+use Rattle.eval.specs.FlagRule.{flag-rule}
 use Rattle.eval.specs.Promises.{environment, held, tally, DecidesAt}
 use Rattle.eval.proofs.CycleLaws.{starts, ins-ran, Going, going-starts, block-goes, codes-go, codes-stop, codes-done}
 use Rattle.eval.proofs.Asked.{behind-fits, next-code, next-ins, next-less, rest-less, rest-less-ins, block-less, past-block, test-fits, Testing, testing-starts, test-stands, some-fuel, goes-round, turn-stopped, behind-test, turns-over, turns-spent, Turn, turn-code, Taken, taken-codes, taken-cells, taken-less, taken-falls, taken-stops, taken-done, taken-goes}
@@ -57,12 +58,12 @@ abbrev codes-claims : ℕ → eval-codes-lts.Claims
 codes-claims t = (step-instruction.Asked, step-instruction.Learnt, below one of-code eval-code.Pre t, eval-code.Post)
 
 abbrev Inv-codes : eval-codes-lts.InvT-loop
-Inv-codes code from end fuel fill regs₀ xmms₀ flags₀ addresses tags values₀ counted₀ limit next₀ regs xmms flags values counted next =
-    Going (environment addresses tags fill) (some limit) code from end fuel (held regs₀ xmms₀ flags₀ values₀) (tally counted₀) next
+Inv-codes code from end fuel regs₀ xmms₀ flags₀ addresses tags values₀ counted₀ limit fill evaluation next₀ regs xmms flags values counted next =
+    Going (environment addresses tags fill (flag-rule evaluation)) (some limit) code from end fuel (held regs₀ xmms₀ flags₀ values₀) (tally counted₀) next
     (held regs xmms flags values) (tally counted)
 
 abbrev μ-codes : eval-codes-lts.MeasureT-loop
-μ-codes code from end fuel fill regs₀ xmms₀ flags₀ addresses tags values₀ counted₀ limit next₀ regs xmms flags values counted next = end - next
+μ-codes code from end fuel regs₀ xmms₀ flags₀ addresses tags values₀ counted₀ limit fill evaluation next₀ regs xmms flags values counted next = end - next
 
 codes-meets : {M : Type 1} (t : ℕ) → eval-codes-lts.Closed (codes-claims t) (at list of-codes eval-codes.Pre t) eval-codes.Post M
 codes-meets t =
@@ -95,12 +96,12 @@ code-claims t = (
 )
 
 abbrev Inv-code : eval-code-lts.InvT-loop
-Inv-code code at fuel fill regs₀ xmms₀ flags₀ addresses tags values₀ counted₀ limit chooses test left₀ regs xmms flags values counted left =
-    Testing (environment addresses tags fill) (some limit) code at fuel (held regs₀ xmms₀ flags₀ values₀) (tally counted₀) chooses test left
-    (held regs xmms flags values) (tally counted)
+Inv-code code at fuel regs₀ xmms₀ flags₀ addresses tags values₀ counted₀ limit fill evaluation chooses test left₀ regs xmms flags values counted left =
+    Testing (environment addresses tags fill (flag-rule evaluation)) (some limit) code at fuel (held regs₀ xmms₀ flags₀ values₀) (tally counted₀)
+    chooses test left (held regs xmms flags values) (tally counted)
 
 abbrev μ-code : eval-code-lts.MeasureT-loop
-μ-code code at fuel fill regs₀ xmms₀ flags₀ addresses tags values₀ counted₀ limit chooses test left₀ regs xmms flags values counted left = left
+μ-code code at fuel regs₀ xmms₀ flags₀ addresses tags values₀ counted₀ limit fill evaluation chooses test left₀ regs xmms flags values counted left = left
 
 -- there is fuel for the round
 fuelled :
@@ -116,11 +117,12 @@ compared :
     let a = head .before .before .before .before .before .before .before .args in
     let x = c .step-comparison in
     let l = head .loop in
-    DecidesAt (environment (a .addresses .now) (a .tags .now) (a .fill)) (some (a .limit)) (a .code .now) (head .before .test-at .result)
-    (held (l .regs) (l .xmms) (l .flags) (l .values)) (tally (l .counted)) (x .result) (tally (x .last .1 .1 .1 .1 .1 .1 .0))
+    DecidesAt (environment (a .addresses .now) (a .tags .now) (a .fill) (flag-rule (a .evaluation))) (some (a .limit)) (a .code .now)
+    (head .before .test-at .result) (held (l .regs) (l .xmms) (l .flags) (l .values)) (tally (l .counted)) (x .result) (tally (x .last .1 .1 .1 .1 .1 .1 .0))
 compared t c =
     let head = c .before .before .before .before .before in
-    c .step-comparison .ensures (head .before .before .before .before .before .before .before .args .fill) (head .loop .flags) (head .loop .xmms)
+    let a = head .before .before .before .before .before .before .before .args in
+    c .step-comparison .ensures (a .fill) (flag-rule (a .evaluation)) (head .loop .flags) (head .loop .xmms)
 
 -- the round that the comparison began
 turn :
@@ -130,7 +132,7 @@ turn :
     let a = head .before .before .before .before .before .before .before .args in
     let x = answer .step-comparison in
     let l = head .loop in
-    Turn (environment (a .addresses .now) (a .tags .now) (a .fill)) (some (a .limit)) (a .code .now) (a .at) (a .fuel) t
+    Turn (environment (a .addresses .now) (a .tags .now) (a .fill) (flag-rule (a .evaluation))) (some (a .limit)) (a .code .now) (a .at) (a .fuel) t
     (held (a .regs .now) (a .xmms .now) (a .flags .now) (a .values .now)) (tally (a .counted .now)) (head .before .test-at .result) (l .left)
     (held (l .regs) (l .xmms) (l .flags) (l .values)) (tally (l .counted)) (x .result)
     (tally (x .last .1 .1 .1 .1 .1 .1 .0)) (c .before .before .way-from .result) (eqb (byte-at (a .code .now) (a .at)) 0x21)
@@ -158,7 +160,7 @@ taken :
     let a = head .before .before .before .before .before .before .before .args in
     let x = answer .step-comparison in
     let l = head .loop in
-    Taken (environment (a .addresses .now) (a .tags .now) (a .fill)) (some (a .limit)) (a .code .now) (a .at) (a .fuel) t
+    Taken (environment (a .addresses .now) (a .tags .now) (a .fill) (flag-rule (a .evaluation))) (some (a .limit)) (a .code .now) (a .at) (a .fuel) t
     (held (a .regs .now) (a .xmms .now) (a .flags .now) (a .values .now)) (tally (a .counted .now)) (head .before .test-at .result) (l .left)
     (held (l .regs) (l .xmms) (l .flags) (l .values)) (tally (l .counted)) (x .result)
     (tally (x .last .1 .1 .1 .1 .1 .1 .0)) (way .way-from .result) (eqb (byte-at (a .code .now) (a .at)) 0x21)

@@ -20,7 +20,7 @@ instruction-spec =
     (λ c κs.
     let asked = start (c .before .before .before .before .before .before .before) .pre in
     lane-asked _ _ (asked .0) _ _ _ (asked .1) _ (c .before .before .before .before .before .before .is-two .ensures) (search) (search))
-    (λ c. search needs) (λ c. search)
+    (λ c. search needs) (λ c. c .before .before .lane-instruction .ensures _)
     (λ c κs.
     let asked = start (c .before .before .before .before .before .before) .pre in
     lea-asked _ _ (asked .0) _ _ _ (asked .1) (search))

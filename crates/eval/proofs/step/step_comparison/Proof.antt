@@ -10,6 +10,6 @@ step-comparison-spec =
     (tie.spec
     (λ c κs. search needs) (λ c. search ocmp-stopped)
     (λ c κs. search needs)
-    (λ c fill flags xmms. let w = c .before .before .compare .ensures fill flags xmms in search ocmp-ended)
+    (λ c fill rule flags xmms. let w = c .before .before .compare .ensures fill rule flags xmms in search ocmp-ended)
     (λ c. search needs) (λ c. search step-fits) (λ c. search needs)
-    (λ c fill flags xmms. let w = c .before .before .before .compare .ensures fill flags xmms in search (ocmp-counted, one-more)))
+    (λ c fill rule flags xmms. let w = c .before .before .before .compare .ensures fill rule flags xmms in search (ocmp-counted, one-more)))
