@@ -53,11 +53,11 @@ module _ (env : Env) (limit : Option ℕ) (c : Code) (fuel : ℕ) (s t : Config)
       ∙ more g le)
       ∙ is-done
 
-  reached : (g : ℕ) → fuel ≤ g → Reaches env m (exec (env .fill) c g (lay env m s)) s t
+  reached : (g : ℕ) → fuel ≤ g → Reaches env m (exec (env .fill) (env .rule) c g (lay env m s)) s t
   reached g le = both-code env m c g fits s t nothing-counted kept (unlimited g le)
 
-  machine : (g : ℕ) → fuel ≤ g → exec (env .fill) c g (over-bytes s m) ≡ some (lay env m t)
-  machine g le = ap (λ (b : ByteMemory). exec (env .fill) c g (over-bytes s b)) (sym laid) ∙ reached g le .same
+  machine : (g : ℕ) → fuel ≤ g → exec (env .fill) (env .rule) c g (over-bytes s m) ≡ some (lay env m t)
+  machine g le = ap (λ (b : ByteMemory). exec (env .fill) (env .rule) c g (over-bytes s b)) (sym laid) ∙ reached g le .same
 
   pub follows : Follows env limit c fuel s t m
   follows =

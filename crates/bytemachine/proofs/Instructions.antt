@@ -28,7 +28,7 @@ use Rattle.code.specs.declared.tree.Instruction.the-variants.{Mov64, Add64, Add
 use Rattle.code.specs.WellFormed.{WfIns}
 use Rattle.code.proofs.Accepted.{WfTwo}
 use Rattle.eval.specs.Config.{Env, Config, with-flags, with-regs, End, ends, done, fault, check}
-use Rattle.eval.specs.Instructions.{add-flags, two-word, two-flags, quads-word, quads-flags, shifts-word, inserts-word, eval-operand, update-operand, act, run-ins}
+use Rattle.eval.specs.Instructions.{two-word, two-flags, quads-word, quads-flags, shifts-word, inserts-word, eval-operand, update-operand, act, run-ins}
 use Rattle.eval.proofs.Shapes.{read-check, amount-check, write, write-xmm, write-halves, halves-kept}
 use Rattle.bytemachine.specs.ByteMachine.{BState, read, exec-ins}
 use Rattle.bytemachine.specs.ByteMachine.{write as put-to, with-flags as flagged, write-xmm as put-xmm, with-regs as regs-put}
@@ -134,15 +134,15 @@ module _ (env : Env) (memory : ByteMemory) where
         (record { same = ap (put-to dst-hi hi) (low .same) ∙ high .same; kept = high .kept; rsp = high .rsp ∙ low .rsp })
 
     -- ---- an instruction
-    pub follows-ins : (p : ℕ) (i : Instruction) → WfIns i → run-ins env p i s ≡ ends done t → Goes (exec-ins (env .fill) i (at s)) s t
+    pub follows-ins : (p : ℕ) (i : Instruction) → WfIns i → run-ins env p i s ≡ ends done t → Goes (exec-ins (env .fill) (env .rule) i (at s)) s t
     unfolding WfIns run-ins act exec-ins two-word two-flags quads-word quads-flags shifts-word inserts-word
     follows-ins p (Mov64 dst src) fits e = unflagged dst _ (combined p dst src (λ a b. b) (λ a b. s .flags) fits (λ a b h k. k) e)
     follows-ins p (Add64 dst src) fits e =
-        combined p dst src (λ a b. sum-mod 64 (a + b)) (λ a b. add-flags (env .fill) (s .flags) a b 0) fits (λ a b h k. sum-mod-lt 64 _) e
+        combined p dst src (λ a b. sum-mod 64 (a + b)) (λ a b. env .rule (env .fill) (s .flags) a b 0) fits (λ a b h k. sum-mod-lt 64 _) e
     follows-ins p (AddLea64 dst src1 src2) fits e = summed p dst src1 src2 e
     follows-ins p (AddCarry64 dst src) fits e =
         let c = bit (cf (s .flags)) in
-        combined p dst src (λ a b. sum-mod 64 (a + b + c)) (λ a b. add-flags (env .fill) (s .flags) a b c) fits (λ a b h k. sum-mod-lt 64 _) e
+        combined p dst src (λ a b. sum-mod 64 (a + b + c)) (λ a b. env .rule (env .fill) (s .flags) a b c) fits (λ a b h k. sum-mod-lt 64 _) e
     follows-ins p (Adcx64 dst src) fits e =
         let c = bit (cf (s .flags)) in
         combined p dst src (λ a b. sum-mod 64 (a + b + c)) (λ a b. update-cf (s .flags) (sum-carry 64 (a + b + c))) fits (λ a b h k. sum-mod-lt 64 _) e

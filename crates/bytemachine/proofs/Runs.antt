@@ -46,12 +46,12 @@ module _ (env : Env) (memory : ByteMemory) where
   both-end s t j k e = subst (λ u. Reaches (some (at s)) s u) (is-done e) (record { same = refl; kept = k; rsp = refl })
 
   both-then : (h : Outcome) (x : Config) (j : Counted) (f : Part) (o : Option BState) (l : BState → Option BState) (s t : Config)
-      → ((u : Config) → ends h x ≡ ends done u → Reaches o s u) → Both f l → continue h x j f .end ≡ ends done t → Reaches (go-on (env .fill) o l) s t
+      → ((u : Config) → ends h x ≡ ends done u → Reaches o s u) → Both f l → continue h x j f .end ≡ ends done t → Reaches (go-on (env .fill) (env .rule) o l) s t
   unfolding continue go-on
   both-then done x j f o l s t first g e =
       let a = first x refl in
       let b = g x t j (a .kept) e in
-      record { same = ap (λ (o : Option BState). go-on (env .fill) o l) (a .same) ∙ b .same; kept = b .kept; rsp = b .rsp ∙ a .rsp }
+      record { same = ap (λ (o : Option BState). go-on (env .fill) (env .rule) o l) (a .same) ∙ b .same; kept = b .kept; rsp = b .rsp ∙ a .rsp }
   both-then (fault n p) x j f o l s t first g e = absurd (not-done (fault n p) x t (λ z. let y : _≡_ {A = ℕ} 0 1 = cc in omega arith) e)
   both-then (stopped n p) x j f o l s t first g e = absurd (not-done (stopped n p) x t (λ z. let y : _≡_ {A = ℕ} 0 1 = cc in omega arith) e)
   both-then (spent p) x j f o l s t first g e = absurd (not-done (spent p) x t (λ z. let y : _≡_ {A = ℕ} 0 1 = cc in omega arith) e)
@@ -64,7 +64,7 @@ module _ (env : Env) (memory : ByteMemory) where
       let v = both _ _ e in
       ap₂ f (reads env memory a s (v .0) k) (reads env memory b s (v .1) k)
 
-  tests : (c : Ocmp) (s : Config) → valid-ocmp env c s ≡ true → Kept env s → test (env .fill) c (at s) ≡ eval-ocmp env c s
+  tests : (c : Ocmp) (s : Config) → valid-ocmp env c s ≡ true → Kept env s → test (env .fill) (env .rule) c (at s) ≡ eval-ocmp env c s
   unfolding valid-ocmp eval-ocmp test
   tests (OEq a b) s e k = words-read a b eqb s e k
   tests (ONe a b) s e k = words-read a b (λ x y. not (eqb x y)) s e k
@@ -75,39 +75,39 @@ module _ (env : Env) (memory : ByteMemory) where
 
   -- of the run without a limit, which tries each step
   both-ocmp : (q : ℕ) (c : Ocmp) (f g : Part) (l m : BState → Option BState) → Both f l → Both g m
-      → Both (decide env none q c f g) (λ b. branch (env .fill) (test (env .fill) c b) l m b)
+      → Both (decide env none q c f g) (λ b. branch (env .fill) (env .rule) (test (env .fill) (env .rule) c b) l m b)
   unfolding decide run-ocmp check step used-up count continue branch
   both-ocmp q c f g l m F G s t j k e = checked (valid-ocmp env c s) refl e
     where
       after : Config
       after = with-flags (env .fill) s
 
-      taken : (b : Bool) → cond b f g after (count done j) .end ≡ ends done t → Reaches (branch (env .fill) b l m (at s)) s t
+      taken : (b : Bool) → cond b f g after (count done j) .end ≡ ends done t → Reaches (branch (env .fill) (env .rule) b l m (at s)) s t
       taken true h = let r = F after t (count done j) (with-flags-kept (env .fill) k) h in record { same = r .same; kept = r .kept; rsp = r .rsp }
       taken false h = let r = G after t (count done j) (with-flags-kept (env .fill) k) h in record { same = r .same; kept = r .kept; rsp = r .rsp }
 
       checked : (v : Bool) → valid-ocmp env c s ≡ v
           → (let x = check v (ocmp-number env c s) q s (ends done after) in
           continue (x .how) (x .config) (count (x .how) j) (cond (eval-ocmp env c s) f g) .end ≡ ends done t)
-          → Reaches (branch (env .fill) (test (env .fill) c (at s)) l m (at s)) s t
+          → Reaches (branch (env .fill) (env .rule) (test (env .fill) (env .rule) c (at s)) l m (at s)) s t
       checked true v e = rw (tests c s v k) (taken (eval-ocmp env c s) e)
       checked false v e = absurd (not-done (fault (ocmp-number env c s) q) s t (λ z. let y : _≡_ {A = ℕ} 0 1 = cc in omega arith) e)
 
   -- ---- codes
   both-rounds : (f : ℕ → Part) (l : ℕ → BState → Option BState) → ((n : ℕ) → Both (f n) (l n))
-      → (p q : ℕ) (c : Ocmp) (n : ℕ) → Both (rounds env none f p q c n) (loop (env .fill) l c n)
+      → (p q : ℕ) (c : Ocmp) (n : ℕ) → Both (rounds env none f p q c n) (loop (env .fill) (env .rule) l c n)
   unfolding rounds loop
   both-rounds f l h p q c zero s t j k e = absurd (not-done (spent p) s t (λ z. let y : _≡_ {A = ℕ} 0 1 = cc in omega arith) e)
   both-rounds f l h p q c (suc n) s t j k e =
       both-ocmp q c _ _ _ _
       (λ u v i x d.
-      both-then _ _ _ (rounds env none f p q c n) (l n (at u)) (loop (env .fill) l c n) u v (λ w. h n u w i x) (both-rounds f l h p q c n) d)
+      both-then _ _ _ (rounds env none f p q c n) (l n (at u)) (loop (env .fill) (env .rule) l c n) u v (λ w. h n u w i x) (both-rounds f l h p q c n) d)
       both-end s t j k e
 
   mutual
     unfolding WfCode run-code run-codes step used-up exec execs
 
-    pub both-code : (c : Code) (n : ℕ) → WfCode c → Both (run-code env none c n) (exec (env .fill) c n)
+    pub both-code : (c : Code) (n : ℕ) → WfCode c → Both (run-code env none c n) (exec (env .fill) (env .rule) c n)
     both-code (Ins p i) n fits s t j k e =
         let r = follows-ins env memory s t k p i fits e in
         record { same = ap some (r .same); kept = r .kept; rsp = r .rsp }
@@ -115,10 +115,10 @@ module _ (env : Env) (memory : ByteMemory) where
     both-code (IfElse p q c a b) n fits s t j k e =
         both-ocmp q c _ _ _ _ (both-code a n (fits .1)) (both-code b n (fits .2)) s t j k e
     both-code (While p q c b) n fits s t j k e =
-        both-rounds (run-code env none b) (exec (env .fill) b) (λ m. both-code b m (fits .1)) p q c n s t j k e
+        both-rounds (run-code env none b) (exec (env .fill) (env .rule) b) (λ m. both-code b m (fits .1)) p q c n s t j k e
 
-    both-codes : (cs : Codes) (n : ℕ) → WfCodes cs → Both (run-codes env none cs n) (execs (env .fill) cs n)
+    both-codes : (cs : Codes) (n : ℕ) → WfCodes cs → Both (run-codes env none cs n) (execs (env .fill) (env .rule) cs n)
     both-codes ⟨⟩ n fits s t j k e = both-end s t j k e
     both-codes (c ∷ᶜ cs) n fits s t j k e =
-        both-then _ _ _ (run-codes env none cs n) (exec (env .fill) c n (at s)) (execs (env .fill) cs n) s t
+        both-then _ _ _ (run-codes env none cs n) (exec (env .fill) (env .rule) c n (at s)) (execs (env .fill) (env .rule) cs n) s t
         (λ u d. both-code c n (fits .0) s u j k d) (both-codes cs n (fits .1)) e

@@ -20,7 +20,7 @@ use Rattle.code.specs.declared.tree.Instruction.the-variants.{Mov64, Add64, Add
 use Rattle.code.specs.declared.tree.Ocmp.{Ocmp}
 use Rattle.code.specs.declared.tree.Ocmp.the-variants.{OEq, ONe, OLe, OGe, OLt, OGt}
 use Rattle.code.specs.Tree.{Code, Ins, Block, IfElse, While, Codes, ⟨⟩, _∷ᶜ_}
-use Rattle.eval.specs.Instructions.{add-flags}
+use Rattle.eval.specs.FlagRule.{FlagRule}
 
 -- registers, xmm words, flags, bytes
 pub record BState : Type 0 where
@@ -61,20 +61,20 @@ write (OMem m) v s = with-bytes (write-bytes (wrap (eval-maddr m (s .regs))) v (
 abbrev pub write-xmm : ℕ → Four ℕ → BState → BState
 write-xmm x q s = with-xmms (set-xmm (s .xmms) x q) s
 
-module _ (fill : ℕ) where
+module _ (fill : ℕ) (rule : FlagRule) where
   -- an instruction
   unfoldable pub exec-ins : Instruction → BState → BState
   exec-ins (Mov64 dst src) s = write dst (read src s) s
   exec-ins (Add64 dst src) s =
       let a = read dst s in
       let b = read src s in
-      with-flags (add-flags fill (s .flags) a b 0) (write dst (sum-mod 64 (a + b)) s)
+      with-flags (rule fill (s .flags) a b 0) (write dst (sum-mod 64 (a + b)) s)
   exec-ins (AddLea64 dst src1 src2) s = write dst (sum-mod 64 (read src1 s + read src2 s)) s
   exec-ins (AddCarry64 dst src) s =
       let a = read dst s in
       let b = read src s in
       let c = bit (cf (s .flags)) in
-      with-flags (add-flags fill (s .flags) a b c) (write dst (sum-mod 64 (a + b + c)) s)
+      with-flags (rule fill (s .flags) a b c) (write dst (sum-mod 64 (a + b + c)) s)
   exec-ins (Adcx64 dst src) s =
       let sum = read dst s + read src s + bit (cf (s .flags)) in
       with-flags (update-cf (s .flags) (sum-carry 64 sum)) (write dst (sum-mod 64 sum) s)

@@ -15,6 +15,7 @@ use Rattle.machine.specs.declared.Operand.the-variants.{OConst, OReg, OMem}
 use Rattle.code.specs.declared.tree.Instruction.the-variants.{Mov64, Shl64, Pslld, VPSLLDQ}
 use Rattle.code.specs.declared.tree.Ocmp.the-variants.{OEq, ONe}
 use Rattle.code.specs.Tree.{Code, Ins, Block, While, ⟨⟩}
+use Rattle.eval.specs.FlagRule.{base-flags}
 use Rattle.bytemachine.specs.ByteMachine.{BState, read, write, exec-ins, test, branch, go-on, loop, exec, execs}
 
 -- code, fuel, and what is seen at the end; none where the machine halts out of fuel
@@ -23,7 +24,7 @@ pub record Example : Type 0 where
   pub fuel : ℕ
   pub shown : Option (List ℕ)
 
--- Rax 1, xmm 0 (1,2,3,4), the byte at x is x modulo 256, all else 0; fill 0
+-- Rax 1, xmm 0 (1,2,3,4), the byte at x is x modulo 256, all else 0; fill 0, F*'s flag rule
 abbrev start : BState
 start = record { regs = 1 ∷ replicate 15 0; xmms = 1 ∷ 2 ∷ 3 ∷ 4 ∷ replicate 60 0; flags = 0; bytes = λ x. x % 256 }
 
@@ -66,7 +67,7 @@ unfoldable pub shown-of : List Example → List (Option (List ℕ))
 unfolding exec execs exec-ins test branch go-on loop read write seen eval-maddr byte wrap spelled read-bytes distance write-bytes
     xmm-at set-xmm ishl shl-lanes shift-quad
 shown-of [] = []
-shown-of (e ∷ es) = seen (exec 0 (e .code) (e .fuel) start) ∷ shown-of es
+shown-of (e ∷ es) = seen (exec 0 base-flags (e .code) (e .fuel) start) ∷ shown-of es
 
 -- what is named for each row
 unfoldable pub named : List Example → List (Option (List ℕ))

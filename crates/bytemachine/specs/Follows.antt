@@ -25,7 +25,7 @@ over-bytes s m = record { regs = s .regs; xmms = s .xmms; flags = s .flags; byte
 pub record Follows (env : Env) (limit : Option ℕ) (c : Code) (fuel : ℕ) (s t : Config) (m : ByteMemory) : Type 0 where
   -- the machine ends
   pub end : BState
-  pub ends : exec (env .fill) c fuel (over-bytes s m) ≡ some end
+  pub ends : exec (env .fill) (env .rule) c fuel (over-bytes s m) ≡ some end
   -- with the same registers, xmm words and flags
   pub regs : end .regs ≡ t .regs
   pub xmms : end .xmms ≡ t .xmms
@@ -39,7 +39,7 @@ pub record Follows (env : Env) (limit : Option ℕ) (c : Code) (fuel : ℕ) (s t
   pub rsp-machine : reg-at (end .regs) Rsp ≡ reg-at (s .regs) Rsp
   -- at every larger fuel both have the same end
   pub more-run : (g : ℕ) → fuel ≤ g → run-code env limit c g s nothing-counted ≡ run-code env limit c fuel s nothing-counted
-  pub more-machine : (g : ℕ) → fuel ≤ g → exec (env .fill) c g (over-bytes s m) ≡ some end
+  pub more-machine : (g : ℕ) → fuel ≤ g → exec (env .fill) (env .rule) c g (over-bytes s m) ≡ some end
 
 -- the same of Running: the code that was read is what the machine takes
 pub record FollowsOf (code : List ℕ) (env : Env) (fuel : ℕ) (limit : Option ℕ) (s t : Config) (m : ByteMemory) : Type 0 where

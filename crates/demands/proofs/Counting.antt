@@ -75,20 +75,20 @@ counting = record {
   popcnt64 = record {
     is-read = λ dst src. read-so 0x19 (Popcnt64 dst src) dst src refl;
     runs = λ env p dst src s. refl;
-    evaluates = λ load int fill dst src s. runs-on load int fill (Popcnt64 dst src) dst src _ _ _ s (clear-flags fill);
-    executes = λ fill dst src s. refl;
+    evaluates = λ load int fill rule dst src s. runs-on load int fill rule (Popcnt64 dst src) dst src _ _ _ s (clear-flags fill);
+    executes = λ fill rule dst src s. refl;
   };
   lzcnt64 = record {
     is-read = λ dst src. read-so 0x1a (Lzcnt64 dst src) dst src refl;
     runs = λ env p dst src s. refl;
-    evaluates = λ load int fill dst src s. runs-on load int fill (Lzcnt64 dst src) dst src _ _ _ s (put-flags fill _);
-    executes = λ fill dst src s. refl;
+    evaluates = λ load int fill rule dst src s. runs-on load int fill rule (Lzcnt64 dst src) dst src _ _ _ s (put-flags fill _);
+    executes = λ fill rule dst src s. refl;
   };
   tzcnt64 = record {
     is-read = λ dst src. read-so 0x1b (Tzcnt64 dst src) dst src refl;
     runs = λ env p dst src s. refl;
-    evaluates = λ load int fill dst src s. runs-on load int fill (Tzcnt64 dst src) dst src _ _ _ s (put-flags fill _);
-    executes = λ fill dst src s. refl;
+    evaluates = λ load int fill rule dst src s. runs-on load int fill rule (Tzcnt64 dst src) dst src _ _ _ s (put-flags fill _);
+    executes = λ fill rule dst src s. refl;
   };
   ones-of-zero = popcnt-zero 64;
   leading-of-zero = lzcnt-zero 64;

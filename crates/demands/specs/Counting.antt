@@ -18,6 +18,7 @@ use Rattle.code.specs.Tree.{Ins}
 use Rattle.code.specs.Reader.{got, parse}
 use Rattle.code.specs.WellFormed.{WfOperand}
 use Rattle.code.specs.Writer.{bytes-of-operands}
+use Rattle.eval.specs.FlagRule.{FlagRule}
 use Rattle.eval.specs.Config.{Env, Config, with-flags, ends, done, check}
 use Rattle.eval.specs.Instructions.{valid-operand, eval-operand, valid-dst-operand, update-operand, run-ins}
 use Rattle.source.specs.Source as Source
@@ -43,15 +44,15 @@ pub record Counts (kind : ℕ) (ins : Operand → Operand → Instruction) (coun
       (check (valid-dst-operand env dst s) (wild-or 32 dst (s .regs)) p s
       (ends done (with-flags (flags (env .fill) b) (update-operand env dst (count b) s))))
   -- the source: it runs on where one of the two checks fails, with ok clear
-  pub evaluates : (load-mem64 : ℤ → Memory → ℕ) (int-to-nat64 : ℤ → ℕ) (fill : ℕ) (dst src : Operand) (s : Source.State)
-      → let b = Source.eval-operand load-mem64 int-to-nat64 fill src s in
+  pub evaluates : (load-mem64 : ℤ → Memory → ℕ) (int-to-nat64 : ℤ → ℕ) (fill : ℕ) (rule : FlagRule) (dst src : Operand) (s : Source.State)
+      → let b = Source.eval-operand load-mem64 int-to-nat64 fill rule src s in
       let t = Source.with-flags (flags fill b) (Source.update-operand-preserve-flags′ dst (count b) s) in
-      Source.run (Source.eval-ins load-mem64 int-to-nat64 fill (ins dst src)) s
+      Source.run (Source.eval-ins load-mem64 int-to-nat64 fill rule (ins dst src)) s
       ≡ Source.with-ok (s .ok && Source.valid-operand src s && Source.valid-dst-operand dst s) t
   -- the byte machine
-  pub executes : (fill : ℕ) (dst src : Operand) (s : Machine.BState)
+  pub executes : (fill : ℕ) (rule : FlagRule) (dst src : Operand) (s : Machine.BState)
       → let b = Machine.read src s in
-      Machine.exec-ins fill (ins dst src) s ≡ Machine.with-flags (flags fill b) (Machine.write dst (count b) s)
+      Machine.exec-ins fill rule (ins dst src) s ≡ Machine.with-flags (flags fill b) (Machine.write dst (count b) s)
 
 -- carry and overflow cleared, whatever the source
 abbrev pub cleared : (fill b : ℕ) → ℕ

@@ -9,6 +9,8 @@ use lib.Seq.{sets-eq, length-sets, take-at, drop-at, take-all}
 use Rattle.machine.specs.Cells.{accepted}
 use Rattle.machine.specs.Cells.{refused as turned-away}
 use Rattle.machine.specs.declared.State.{State}
+use Rattle.eval.specs.FlagRule.{flag-rule}
+use Rattle.eval.specs.declared.answer.Evaluation.the-variants.{Base}
 use Rattle.eval.specs.declared.answer.Setting.{Setting}
 use Rattle.eval.specs.Config.{config, refused}
 use Rattle.eval.specs.Counted.{Ended}
@@ -68,8 +70,8 @@ pub ran :
     → code ≡ drop (code-at bs) bs
     → Holding bs (start-of bs .values) xs ts vs
     → (s .regs ≡ start-of bs .regs) × (s .xmms ≡ start-of bs .xmms) × (s .flags ≡ start-of bs .flags)
-    → (g .fill ≡ fill-of bs) × (g .fuel ≡ fuel-of bs) × (g .limit ≡ largest-limit)
-    → e ≡ run-of code (record { addresses = xs; tags = ts; fill = g .fill }) (g .fuel) (some (g .limit)) (config s vs)
+    → (g .fill ≡ fill-of bs) × (g .fuel ≡ fuel-of bs) × (g .limit ≡ largest-limit) × (g .evaluation ≡ Base)
+    → e ≡ run-of code (record { addresses = xs; tags = ts; fill = g .fill; rule = flag-rule (g .evaluation) }) (g .fuel) (some (g .limit)) (config s vs)
     → e ≡ run-of-job bs
 ran bs code xs ts vs s g e of-code of-cells of-state of-setting of-run = cc
 

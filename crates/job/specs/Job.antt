@@ -10,9 +10,11 @@ use Rattle.machine.specs.Cells.{Verdict}
 use Rattle.machine.specs.Cells.{accepted as job-accepted, refused as job-refused}
 use Rattle.code.specs.Records.{number-at}
 use Rattle.machine.specs.declared.State.{State}
+use Rattle.eval.specs.FlagRule.{flag-rule}
 use Rattle.eval.specs.Config.{Env, Config, config, refused}
 use Rattle.eval.specs.Counted.{nothing-counted, Ended, ended}
 use Rattle.eval.specs.declared.answer.Setting.{Setting}
+use Rattle.eval.specs.declared.answer.Evaluation.the-variants.{Base}
 use Rattle.eval.specs.Running.{run-of}
 use Rattle.job.specs.Text.{render}
 
@@ -37,13 +39,14 @@ largest-limit = 18446744073709551615
 abbrev pub count-of : List ℕ → ℕ
 count-of bs = number-at 2 bs 404
 
--- the cells: address 8 bytes, tag 1, value 8
+-- what is constant in the run: the cells, each of address 8 bytes, tag 1, value 8; the fill word; and F*'s flag rule, which every job has
 abbrev pub env-of : List ℕ → Env
 env-of bs =
     record {
       addresses = numbers 8 17 (count-of bs) bs 406;
       tags = numbers 1 17 (count-of bs) bs 414;
       fill = fill-of bs;
+      rule = flag-rule Base;
     }
 
 -- the state that the run starts from
@@ -52,7 +55,7 @@ state-of bs = record { regs = numbers 8 8 16 bs 20; xmms = numbers 4 4 64 bs 148
 
 -- what the job names for the run beside code, cells and start
 abbrev pub setting-of : List ℕ → Setting
-setting-of bs = record { fill = fill-of bs; fuel = fuel-of bs; limit = largest-limit }
+setting-of bs = record { fill = fill-of bs; fuel = fuel-of bs; limit = largest-limit; evaluation = Base }
 
 -- the start, with the cells' values
 abbrev pub start-of : List ℕ → Config

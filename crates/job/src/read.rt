@@ -3,10 +3,12 @@ ghost use mathlib.Core.Path.{_≡_};
 ghost use Prim.Native.Nat.{_+_, _*_, _≤_};
 ghost use lib.ListN.{length};
 ghost use Rattle.machine.specs.Cells.{verdict};
+ghost use Rattle.eval.specs.declared.answer.Evaluation.the-variants.{Base};
 ghost use Rattle.job.specs.Job.{numbers, fuel-of, fill-of, largest-limit, start-of, check-job};
 use code::number2;
 use code::number4;
 use code::number8;
+use eval::Evaluation;
 use eval::Setting;
 use machine::Checked;
 use machine::State;
@@ -67,12 +69,19 @@ pub fn read_state(input: &[u8]) -> State
 
 pub fn read_setting(input: &[u8]) -> Setting
     requires { ⌜ 406 ≤ length (now input) ⌝ }
-    ensures { λ r. ⌜ (r .fill ≡ fill-of (now (input .entry))) × (r .fuel ≡ fuel-of (now (input .entry))) × (r .limit ≡ largest-limit) ⌝ }
+    ensures { λ r. ⌜ (r .fill ≡ fill-of (now (input .entry))) × (r .fuel ≡ fuel-of (now (input .entry)))
+        × (r .limit ≡ largest-limit) × (r .evaluation ≡ Base) ⌝ }
 {
     let fuel = number4(input, 0) as u32;
     let fill = number8(input, 4);
     let limit = LARGEST_LIMIT;
-    Setting { fill, fuel, limit }
+    let evaluation = Evaluation::Base;
+    Setting {
+        fill,
+        fuel,
+        limit,
+        evaluation,
+    }
 }
 
 pub fn check_job(input: &[u8]) -> Checked

@@ -12,6 +12,7 @@ use Rattle.code.specs.declared.tree.Ocmp.{Ocmp}
 use Rattle.code.specs.Tree.{Code, Ins, Block, IfElse, While, Codes, ⟨⟩, _∷ᶜ_}
 use Rattle.code.proofs.Layouts.{every-ins}
 use Rattle.code.specs.WellFormed.{WfOcmp, WfCode, WfCodes}
+use Rattle.eval.specs.FlagRule.{FlagRule}
 use Rattle.eval.specs.Config.{Env, Config, with-flags, End, ends, done, fault, spent}
 use Rattle.eval.specs.Config as Config
 use Rattle.eval.specs.Instructions as Run
@@ -46,20 +47,20 @@ unfolding if-some
 clear-some log none k c h = tt
 clear-some log (some u) k c h = h u c
 
-module _ (load-mem64 : ℤ → Memory → ℕ) (int-to-nat64 : ℤ → ℕ) (fill : ℕ) where
+module _ (load-mem64 : ℤ → Memory → ℕ) (int-to-nat64 : ℤ → ℕ) (fill : ℕ) (rule : FlagRule) where
   -- a state whose ok is clear is one with ok made clear, and from there each instruction computes
-  ins-clear : (i : Instruction) (s : State) → s .ok ≡ false → eval-ins load-mem64 int-to-nat64 fill i s .1 .ok ≡ false
+  ins-clear : (i : Instruction) (s : State) → s .ok ≡ false → eval-ins load-mem64 int-to-nat64 fill rule i s .1 .ok ≡ false
   unfolding eval-ins Source._>>=_
   ins-clear i s e =
-      ap (λ b. eval-ins load-mem64 int-to-nat64 fill i (with-ok b s) .1 .ok) e
-      ∙ every-ins (λ i. eval-ins load-mem64 int-to-nat64 fill i (with-ok false s) .1 .ok) (λ i. false) (λ bytes os. refl) i
+      ap (λ b. eval-ins load-mem64 int-to-nat64 fill rule i (with-ok b s) .1 .ok) e
+      ∙ every-ins (λ i. eval-ins load-mem64 int-to-nat64 fill rule i (with-ok false s) .1 .ok) (λ i. false) (λ bytes os. refl) i
 
-  clear-ocmp : (q : ℕ) (c : Ocmp) (f g : State → Logged) → Clears f → Clears g → Clears (log-ocmp load-mem64 int-to-nat64 fill q c f g)
+  clear-ocmp : (q : ℕ) (c : Ocmp) (f g : State → Logged) → Clears f → Clears g → Clears (log-ocmp load-mem64 int-to-nat64 fill rule q c f g)
   unfolding note-ocmp check Source.check
   clear-ocmp q c f g F G u e = clear-choose _ f g F G _ (bind-clear _ _ u e)
 
   clear-while : (p q : ℕ) (c : Ocmp) (body : ℕ → State → Logged) → ((f : ℕ) → Clears (body f))
-      → (f : ℕ) → Clears (log-while load-mem64 int-to-nat64 fill p q c body f)
+      → (f : ℕ) → Clears (log-while load-mem64 int-to-nat64 fill rule p q c body f)
   unfolding log-while
   clear-while p q c body h zero u e = tt
   clear-while p q c body h (suc f) u e =
@@ -70,13 +71,13 @@ module _ (load-mem64 : ℤ → Memory → ℕ) (int-to-nat64 : ℤ → ℕ) (fil
   mutual
     unfolding log-code log-codes
 
-    pub clear-code : (c : Code) (f : ℕ) → Clears (log-code load-mem64 int-to-nat64 fill c f)
-    clear-code (Ins p i) f u e = ap (λ r. r .1 .ok) (erase-ins load-mem64 int-to-nat64 fill i u) ∙ ins-clear i u e
+    pub clear-code : (c : Code) (f : ℕ) → Clears (log-code load-mem64 int-to-nat64 fill rule c f)
+    clear-code (Ins p i) f u e = ap (λ r. r .1 .ok) (erase-ins load-mem64 int-to-nat64 fill rule i u) ∙ ins-clear i u e
     clear-code (Block p cs) f u e = clear-codes cs f u e
     clear-code (IfElse p q c a b) f u e = clear-ocmp q c _ _ (clear-code a f) (clear-code b f) u e
     clear-code (While p q c b) f u e = clear-while p q c _ (clear-code b) f u e
 
-    clear-codes : (cs : Codes) (f : ℕ) → Clears (log-codes load-mem64 int-to-nat64 fill cs f)
+    clear-codes : (cs : Codes) (f : ℕ) → Clears (log-codes load-mem64 int-to-nat64 fill rule cs f)
     clear-codes ⟨⟩ f u e = e
     clear-codes (c ∷ᶜ cs) f u e = clear-some _ _ _ (clear-code c f u e) (clear-codes cs f)
 
@@ -159,7 +160,7 @@ module _ (env : Env) where
 
   module _ (load-mem64 : ℤ → Memory → ℕ) (loads : LoadsMem64 load-mem64) (int-to-nat64 : ℤ → ℕ) (ints : IntToNat64 int-to-nat64) where
     abbrev noted : Config → Ocmp → (State × Bool) × List Note
-    noted s c = note-ocmp load-mem64 int-to-nat64 (env .fill) (state-of env s) c
+    noted s c = note-ocmp load-mem64 int-to-nat64 (env .fill) (env .rule) (state-of env s) c
 
     ocmp-passes : (c : Ocmp) (s : Config) → WfOcmp c → Held env s → Run.valid-ocmp env c s ≡ true
         → noted s c ≡ ((state-of env (with-flags (env .fill) s), Run.eval-ocmp env c s), (Run.ocmp-number env c s, true) ∷ [])
@@ -177,7 +178,7 @@ module _ (env : Env) where
 
     -- of the run without a limit, which tries each step
     tells-ocmp : (q : ℕ) (c : Ocmp) (f g : Part) (f′ g′ : State → Logged) → WfOcmp c → TellAll f f′ → TellAll g g′ → Clears f′ → Clears g′
-        → TellAll (Running.decide env none q c f g) (log-ocmp load-mem64 int-to-nat64 (env .fill) q c f′ g′)
+        → TellAll (Running.decide env none q c f g) (log-ocmp load-mem64 int-to-nat64 (env .fill) (env .rule) q c f′ g′)
     unfolding Running.decide Running.run-ocmp Config.check step used-up count continue events first-bad
     tells-ocmp q c f g f′ g′ fits F G F′ G′ s k h = go (Run.valid-ocmp env c s) refl
       where
@@ -216,12 +217,12 @@ module _ (env : Env) where
 
     tells-rounds : (p q : ℕ) (c : Ocmp) (body : ℕ → Part) (body′ : ℕ → State → Logged) → WfOcmp c
         → ((f : ℕ) → TellAll (body f) (body′ f)) → ((f : ℕ) → Clears (body′ f)) → (f : ℕ)
-        → TellAll (Running.rounds env none body p q c f) (log-while load-mem64 int-to-nat64 (env .fill) p q c body′ f)
+        → TellAll (Running.rounds env none body p q c f) (log-while load-mem64 int-to-nat64 (env .fill) (env .rule) p q c body′ f)
     unfolding Running.rounds log-while first-bad choose
     tells-rounds p q c body body′ fits tells clears zero s k h = ends-spent p s refl refl tt
     tells-rounds p q c body body′ fits tells clears (suc f) s k h =
-        let next : State → Logged = λ u. choose (u .ok) (log-while load-mem64 int-to-nat64 (env .fill) p q c body′ f) returned u in
-        let next-clear : Clears next = λ u e. clear-choose (u .ok) _ _ (clear-while load-mem64 int-to-nat64 (env .fill) p q c body′ clears f) (λ v g. g) u e in
+        let next : State → Logged = λ u. choose (u .ok) (log-while load-mem64 int-to-nat64 (env .fill) (env .rule) p q c body′ f) returned u in
+        let next-clear : Clears next = λ u e. clear-choose (u .ok) _ _ (clear-while load-mem64 int-to-nat64 (env .fill) (env .rule) p q c body′ clears f) (λ v g. g) u e in
         tells-ocmp q c _ _ (λ u. if-some (body′ f u .0) (body′ f u .1) next) returned fits
         (λ t l i. tells-then _ _ _ _ next (tells f t l i) (tells-rounds p q c body body′ fits tells clears f) next-clear)
         tells-returned
@@ -231,16 +232,16 @@ module _ (env : Env) where
     mutual
       unfolding WfCode Running.run-code Running.run-codes step used-up log-code log-codes
 
-      pub tells-code : (c : Code) → WfCode c → (f : ℕ) → TellAll (Running.run-code env none c f) (log-code load-mem64 int-to-nat64 (env .fill) c f)
+      pub tells-code : (c : Code) → WfCode c → (f : ℕ) → TellAll (Running.run-code env none c f) (log-code load-mem64 int-to-nat64 (env .fill) (env .rule) c f)
       tells-code (Ins p i) fits f s k h = tells-ins p s _ _ (says-ins env load-mem64 loads int-to-nat64 ints p s h i fits)
       tells-code (Block p cs) fits f s k h = tells-codes cs fits f s k h
       tells-code (IfElse p q c a b) fits f s k h =
           tells-ocmp q c _ _ _ _ (fits .0) (tells-code a (fits .1) f) (tells-code b (fits .2) f)
-          (clear-code load-mem64 int-to-nat64 (env .fill) a f) (clear-code load-mem64 int-to-nat64 (env .fill) b f) s k h
+          (clear-code load-mem64 int-to-nat64 (env .fill) (env .rule) a f) (clear-code load-mem64 int-to-nat64 (env .fill) (env .rule) b f) s k h
       tells-code (While p q c b) fits f s k h =
-          tells-rounds p q c _ _ (fits .0) (tells-code b (fits .1)) (clear-code load-mem64 int-to-nat64 (env .fill) b) f s k h
+          tells-rounds p q c _ _ (fits .0) (tells-code b (fits .1)) (clear-code load-mem64 int-to-nat64 (env .fill) (env .rule) b) f s k h
 
-      pub tells-codes : (cs : Codes) → WfCodes cs → (f : ℕ) → TellAll (Running.run-codes env none cs f) (log-codes load-mem64 int-to-nat64 (env .fill) cs f)
+      pub tells-codes : (cs : Codes) → WfCodes cs → (f : ℕ) → TellAll (Running.run-codes env none cs f) (log-codes load-mem64 int-to-nat64 (env .fill) (env .rule) cs f)
       tells-codes ⟨⟩ fits f s k h = tells-returned s k h
       tells-codes (c ∷ᶜ cs) fits f s k h =
-          tells-then _ _ _ _ _ (tells-code c (fits .0) f s k h) (tells-codes cs (fits .1) f) (clear-codes load-mem64 int-to-nat64 (env .fill) cs f)
+          tells-then _ _ _ _ _ (tells-code c (fits .0) f s k h) (tells-codes cs (fits .1) f) (clear-codes load-mem64 int-to-nat64 (env .fill) (env .rule) cs f)

@@ -127,14 +127,14 @@ never-both env c s t t′ f g n p a b = go (leb f g) refl
 
 module _ (load-mem64 : ℤ → Memory → ℕ) (loads : LoadsMem64 load-mem64) (int-to-nat64 : ℤ → ℕ) (ints : IntToNat64 int-to-nat64)
     (env : Env) (s : Config) (cells : check-cells (env .addresses) (env .tags) (s .values) ≡ accepted) (c : Code) (fits : WfCode c) where
-  tells : (f : ℕ) → Tells env (unlimited env c f s) (log-code load-mem64 int-to-nat64 (env .fill) c f (state-of env s))
+  tells : (f : ℕ) → Tells env (unlimited env c f s) (log-code load-mem64 int-to-nat64 (env .fill) (env .rule) c f (state-of env s))
   tells f = tells-code env load-mem64 loads int-to-nat64 ints c fits f s nothing-counted (held (env .addresses) (env .tags) (s .values) cells)
 
-  erased : (f : ℕ) → log-code load-mem64 int-to-nat64 (env .fill) c f (state-of env s) .1 ≡ eval-code load-mem64 int-to-nat64 (env .fill) c f (state-of env s)
-  erased f = erase-code load-mem64 int-to-nat64 (env .fill) c f (state-of env s)
+  erased : (f : ℕ) → log-code load-mem64 int-to-nat64 (env .fill) (env .rule) c f (state-of env s) .1 ≡ eval-code load-mem64 int-to-nat64 (env .fill) (env .rule) c f (state-of env s)
+  erased f = erase-code load-mem64 int-to-nat64 (env .fill) (env .rule) c f (state-of env s)
 
   never : (f n p : ℕ) (t : Config) → unlimited env c f s ≡ ends (fault n p) t
-      → (g : ℕ) (u : State) → eval-code load-mem64 int-to-nat64 (env .fill) c g (state-of env s) ≡ some u → u .ok ≡ false
+      → (g : ℕ) (u : State) → eval-code load-mem64 int-to-nat64 (env .fill) (env .rule) c g (state-of env s) ≡ some u → u .ok ≡ false
   never f n p t e g u k = go (u .ok) refl
     where
       go : (b : Bool) → u .ok ≡ b → u .ok ≡ false
@@ -202,8 +202,8 @@ correspondence = record {
   running = λ load-mem64 loads int-to-nat64 ints env s cells code bytes c next e f limit.
       subst⁻¹ (λ (x : Ended). NotStopped (x .end .how) → Corresponds load-mem64 int-to-nat64 env c s f (x .end)) (ran env s cells code c next e f limit)
       (agrees load-mem64 loads int-to-nat64 ints env s cells c (parse-wf code bytes c next e) f limit);
-  ok-stays-clear = λ load-mem64 int-to-nat64 fill c f s u e k.
-      subst Clear (erase-code load-mem64 int-to-nat64 fill c f s ∙ e) (clear-code load-mem64 int-to-nat64 fill c f s k);
+  ok-stays-clear = λ load-mem64 int-to-nat64 fill rule c f s u e k.
+      subst Clear (erase-code load-mem64 int-to-nat64 fill rule c f s ∙ e) (clear-code load-mem64 int-to-nat64 fill rule c f s k);
   some-load = (load, load-is, load-word);
   some-int = (wrap, wrap-is, wrap-word);
 }

@@ -22,7 +22,8 @@ use Rattle.code.specs.declared.tree.Instruction.the-variants.{Mov64, Add64, Add
 use Rattle.code.proofs.Layouts.{every-ins}
 use Rattle.code.specs.WellFormed.{WfOperand, WfIns}
 use Rattle.code.proofs.Accepted.{WfTwo}
-use Rattle.eval.specs.Instructions.{add-flags, two-word, two-flags, quads-word, quads-flags, shifts-word, inserts-word}
+use Rattle.eval.specs.FlagRule.{FlagRule}
+use Rattle.eval.specs.Instructions.{two-word, two-flags, quads-word, quads-flags, shifts-word, inserts-word}
 use Rattle.eval.specs.Config.{Env, Config, with-regs, with-xmms, with-flags, End, ends, done, fault}
 use Rattle.eval.specs.Config as Config
 use Rattle.eval.specs.Instructions as Run
@@ -164,19 +165,19 @@ module _ (env : Env) where
   module _ (load-mem64 : ℤ → Memory → ℕ) (loads : LoadsMem64 load-mem64) (int-to-nat64 : ℤ → ℕ) (ints : IntToNat64 int-to-nat64) where
     -- a destination is written, and flags are the fill word
     update-gate : (dst : Operand) (i : Instruction) (v w : ℕ) (s : Config) → Held env s → (Run.valid-dst-operand env dst s ≡ true → v ≡ w)
-        → Gate (update-operand load-mem64 int-to-nat64 (env .fill) dst i v)
+        → Gate (update-operand load-mem64 int-to-nat64 (env .fill) (env .rule) dst i v)
         s (with-flags (env .fill) (Run.update-operand env dst w s)) (Run.valid-dst-operand env dst s) (wild-or 32 dst (s .regs))
     unfolding update-operand Source.update-operand′
     update-gate dst i v w s h same =
         let put : ℕ → State = λ x. Source.update-operand-preserve-flags′ dst x (state-of env s) in
-        put-gate (dst-number dst) (Source.valid-dst-operand dst) (Source.update-operand′ load-mem64 int-to-nat64 (env .fill) dst i v) s _ _ h
+        put-gate (dst-number dst) (Source.valid-dst-operand dst) (Source.update-operand′ load-mem64 int-to-nat64 (env .fill) (env .rule) dst i v) s _ _ h
         (update-held env dst w s h)
         (valid-dst-is env dst s h)
         (λ g. ap (Source.with-flags (env .fill)) (ap put (same g) ∙ update-is env dst w s h g))
 
     -- the values of an operand in the source and in the run
     abbrev read : Operand → Config → ℕ
-    read o s = Source.eval-operand load-mem64 int-to-nat64 (env .fill) o (state-of env s)
+    read o s = Source.eval-operand load-mem64 int-to-nat64 (env .fill) (env .rule) o (state-of env s)
 
     abbrev value : Operand → Config → ℕ
     value = Run.eval-operand env
@@ -216,13 +217,13 @@ module _ (env : Env) where
 
       -- a destination is written and flags are the fill word
       says-write : (dst : Operand) (i : Instruction) (v w : ℕ) → (Run.valid-dst-operand env dst s ≡ true → v ≡ w)
-          → Says p s (update-operand load-mem64 int-to-nat64 (env .fill) dst i v) s (write env p dst w (env .fill) s)
+          → Says p s (update-operand load-mem64 int-to-nat64 (env .fill) (env .rule) dst i v) s (write env p dst w (env .fill) s)
       says-write dst i v w same = says-last p s _ s _ _ _ (update-gate dst i v w s h same)
 
       -- a destination is written, and then flags by m
       says-flags : (dst : Operand) (i : Instruction) (v w : ℕ) (m : St (Unit {0})) (flags : ℕ) → (Run.valid-dst-operand env dst s ≡ true → v ≡ w)
           → (Run.valid-dst-operand env dst s ≡ true → (t : Config) → m (state-of env (with-flags (env .fill) t)) .1 ≡ state-of env (with-flags flags t))
-          → Says p s (update-operand load-mem64 int-to-nat64 (env .fill) dst i v >> quiet m) s (write env p dst w flags s)
+          → Says p s (update-operand load-mem64 int-to-nat64 (env .fill) (env .rule) dst i v >> quiet m) s (write env p dst w flags s)
       says-flags dst i v w m flags same sets =
           let t = Run.update-operand env dst w s in
           says-then p s _ _ s (with-flags (env .fill) t) _ _ _ (update-gate dst i v w s h same)
@@ -232,7 +233,7 @@ module _ (env : Env) where
       says-two : (dst src : Operand) → WfTwo dst src → (i : Instruction) (f g : ℕ → ℕ → ℕ)
           → Says p s (do
             check (source-number src) (Source.valid-operand src)
-            update-operand load-mem64 int-to-nat64 (env .fill) dst i (f (read dst s) (read src s))
+            update-operand load-mem64 int-to-nat64 (env .fill) (env .rule) dst i (f (read dst s) (read src s))
             quiet (Source.update-flags (g (read dst s) (read src s)))) s
           (read-check env p src s (write env p dst (f (value dst s) (value src s)) (g (value dst s) (value src s)) s))
       unfolding Source.update-flags Source._>>=_
@@ -246,7 +247,7 @@ module _ (env : Env) where
       says-cleared : (dst src : Operand) → WfTwo dst src → (i : Instruction) (f : ℕ → ℕ → ℕ)
           → Says p s (do
             check (source-number src) (Source.valid-operand src)
-            update-operand load-mem64 int-to-nat64 (env .fill) dst i (f (read dst s) (read src s))
+            update-operand load-mem64 int-to-nat64 (env .fill) (env .rule) dst i (f (read dst s) (read src s))
             quiet (Source.update-cf-of false false)) s
           (read-check env p src s (write env p dst (f (value dst s) (value src s)) (update-cf (update-of (env .fill) false) false) s))
       unfolding Source.update-cf-of Source._>>=_
@@ -257,19 +258,19 @@ module _ (env : Env) where
       says-binary : (dst src : Operand) → WfTwo dst src → (i : Instruction) (f : ℕ → ℕ → ℕ)
           → Says p s (do
             check (source-number src) (Source.valid-operand src)
-            update-operand load-mem64 int-to-nat64 (env .fill) dst i (f (read dst s) (read src s))) s
+            update-operand load-mem64 int-to-nat64 (env .fill) (env .rule) dst i (f (read dst s) (read src s))) s
           (read-check env p src s (write env p dst (f (value dst s) (value src s)) (env .fill) s))
       says-binary dst src fits i f =
           says-source src _ _ (λ e. says-write dst i _ _ (λ d. two-are f dst src fits d e))
 
       -- a shift amount: one check of the source; in the run that of what is read, and then 33
       says-amount : (o : Operand) → WfOperand o → (k : Noted (Unit {0})) (r : End) → (Run.valid-operand env o s ≡ true → Says p s k s r)
-          → Says p s (check (amount o) (Source.valid-shift-operand load-mem64 int-to-nat64 (env .fill) o) >> k) s (amount-check env p o s r)
+          → Says p s (check (amount o) (Source.valid-shift-operand load-mem64 int-to-nat64 (env .fill) (env .rule) o) >> k) s (amount-check env p o s r)
       unfolding Config.check Source.valid-shift-operand
       says-amount o fits k r f = go (Run.valid-operand env o s) refl
         where
           valid : State → Bool
-          valid = Source.valid-shift-operand load-mem64 int-to-nat64 (env .fill) o
+          valid = Source.valid-shift-operand load-mem64 int-to-nat64 (env .fill) (env .rule) o
 
           n : ℕ
           n = wild-or 31 o (s .regs)
@@ -288,8 +289,8 @@ module _ (env : Env) where
       -- f of a destination that is read and a shift amount
       says-shift : (dst amt : Operand) → WfTwo dst amt → (i : Instruction) (f : ℕ → ℕ → ℕ)
           → Says p s (do
-            check (amount amt) (Source.valid-shift-operand load-mem64 int-to-nat64 (env .fill) amt)
-            update-operand load-mem64 int-to-nat64 (env .fill) dst i (f (read dst s) (read amt s))) s
+            check (amount amt) (Source.valid-shift-operand load-mem64 int-to-nat64 (env .fill) (env .rule) amt)
+            update-operand load-mem64 int-to-nat64 (env .fill) (env .rule) dst i (f (read dst s) (read amt s))) s
           (amount-check env p amt s (write env p dst (f (value dst s) (value amt s)) (env .fill) s))
       says-shift dst amt fits i f =
           says-amount amt (fits .1) _ _ (λ e. says-write dst i _ _ (λ d. two-are f dst amt fits d e))
@@ -310,12 +311,12 @@ module _ (env : Env) where
 
       -- ---- the instructions that are like no other
       says-carry : (dst src : Operand) → WfTwo dst src
-          → Says p s (note-ins load-mem64 int-to-nat64 (env .fill) (AddCarry64 dst src)) s (Run.run-ins env p (AddCarry64 dst src) s)
+          → Says p s (note-ins load-mem64 int-to-nat64 (env .fill) (env .rule) (AddCarry64 dst src)) s (Run.run-ins env p (AddCarry64 dst src) s)
       unfolding note-ins Run.run-ins Run.act two-word two-flags sum-mod Source.update-flags Source._>>=_
       says-carry dst src fits =
           let c = bit (cf (s .flags)) in
           let sum : ℕ → ℕ → ℕ = λ a b. (a + b + c) % 2 ^ 64 in
-          let flags : ℕ → ℕ → ℕ = λ a b. add-flags (env .fill) (s .flags) a b c in
+          let flags : ℕ → ℕ → ℕ = λ a b. env .rule (env .fill) (s .flags) a b c in
           let t = Run.update-operand env dst (sum (value dst s) (value src s)) s in
           let u = with-flags (env .fill) t in
           let g = update-held env dst (sum (value dst s) (value src s)) s h in
@@ -324,7 +325,7 @@ module _ (env : Env) where
           says-next (Source.update-flags (env .fill)) _ u u _ g refl
           (says-end _ u (with-flags (flags (value dst s) (value src s)) t) g (ap (λ x. state-of env (with-flags x t)) (two-are flags dst src fits d e))))))
 
-      says-mul : (src : Operand) → WfOperand src → Says p s (note-ins load-mem64 int-to-nat64 (env .fill) (Mul64 src)) s (Run.run-ins env p (Mul64 src) s)
+      says-mul : (src : Operand) → WfOperand src → Says p s (note-ins load-mem64 int-to-nat64 (env .fill) (env .rule) (Mul64 src)) s (Run.run-ins env p (Mul64 src) s)
       unfolding note-ins Run.run-ins Run.act Source.update-reg Source.update-flags Source._>>=_
       says-mul src fits =
           let a = reg-at (s .regs) Rax in
@@ -336,7 +337,7 @@ module _ (env : Env) where
           (says-end _ (hi (value src s)) (with-flags (env .fill) (hi (value src s))) h refl))))
 
       says-mulx : (dst-hi dst-lo src : Operand) → WfOperand src
-          → Says p s (note-ins load-mem64 int-to-nat64 (env .fill) (Mulx64 dst-hi dst-lo src)) s (Run.run-ins env p (Mulx64 dst-hi dst-lo src) s)
+          → Says p s (note-ins load-mem64 int-to-nat64 (env .fill) (env .rule) (Mulx64 dst-hi dst-lo src)) s (Run.run-ins env p (Mulx64 dst-hi dst-lo src) s)
       unfolding note-ins Run.run-ins Run.act
       says-mulx dst-hi dst-lo src fits =
           let a = reg-at (s .regs) Rdx in
@@ -349,14 +350,14 @@ module _ (env : Env) where
           (λ _. ap (mul-div 64 a) (is src fits e))))))
 
       -- ---- every instruction
-      pub says-ins : (i : Instruction) → WfIns i → Says p s (note-ins load-mem64 int-to-nat64 (env .fill) i) s (Run.run-ins env p i s)
+      pub says-ins : (i : Instruction) → WfIns i → Says p s (note-ins load-mem64 int-to-nat64 (env .fill) (env .rule) i) s (Run.run-ins env p i s)
       unfolding WfIns note-ins Run.run-ins Run.act
           two-word two-flags quads-word quads-flags shifts-word inserts-word
           Source.eval-ins Source.update-xmm Source.update-xmm-preserve-flags Source.update-cf-of Source._>>=_
           sum-mod sum-carry mul-mod add-lanes equal-lanes shl-lanes shr-lanes shuffle-lanes shift-quad
       says-ins (Mov64 dst src) fits = says-get _ _ (says-source src _ _ (λ e. says-keep dst _ _ (λ _. is src (fits .1) e)))
       says-ins (Add64 dst src) fits =
-          says-get _ _ (says-two dst src fits (Add64 dst src) (λ a b. (a + b) % 2 ^ 64) (λ a b. add-flags (env .fill) (s .flags) a b 0))
+          says-get _ _ (says-two dst src fits (Add64 dst src) (λ a b. (a + b) % 2 ^ 64) (λ a b. env .rule (env .fill) (s .flags) a b 0))
       says-ins (AddLea64 dst src1 src2) fits =
           says-get _ _ (says-source src1 _ _ (λ e. says-source src2 _ _ (λ g.
           says-keep dst _ _ (λ _. ap₂ (λ a b. (a + b) % 2 ^ 64) (is src1 (fits .1 .0) e) (is src2 (fits .1 .1) g)))))
@@ -393,9 +394,9 @@ module _ (env : Env) where
           says-get _ _ (says-two dst src fits (Tzcnt64 dst src) (λ a b. tzcnt 64 b) (λ a b. update-cf (env .fill) (eqb b 0)))
 
 -- without its notes an instruction is the source's
-module _ (load-mem64 : ℤ → Memory → ℕ) (int-to-nat64 : ℤ → ℕ) (fill : ℕ) where
-  pub erase-ins : (i : Instruction) (s : State) → note-ins load-mem64 int-to-nat64 fill i s .0 ≡ Source.eval-ins load-mem64 int-to-nat64 fill i s
+module _ (load-mem64 : ℤ → Memory → ℕ) (int-to-nat64 : ℤ → ℕ) (fill : ℕ) (rule : FlagRule) where
+  pub erase-ins : (i : Instruction) (s : State) → note-ins load-mem64 int-to-nat64 fill rule i s .0 ≡ Source.eval-ins load-mem64 int-to-nat64 fill rule i s
   unfolding note-ins Source.eval-ins _>>=_ Source._>>=_ quiet check check-imm
       update-operand Source.update-operand update-operand-preserve-flags Source.update-operand-preserve-flags
   erase-ins i s =
-      every-ins (λ i. note-ins load-mem64 int-to-nat64 fill i s .0) (λ i. Source.eval-ins load-mem64 int-to-nat64 fill i s) (λ bytes os. refl) i
+      every-ins (λ i. note-ins load-mem64 int-to-nat64 fill rule i s .0) (λ i. Source.eval-ins load-mem64 int-to-nat64 fill rule i s) (λ bytes os. refl) i

@@ -20,8 +20,8 @@ use Rattle.machine.specs.declared.reg.Reg.{Reg}
 use Rattle.machine.specs.declared.Operand.{Operand}
 use Rattle.machine.proofs.RegisterLaws.{xmm-same, xmm-other}
 use Rattle.code.specs.declared.tree.Instruction.the-variants.{Add64, AddCarry64, Pcmpeqd}
-use Rattle.eval.specs.Instructions.{add-flags}
 use Rattle.machine.specs.Memory.{Memory}
+use Rattle.eval.specs.FlagRule.{base-flags}
 use Rattle.source.specs.Source.{State, eval-reg, eval-xmm, update-reg′, update-xmm′, choose, if-some, eval-ins, eval-while, eval-code, eval-codes}
 use Rattle.source.specs.Upstream.{Upstream, IntToNatN, add64-text, add-carry64-text, pcmpeqd-text}
 
@@ -52,8 +52,8 @@ round-is true o w s = ap (if-some (o s)) (fun-ext (λ s1. choose-is (s1 .ok) w s
 round-is false o w s = refl
 
 -- a sum with no carry in
-no-carry : (fill flags a b : ℕ) → add-flags fill flags a b 0 ≡ update-cf flags (leb (2 ^ 64) (a + b))
-unfolding add-flags sum-carry
+no-carry : (fill flags a b : ℕ) → base-flags fill flags a b 0 ≡ update-cf flags (leb (2 ^ 64) (a + b))
+unfolding base-flags sum-carry
 no-carry fill flags a b = rw (add-zero (a + b))
 
 difference : (a b : ℕ) → a < 2 ^ 64 → b < 2 ^ 64 → sub-mod 64 a b ≡ wrap (subℕ a b)
@@ -95,17 +95,17 @@ unfolding two-to-nat
 pair int-to-natN meets x l h = sym (meets (2 ^ 64) (x .lo + x .hi * 2 ^ 32) (two-to-nat-lt 32 x l h))
 
 module _ (load-mem64 : ℤ → Memory → ℕ) (int-to-nat64 : ℤ → ℕ) (fill : ℕ) where
-  ins-pcmpeqd : (dst src : ℕ) → eval-ins load-mem64 int-to-nat64 fill (Pcmpeqd dst src) ≡ pcmpeqd-text load-mem64 int-to-nat64 fill dst src
+  ins-pcmpeqd : (dst src : ℕ) → eval-ins load-mem64 int-to-nat64 fill base-flags (Pcmpeqd dst src) ≡ pcmpeqd-text load-mem64 int-to-nat64 fill dst src
   unfolding eval-ins
   ins-pcmpeqd dst src = refl
 
-  ins-add : (dst src : Operand) → eval-ins load-mem64 int-to-nat64 fill (Add64 dst src) ≡ add64-text load-mem64 int-to-nat64 fill dst src
+  ins-add : (dst src : Operand) → eval-ins load-mem64 int-to-nat64 fill base-flags (Add64 dst src) ≡ add64-text load-mem64 int-to-nat64 fill dst src
   unfolding eval-ins
   ins-add dst src = simp no-carry
 
   ins-add-carry : (dst src : Operand)
-      → eval-ins load-mem64 int-to-nat64 fill (AddCarry64 dst src) ≡ add-carry64-text load-mem64 int-to-nat64 fill dst src
-  unfolding eval-ins add-flags sum-carry
+      → eval-ins load-mem64 int-to-nat64 fill base-flags (AddCarry64 dst src) ≡ add-carry64-text load-mem64 int-to-nat64 fill dst src
+  unfolding eval-ins base-flags sum-carry
   ins-add-carry dst src = refl
 
   pub text : Upstream load-mem64 int-to-nat64 fill

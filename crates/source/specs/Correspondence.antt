@@ -10,6 +10,7 @@ use Rattle.machine.specs.Memory.{Memory, Mem64, LoadsMem64, memory-of}
 use Rattle.code.specs.Tree.{Code}
 use Rattle.code.specs.WellFormed.{Bytes, WfCode}
 use Rattle.code.specs.Reader.{got, parse}
+use Rattle.eval.specs.FlagRule.{FlagRule}
 use Rattle.eval.specs.Config.{Env, Config, End, ends, done, fault, spent, NotStopped}
 use Rattle.eval.specs.Counted.{nothing-counted}
 use Rattle.eval.specs.Running.{run-code, run-of}
@@ -28,11 +29,11 @@ state-of env s =
 module _ (load-mem64 : ℤ → Memory → ℕ) (int-to-nat64 : ℤ → ℕ) (env : Env) (c : Code) (s : Config) where
   -- what the source returns of code c from s, with fuel f
   abbrev pub source : ℕ → Option State
-  source f = eval-code load-mem64 int-to-nat64 (env .fill) c f (state-of env s)
+  source f = eval-code load-mem64 int-to-nat64 (env .fill) (env .rule) c f (state-of env s)
 
   -- the first bad event that it meets
   abbrev pub bad-event : ℕ → Option Event
-  bad-event f = first-bad (log-code load-mem64 int-to-nat64 (env .fill) c f (state-of env s) .0)
+  bad-event f = first-bad (log-code load-mem64 int-to-nat64 (env .fill) (env .rule) c f (state-of env s) .0)
 
   -- what the source with fuel f and the end r of a run say of each other
   pub record Corresponds (f : ℕ) (r : End) : Type 0 where
@@ -54,8 +55,8 @@ module _ (load-mem64 : ℤ → Memory → ℕ) (int-to-nat64 : ℤ → ℕ) (env
 -- all that the second demand says of run and source
 pub record Correspondence : Type 0 where
   -- the log without its events is the source
-  pub erased : (load-mem64 : ℤ → Memory → ℕ) (int-to-nat64 : ℤ → ℕ) (fill : ℕ) (c : Code) (f : ℕ) (s : State)
-      → log-code load-mem64 int-to-nat64 fill c f s .1 ≡ eval-code load-mem64 int-to-nat64 fill c f s
+  pub erased : (load-mem64 : ℤ → Memory → ℕ) (int-to-nat64 : ℤ → ℕ) (fill : ℕ) (rule : FlagRule) (c : Code) (f : ℕ) (s : State)
+      → log-code load-mem64 int-to-nat64 fill rule c f s .1 ≡ eval-code load-mem64 int-to-nat64 fill rule c f s
   -- run and source agree, for every `load_mem64` and `int_to_nat64` that meet their clauses, over accepted cells, where the run is not stopped: a tree
   -- within its bounds,
   pub tree : (load-mem64 : ℤ → Memory → ℕ) → LoadsMem64 load-mem64 → (int-to-nat64 : ℤ → ℕ) → IntToNat64 int-to-nat64
@@ -69,8 +70,8 @@ pub record Correspondence : Type 0 where
       → (f : ℕ) (limit : Option ℕ) → NotStopped (run-of code env f limit s .end .how)
       → Corresponds load-mem64 int-to-nat64 env c s f (run-of code env f limit s .end)
   -- a start with ok clear never ends with it set
-  pub ok-stays-clear : (load-mem64 : ℤ → Memory → ℕ) (int-to-nat64 : ℤ → ℕ) (fill : ℕ) (c : Code) (f : ℕ) (s u : State)
-      → eval-code load-mem64 int-to-nat64 fill c f s ≡ some u → s .ok ≡ false → u .ok ≡ false
+  pub ok-stays-clear : (load-mem64 : ℤ → Memory → ℕ) (int-to-nat64 : ℤ → ℕ) (fill : ℕ) (rule : FlagRule) (c : Code) (f : ℕ) (s u : State)
+      → eval-code load-mem64 int-to-nat64 fill rule c f s ≡ some u → s .ok ≡ false → u .ok ≡ false
   -- some `load_mem64` meets its clause, and gives words where memory holds words
   pub some-load : (load-mem64 : ℤ → Memory → ℕ) × LoadsMem64 load-mem64
       × ((addr : ℤ) (m : Memory) → ((v : ℕ) → m addr ≡ Mem64 v → v < 2 ^ 64) → load-mem64 addr m < 2 ^ 64)

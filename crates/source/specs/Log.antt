@@ -21,7 +21,7 @@ use Rattle.code.specs.declared.tree.Instruction.the-variants.{Mov64, Add64, Add
 use Rattle.code.specs.declared.tree.Ocmp.{Ocmp}
 use Rattle.code.specs.Layout.{ocmp-layout}
 use Rattle.code.specs.Tree.{Code, Ins, Block, IfElse, While, Codes, ⟨⟩, _∷ᶜ_}
-use Rattle.eval.specs.Instructions.{add-flags}
+use Rattle.eval.specs.FlagRule.{FlagRule}
 use Rattle.source.specs.Source.{State, with-ok, with-flags, pow2-32, pow2-64, St, put, choose, eval-reg, eval-xmm, valid-operand, valid-ocmp, valid-dst-operand, update-operand-preserve-flags′, update-reg, update-xmm-preserve-flags, update-flags, update-cf-of}
 use Rattle.source.specs.Source as Source
 
@@ -126,25 +126,25 @@ if-some log (some s) k = after log (k s)
 abbrev pub returned : State → Logged
 returned s = ([], some s)
 
-module _ (load-mem64 : ℤ → Memory → ℕ) (int-to-nat64 : ℤ → ℕ) (fill : ℕ) where
+module _ (load-mem64 : ℤ → Memory → ℕ) (int-to-nat64 : ℤ → ℕ) (fill : ℕ) (rule : FlagRule) where
   -- what the text names, over the open places
   abbrev havoc : {A : Type 0} → State → A → ℕ
-  havoc = Source.havoc load-mem64 int-to-nat64 fill
+  havoc = Source.havoc load-mem64 int-to-nat64 fill rule
 
   -- `eval_operand`
   abbrev eval-operand : Operand → State → ℕ
-  eval-operand = Source.eval-operand load-mem64 int-to-nat64 fill
+  eval-operand = Source.eval-operand load-mem64 int-to-nat64 fill rule
 
   -- `valid_shift_operand`
   abbrev valid-shift-operand : Operand → State → Bool
-  valid-shift-operand = Source.valid-shift-operand load-mem64 int-to-nat64 fill
+  valid-shift-operand = Source.valid-shift-operand load-mem64 int-to-nat64 fill rule
 
   -- `update_operand`
   unfoldable pub update-operand : Operand → Instruction → ℕ → Noted (Unit {0})
   update-operand dst ins v = do
     check (dst-number dst) (valid-dst-operand dst)
     s ← get
-    quiet (put (Source.update-operand′ load-mem64 int-to-nat64 fill dst ins v s))
+    quiet (put (Source.update-operand′ load-mem64 int-to-nat64 fill rule dst ins v s))
 
   -- `eval_ins`
   unfoldable pub note-ins : Instruction → Noted (Unit {0})
@@ -156,7 +156,7 @@ module _ (load-mem64 : ℤ → Memory → ℕ) (int-to-nat64 : ℤ → ℕ) (fil
     s ← get
     check (source-number src) (valid-operand src)
     update-operand dst (Add64 dst src) ((eval-operand dst s + eval-operand src s) % pow2-64)
-    quiet (update-flags (add-flags fill (s .flags) (eval-operand dst s) (eval-operand src s) 0))
+    quiet (update-flags (rule fill (s .flags) (eval-operand dst s) (eval-operand src s) 0))
   note-ins (AddLea64 dst src1 src2) = do
     s ← get
     check (source-number src1) (valid-operand src1)
@@ -169,7 +169,7 @@ module _ (load-mem64 : ℤ → Memory → ℕ) (int-to-nat64 : ℤ → ℕ) (fil
     let sum = eval-operand dst s + eval-operand src s + old-carry
     update-operand dst (AddCarry64 dst src) (sum % pow2-64)
     quiet (update-flags (havoc s (AddCarry64 dst src)))
-    quiet (update-flags (add-flags fill (s .flags) (eval-operand dst s) (eval-operand src s) old-carry))
+    quiet (update-flags (rule fill (s .flags) (eval-operand dst s) (eval-operand src s) old-carry))
   note-ins (Adcx64 dst src) = do
     s ← get
     check (source-number src) (valid-operand src)
@@ -226,8 +226,8 @@ module _ (load-mem64 : ℤ → Memory → ℕ) (int-to-nat64 : ℤ → ℕ) (fil
     s ← get
     check (amount amt) (valid-shift-operand amt)
     update-operand dst (Shl64 dst amt) (ishl 64 (eval-operand dst s) (eval-operand amt s))
-  note-ins (Paddd dst src) = quiet (Source.eval-ins load-mem64 int-to-nat64 fill (Paddd dst src))
-  note-ins (Pxor dst src) = quiet (Source.eval-ins load-mem64 int-to-nat64 fill (Pxor dst src))
+  note-ins (Paddd dst src) = quiet (Source.eval-ins load-mem64 int-to-nat64 fill rule (Paddd dst src))
+  note-ins (Pxor dst src) = quiet (Source.eval-ins load-mem64 int-to-nat64 fill rule (Pxor dst src))
   note-ins (Pslld dst amt) = do
     s ← get
     check-imm 34 (ltb amt 32)
@@ -237,8 +237,8 @@ module _ (load-mem64 : ℤ → Memory → ℕ) (int-to-nat64 : ℤ → ℕ) (fil
     check-imm 34 (ltb amt 32)
     quiet (update-xmm-preserve-flags dst (four-map (λ i. ishr i amt) (eval-xmm dst s)))
   note-ins (Pshufd dst src permutation) =
-      quiet (Source.eval-ins load-mem64 int-to-nat64 fill (Pshufd dst src permutation))
-  note-ins (Pcmpeqd dst src) = quiet (Source.eval-ins load-mem64 int-to-nat64 fill (Pcmpeqd dst src))
+      quiet (Source.eval-ins load-mem64 int-to-nat64 fill rule (Pshufd dst src permutation))
+  note-ins (Pcmpeqd dst src) = quiet (Source.eval-ins load-mem64 int-to-nat64 fill rule (Pcmpeqd dst src))
   note-ins (Pextrq dst src index) = do
     s ← get
     let src-q = eval-xmm src s
@@ -282,7 +282,7 @@ module _ (load-mem64 : ℤ → Memory → ℕ) (int-to-nat64 : ℤ → ℕ) (fil
   note-ocmp s c =
       let r = check (ocmp-number c) (valid-ocmp c) s in
       let s1 = r .0 .1 in
-      ((with-flags (havoc s1 c) s1, Source.eval-ocmp load-mem64 int-to-nat64 fill s1 c), r .1)
+      ((with-flags (havoc s1 c) s1, Source.eval-ocmp load-mem64 int-to-nat64 fill rule s1 c), r .1)
 
   -- a comparison at its place, and the way that it takes
   abbrev pub log-ocmp : ℕ → Ocmp → (State → Logged) → (State → Logged) → State → Logged

@@ -26,7 +26,7 @@ use Rattle.code.specs.declared.tree.Instruction.the-variants.{Mov64, Add64, Add
 use Rattle.code.specs.declared.tree.Ocmp.{Ocmp}
 use Rattle.code.specs.declared.tree.Ocmp.the-variants.{OEq, ONe, OLe, OGe, OLt, OGt}
 use Rattle.code.specs.Tree.{Code, Ins, Block, IfElse, While, Codes, ⟨⟩, _∷ᶜ_}
-use Rattle.eval.specs.Instructions.{add-flags}
+use Rattle.eval.specs.FlagRule.{FlagRule}
 use Rattle.machine.specs.Operands as Address
 
 -- `state`
@@ -206,7 +206,7 @@ update-cf-of new-cf new-of = do
   s ← get
   put (with-flags (update-cf (update-of (s .flags) new-of) new-cf) s)
 
-module _ (load-mem64 : ℤ → Memory → ℕ) (int-to-nat64 : ℤ → ℕ) (fill : ℕ) where
+module _ (load-mem64 : ℤ → Memory → ℕ) (int-to-nat64 : ℤ → ℕ) (fill : ℕ) (rule : FlagRule) where
   -- `havoc`, of a state and an instruction or comparison
   abbrev pub havoc : {A : Type 0} → State → A → ℕ
   havoc s a = fill
@@ -261,7 +261,7 @@ module _ (load-mem64 : ℤ → Memory → ℕ) (int-to-nat64 : ℤ → ℕ) (fil
     s ← get
     check (valid-operand src)
     update-operand dst (Add64 dst src) ((eval-operand dst s + eval-operand src s) % pow2-64)
-    update-flags (add-flags fill (s .flags) (eval-operand dst s) (eval-operand src s) 0)
+    update-flags (rule fill (s .flags) (eval-operand dst s) (eval-operand src s) 0)
   eval-ins (AddLea64 dst src1 src2) = do
     s ← get
     check (valid-operand src1)
@@ -274,7 +274,7 @@ module _ (load-mem64 : ℤ → Memory → ℕ) (int-to-nat64 : ℤ → ℕ) (fil
     let sum = eval-operand dst s + eval-operand src s + old-carry
     update-operand dst (AddCarry64 dst src) (sum % pow2-64)
     update-flags (havoc s (AddCarry64 dst src))
-    update-flags (add-flags fill (s .flags) (eval-operand dst s) (eval-operand src s) old-carry)
+    update-flags (rule fill (s .flags) (eval-operand dst s) (eval-operand src s) old-carry)
   eval-ins (Adcx64 dst src) = do
     s ← get
     check (valid-operand src)

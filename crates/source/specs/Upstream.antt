@@ -22,6 +22,7 @@ use Rattle.code.specs.declared.tree.Instruction.{Instruction}
 use Rattle.code.specs.declared.tree.Instruction.the-variants.{Add64, AddCarry64, Pcmpeqd}
 use Rattle.code.specs.declared.tree.Ocmp.{Ocmp}
 use Rattle.code.specs.Tree.{Code, Ins, Block, IfElse, While, Codes, ⟨⟩, _∷ᶜ_}
+use Rattle.eval.specs.FlagRule.{base-flags}
 use Rattle.source.specs.Source as Source
 use Rattle.source.specs.Source.{State, St, pow2-64, _>>=_, _>>_, get, check, valid-operand, eval-reg, eval-xmm, update-reg′, update-xmm′, update-xmm-preserve-flags, update-flags, run, if-some}
 
@@ -32,35 +33,35 @@ IntToNatN int-to-natN = (n i : ℕ) → i < n → int-to-natN n (pos i) ≡ i
 module _ (load-mem64 : ℤ → Memory → ℕ) (int-to-nat64 : ℤ → ℕ) (fill : ℕ) where
   -- what the text names, over the open places
   abbrev eval-ins : Instruction → St (Unit {0})
-  eval-ins = Source.eval-ins load-mem64 int-to-nat64 fill
+  eval-ins = Source.eval-ins load-mem64 int-to-nat64 fill base-flags
 
   -- `eval_operand`
   abbrev eval-operand : Operand → State → ℕ
-  eval-operand = Source.eval-operand load-mem64 int-to-nat64 fill
+  eval-operand = Source.eval-operand load-mem64 int-to-nat64 fill base-flags
 
   -- `update_operand`
   abbrev update-operand : Operand → Instruction → ℕ → St (Unit {0})
-  update-operand = Source.update-operand load-mem64 int-to-nat64 fill
+  update-operand = Source.update-operand load-mem64 int-to-nat64 fill base-flags
 
   -- `havoc`
   abbrev havoc : State → Instruction → ℕ
-  havoc = Source.havoc load-mem64 int-to-nat64 fill
+  havoc = Source.havoc load-mem64 int-to-nat64 fill base-flags
 
   -- `eval_code`
   abbrev eval-code : Code → ℕ → State → Option State
-  eval-code = Source.eval-code load-mem64 int-to-nat64 fill
+  eval-code = Source.eval-code load-mem64 int-to-nat64 fill base-flags
 
   -- `eval_codes`
   abbrev eval-codes : Codes → ℕ → State → Option State
-  eval-codes = Source.eval-codes load-mem64 int-to-nat64 fill
+  eval-codes = Source.eval-codes load-mem64 int-to-nat64 fill base-flags
 
   -- `eval_while b c`
   abbrev eval-while : Ocmp → Code → ℕ → State → Option State
-  eval-while b c = Source.eval-while load-mem64 int-to-nat64 fill b (Source.eval-code load-mem64 int-to-nat64 fill c)
+  eval-while b c = Source.eval-while load-mem64 int-to-nat64 fill base-flags b (Source.eval-code load-mem64 int-to-nat64 fill base-flags c)
 
   -- `run_ocmp`
   abbrev run-ocmp : State → Ocmp → State × Bool
-  run-ocmp = Source.run-ocmp load-mem64 int-to-nat64 fill
+  run-ocmp = Source.run-ocmp load-mem64 int-to-nat64 fill base-flags
 
   -- `eval_ins` of Add64
   abbrev pub add64-text : Operand → Operand → St (Unit {0})
