@@ -1,12 +1,19 @@
 -- What the C interface says of an answer, in numbers.
 use Prim.Native.Nat.{ℕ}
+use mathlib.Core.Bool.{cond}
 use mathlib.Core.List.{List}
+use lib.Dec.{eqb}
 use Rattle.machine.specs.declared.State.{State}
 use Rattle.machine.specs.Cells.{Verdict}
 use Rattle.machine.specs.Cells.{accepted as check-accepted, refused as check-refused}
 use Rattle.eval.specs.Config.{Config, Outcome, done, fault, stopped, spent, refused}
 use Rattle.eval.specs.Counted.{Ended}
+use Rattle.eval.specs.Inputs.{IsInput}
 use Rattle.eval.specs.declared.answer.Setting.{Setting}
+use Rattle.eval.specs.declared.answer.Evaluation.{Evaluation}
+use Rattle.eval.specs.declared.answer.Evaluation.the-variants.{Base, Board}
+use Rattle.capi.specs.declared.GivenEvaluation.{GivenEvaluation}
+use Rattle.capi.specs.declared.GivenEvaluation.the-variants.{Value, Nothing}
 
 -- a number with a place or an index
 pub record Refusal : Type 0 where
@@ -51,10 +58,24 @@ ending t s steps = record { how = t; config = s; steps = steps }
 abbrev pub ending-of : Ended → Ending
 ending-of e = ending (told-of (e .end .how)) (e .end .config) (e .counted .steps)
 
+-- the evaluation that a number names: 0 is the base's and 1 the board's
+abbrev pub evaluation-given : ℕ → GivenEvaluation
+evaluation-given n = cond (eqb n 0) (Value Base) (cond (eqb n 1) (Value Board) Nothing)
+
+-- the numbers of a run from s by the evaluation that is given. Where that is none, it is refused: number and place are 0, no step was made
+abbrev pub run-given : GivenEvaluation → (Evaluation → Ended) → Config → Ending
+run-given (Value e) run s = ending-of (run e)
+run-given Nothing run s = ending (told 3 0 0) s 0
+
 -- the state that is lent in parts
 abbrev pub lent-state : List ℕ → List ℕ → ℕ → State
 lent-state regs xmms flags = record { regs = regs; xmms = xmms; flags = flags }
 
--- fill word, fuel and step limit
-abbrev pub lent-setting : ℕ → ℕ → ℕ → Setting
-lent-setting fill fuel limit = record { fill = fill; fuel = fuel; limit = limit }
+-- fill word, fuel, step limit and evaluation
+abbrev pub lent-setting : ℕ → ℕ → ℕ → Evaluation → Setting
+lent-setting fill fuel limit evaluation = record { fill = fill; fuel = fuel; limit = limit; evaluation = evaluation }
+
+-- what is run with the setting of the evaluation that is given is an input
+abbrev pub InputGiven : GivenEvaluation → List ℕ → State → (Evaluation → Setting) → Type 0
+InputGiven (Value e) code start setting = IsInput code start (setting e)
+InputGiven Nothing code start setting = Unit {0}

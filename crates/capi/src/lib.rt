@@ -5,15 +5,17 @@ ghost use mathlib.Core.Path.{_≡_};
 ghost use mathlib.Core.Option.{some};
 ghost use Rattle.machine.specs.Cells.{verdict, check-cells};
 ghost use Rattle.code.specs.Reader.{check-code};
+ghost use Rattle.eval.specs.FlagRule.{flag-rule};
 ghost use Rattle.eval.specs.Config.{outcome};
 ghost use Rattle.eval.specs.Promises.{environment, held};
 ghost use Rattle.eval.specs.Running.{run-of};
 ghost use Rattle.eval.specs.Inputs.{IsInput};
 ghost use Rattle.job.specs.Job.{output, code-of, state-of, setting-of};
 ghost use Rattle.job.specs.Written.{Printed};
-ghost use Rattle.capi.specs.Told.{refusal, refusal-of, told, told-of, ending, ending-of, lent-state, lent-setting};
+ghost use Rattle.capi.specs.Told.{refusal, refusal-of, told, told-of, ending, ending-of, evaluation-given, run-given, lent-state, lent-setting, InputGiven};
 use code::check_code;
 use eval::Answer;
+use eval::Evaluation;
 use eval::Setting;
 use eval::run;
 use job::job;
@@ -80,6 +82,22 @@ fn tell(answer: Answer, number: &mut u8, place: &mut usize) -> u8
     }
 }
 
+// C names an evaluation by a number.
+pub enum GivenEvaluation {
+    Value(Evaluation),
+    Nothing,
+}
+
+fn evaluation_of(number: u8) -> GivenEvaluation
+    ensures { λ r. ⌜ r ≡ evaluation-given number ⌝ }
+{
+    match number {
+        0 => GivenEvaluation::Value(Evaluation::Base),
+        1 => GivenEvaluation::Value(Evaluation::Board),
+        _ => GivenEvaluation::Nothing,
+    }
+}
+
 #[no_mangle]
 pub extern "C" fn pokchrei_check_code(code: &[u8], place: &mut usize) -> u8
     ensures { λ r. ⌜ refusal r (now (place .exit)) ≡ refusal-of (check-code (now (code .entry))) ⌝ }
@@ -113,6 +131,7 @@ pub extern "C" fn pokchrei_run(
     fill: u64,
     fuel: u32,
     limit: u64,
+    evaluation: u8,
     number: &mut u8,
     place: &mut usize,
     steps: &mut u64,
@@ -120,10 +139,21 @@ pub extern "C" fn pokchrei_run(
     ensures { λ r. ⌜
         ending (told r (now (number .exit)) (now (place .exit)))
         (held (now (regs .exit)) (now (xmms .exit)) (now (flags .exit)) (now (values .exit))) (now (steps .exit))
-        ≡ ending-of (run-of (now (code .entry)) (environment (now (addresses .entry)) (now (tags .entry)) fill) fuel (some limit)
-        (held (now (regs .entry)) (now (xmms .entry)) (now (flags .entry)) (now (values .entry)))) ⌝ }
-    ensures { λ _. ⌜ IsInput (now (code .entry)) (lent-state (now (regs .entry)) (now (xmms .entry)) (now (flags .entry))) (lent-setting fill fuel limit) ⌝ }
+        ≡ run-given (evaluation-given evaluation) (λ e.
+        run-of (now (code .entry)) (environment (now (addresses .entry)) (now (tags .entry)) fill (flag-rule e)) fuel (some limit)
+        (held (now (regs .entry)) (now (xmms .entry)) (now (flags .entry)) (now (values .entry))))
+        (held (now (regs .entry)) (now (xmms .entry)) (now (flags .entry)) (now (values .entry))) ⌝ }
+    ensures { λ _. ⌜
+        InputGiven (evaluation-given evaluation) (now (code .entry))
+        (lent-state (now (regs .entry)) (now (xmms .entry)) (now (flags .entry))) (lent-setting fill fuel limit) ⌝ }
 {
+    let given = evaluation_of(evaluation);
+    let GivenEvaluation::Value(evaluation) = given else {
+        *number = 0;
+        *place = 0;
+        *steps = 0;
+        return REFUSED;
+    };
     let first_regs = *regs;
     let first_xmms = *xmms;
     let start = State {
@@ -131,7 +161,12 @@ pub extern "C" fn pokchrei_run(
         xmms: first_xmms,
         flags: *flags,
     };
-    let setting = Setting { fill, fuel, limit };
+    let setting = Setting {
+        fill,
+        fuel,
+        limit,
+        evaluation,
+    };
     let end = run(code, addresses, tags, values, start, setting);
     let state = end.state;
     let last_regs = state.regs;

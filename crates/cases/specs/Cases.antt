@@ -10,6 +10,7 @@ use Rattle.words.specs.Words.{nat-to-four, two-select, two-to-nat, four-select,
 use Rattle.words.specs.Bits.{to-vec, from-vec, map2, ixor, ishl}
 use Rattle.words.specs.Types.{shl-lanes, shuffle-lanes, shift-quad}
 use Rattle.words.specs.Sums.{sum-mod, sum-carry, sub-mod, mul-div, mul-mod}
+use Rattle.words.specs.Signed.{signed-word, signed-sum, leaves}
 use Rattle.words.specs.Flags.{cf, overflow, update-cf, update-of}
 use Rattle.machine.specs.Bytes.{spelled}
 use Rattle.machine.specs.Registers.{Rax, xmm-at, set-xmm}
@@ -20,14 +21,17 @@ use Rattle.code.specs.declared.tree.Instruction.the-variants.{Add64}
 use Rattle.code.specs.Tree.{Ins}
 use Rattle.code.specs.Records.{body-length, operand-count, register-fields, number-at, signed-at, operand-at, behind, operands-at, ins-at, ocmp-at}
 use Rattle.code.specs.Reader.{got, followed, with-fields, read-record, read-operands, read-with, read-ocmp, read-part, read-codes, read-block, read-if, read-while, read-structure, read-body, read-code, parse, verdict-of, check-code}
+use Rattle.eval.specs.declared.answer.Evaluation.the-variants.{Base, Board}
+use Rattle.eval.specs.FlagRule.{base-flags, board-flags, flag-rule}
 use Rattle.eval.specs.Config.{Env, Config, with-flags, with-values, Outcome, done, fault, stopped, spent, check}
 use Rattle.eval.specs.Counted.{counted, Ended, ended, continue, used-up, count, step}
-use Rattle.eval.specs.Instructions.{add-flags, two-word, two-flags, quads-word, quads-flags, shifts-word, inserts-word, cell-of, valid-operand, eval-operand, valid-dst-operand, update-operand, act, run-ins, valid-ocmp, eval-ocmp}
+use Rattle.eval.specs.Instructions.{two-word, two-flags, quads-word, quads-flags, shifts-word, inserts-word, cell-of, valid-operand, eval-operand, valid-dst-operand, update-operand, act, run-ins, valid-ocmp, eval-ocmp}
 use Rattle.job.specs.Text.{digits, name-of, first-line, reg-lines, xmm-lines, cell-lines, render}
 use Rattle.job.specs.Job.{numbers, largest-limit, check-job, end-checked, output}
+use Rattle.eval.specs.Promises.{environment}
 use Rattle.eval.specs.Running.{run-ocmp, decide, rounds, run-code, run-checked, run-read, run-of}
 
--- what document 01 gives to a kernel, with the step limit of request 2026-04, and the end that they name
+-- what document 01 gives to a kernel, with the step limit of request 2026-04 and the evaluation of request 2026-06, and the end that they name
 pub record Kernel : Type 0 where
   pub code : List ℕ
   pub env : Env
@@ -52,15 +56,19 @@ rax v = reg 0 v zeros
 abbrev xmm0 : ℕ → ℕ → ℕ → ℕ → Config
 xmm0 a b c d = record { regs = replicate 16 0; xmms = a ∷ b ∷ c ∷ d ∷ replicate 60 0; flags = 0; values = [] }
 
--- no cells, and a fill word
+-- no cells, and a fill word; the base's evaluation
 abbrev no-cells : ℕ → Env
-no-cells fill = record { addresses = []; tags = []; fill = fill }
+no-cells fill = environment [] [] fill (flag-rule Base)
 
--- a 64-bit cell at an address, fill 0
+-- a 64-bit cell at an address, fill 0; the base's evaluation
 abbrev one-cell : ℕ → Env
-one-cell a = record { addresses = a ∷ []; tags = 64 ∷ []; fill = 0 }
+one-cell a = environment (a ∷ []) (64 ∷ []) 0 (flag-rule Base)
 
--- a row of a table: code, cells and fill, fuel, limit, start, how it ends, and with what and how many steps
+-- the board's evaluation in its place
+abbrev on-board : Env → Env
+on-board env = environment (env .addresses) (env .tags) (env .fill) (flag-rule Board)
+
+-- a row of a table: code, cells, fill and evaluation, fuel, limit, start, how it ends, and with what and how many steps
 abbrev row-at : List ℕ → Env → ℕ → ℕ → Config → Outcome → Config → ℕ → Kernel
 row-at code env fuel limit start how end steps =
     record { code = code; env = env; fuel = fuel; limit = limit; start = start; end = ended how end (counted steps) }
@@ -83,13 +91,15 @@ count-down =
     0x22 ∷ 0x0c ∷ 0x00 ∷ 0x00 ∷ 0x00 ∷ 0x31 ∷ 0x41 ∷ 0x00 ∷ 0x40 ∷ 0x00 ∷ 0x00 ∷ 0x00 ∷ 0x00 ∷ 0x00 ∷ 0x00 ∷ 0x00 ∷ 0x00
     ∷ 0x07 ∷ 0x41 ∷ 0x00 ∷ 0x40 ∷ 0x01 ∷ 0x00 ∷ 0x00 ∷ 0x00 ∷ 0x00 ∷ 0x00 ∷ 0x00 ∷ 0x00 ∷ []
 
--- the table: code, cells and fill, fuel, start, how it ends, with what, and how many steps
+-- the table: code, cells, fill and evaluation, fuel, start, how it ends, with what, and how many steps
 pub kernels : List Kernel
 kernels =
     -- P1: Add64 Rax 2^64-1 and 1
     row add-one (no-cells 0) 0 (rax 18446744073709551615) done (with-flags 1 (rax 0)) 1
     -- P2: Add64 1 and 1, flags 2048
     ∷ row add-one (no-cells 0) 0 (with-flags 2048 (rax 1)) done (with-flags 2048 (rax 2)) 1
+    -- P2 on the board
+    ∷ row add-one (on-board (no-cells 0)) 0 (with-flags 2048 (rax 1)) done (with-flags 0 (rax 2)) 1
     -- P3: Sub64 0 less 1, fill 9
     ∷ row (0x07 ∷ 0x41 ∷ 0x00 ∷ 0x40 ∷ 0x01 ∷ 0x00 ∷ 0x00 ∷ 0x00 ∷ 0x00 ∷ 0x00 ∷ 0x00 ∷ 0x00 ∷ [])
     (no-cells 9) 0 (rax 0) done (with-flags 9 (rax 18446744073709551615)) 1
@@ -159,11 +169,11 @@ limited =
 -- Running, with all that it computes with opened
 unfoldable pub ran : Kernel → Ended
 unfolding run-of run-read run-checked run-code rounds decide run-ocmp continue used-up count step check
-    cell-of valid-operand eval-operand valid-dst-operand update-operand act run-ins valid-ocmp eval-ocmp add-flags two-word two-flags
+    cell-of valid-operand eval-operand valid-dst-operand update-operand act run-ins valid-ocmp eval-ocmp base-flags board-flags two-word two-flags
     quads-word quads-flags shifts-word inserts-word
     find-cell eqℤ eval-maddr wild wild-operand valid-dst xmm-at set-xmm
     cf overflow update-cf update-of
-    sum-mod sum-carry sub-mod mul-div mul-mod shl-lanes shuffle-lanes shift-quad
+    signed-word signed-sum leaves sum-mod sum-carry sub-mod mul-div mul-mod shl-lanes shuffle-lanes shift-quad
     to-vec from-vec map2 xor ixor ishl nat-to-four two-select two-to-nat four-select four-insert
     followed with-fields read-record read-operands read-with read-ocmp read-part read-codes
     read-block read-if read-while read-structure read-body read-code parse verdict-of check-code
@@ -176,7 +186,7 @@ unfoldable pub ends-of : List Kernel → List Ended
 ends-of [] = []
 ends-of (k ∷ ks) = ran k ∷ ends-of ks
 
--- what document 01 names for each row, for P11 request 2026-03, and for the steps request 2026-04
+-- what document 01 names for each row, for P11 request 2026-03, for the steps request 2026-04, and for P2 on the board request 2026-06
 unfoldable pub named : List Kernel → List Ended
 named [] = []
 named (k ∷ ks) = k .end ∷ named ks
