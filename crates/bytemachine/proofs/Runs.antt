@@ -46,7 +46,8 @@ module _ (env : Env) (memory : ByteMemory) where
   both-end s t j k e = subst (λ u. Reaches (some (at s)) s u) (is-done e) (record { same = refl; kept = k; rsp = refl })
 
   both-then : (h : Outcome) (x : Config) (j : Counted) (f : Part) (o : Option BState) (l : BState → Option BState) (s t : Config)
-      → ((u : Config) → ends h x ≡ ends done u → Reaches o s u) → Both f l → continue h x j f .end ≡ ends done t → Reaches (go-on (env .fill) (env .rule) o l) s t
+      → ((u : Config) → ends h x ≡ ends done u → Reaches o s u) → Both f l
+      → continue h x j f .end ≡ ends done t → Reaches (go-on (env .fill) (env .rule) o l) s t
   unfolding continue go-on
   both-then done x j f o l s t first g e =
       let a = first x refl in

@@ -222,7 +222,8 @@ module _ (env : Env) where
     tells-rounds p q c body body′ fits tells clears zero s k h = ends-spent p s refl refl tt
     tells-rounds p q c body body′ fits tells clears (suc f) s k h =
         let next : State → Logged = λ u. choose (u .ok) (log-while load-mem64 int-to-nat64 (env .fill) (env .rule) p q c body′ f) returned u in
-        let next-clear : Clears next = λ u e. clear-choose (u .ok) _ _ (clear-while load-mem64 int-to-nat64 (env .fill) (env .rule) p q c body′ clears f) (λ v g. g) u e in
+        let next-clear : Clears next =
+        λ u e. clear-choose (u .ok) _ _ (clear-while load-mem64 int-to-nat64 (env .fill) (env .rule) p q c body′ clears f) (λ v g. g) u e in
         tells-ocmp q c _ _ (λ u. if-some (body′ f u .0) (body′ f u .1) next) returned fits
         (λ t l i. tells-then _ _ _ _ next (tells f t l i) (tells-rounds p q c body body′ fits tells clears f) next-clear)
         tells-returned
@@ -241,7 +242,8 @@ module _ (env : Env) where
       tells-code (While p q c b) fits f s k h =
           tells-rounds p q c _ _ (fits .0) (tells-code b (fits .1)) (clear-code load-mem64 int-to-nat64 (env .fill) (env .rule) b) f s k h
 
-      pub tells-codes : (cs : Codes) → WfCodes cs → (f : ℕ) → TellAll (Running.run-codes env none cs f) (log-codes load-mem64 int-to-nat64 (env .fill) (env .rule) cs f)
+      pub tells-codes : (cs : Codes) → WfCodes cs → (f : ℕ)
+          → TellAll (Running.run-codes env none cs f) (log-codes load-mem64 int-to-nat64 (env .fill) (env .rule) cs f)
       tells-codes ⟨⟩ fits f s k h = tells-returned s k h
       tells-codes (c ∷ᶜ cs) fits f s k h =
           tells-then _ _ _ _ _ (tells-code c (fits .0) f s k h) (tells-codes cs (fits .1) f) (clear-codes load-mem64 int-to-nat64 (env .fill) (env .rule) cs f)

@@ -130,7 +130,9 @@ module _ (load-mem64 : ℤ → Memory → ℕ) (loads : LoadsMem64 load-mem64) (
   tells : (f : ℕ) → Tells env (unlimited env c f s) (log-code load-mem64 int-to-nat64 (env .fill) (env .rule) c f (state-of env s))
   tells f = tells-code env load-mem64 loads int-to-nat64 ints c fits f s nothing-counted (held (env .addresses) (env .tags) (s .values) cells)
 
-  erased : (f : ℕ) → log-code load-mem64 int-to-nat64 (env .fill) (env .rule) c f (state-of env s) .1 ≡ eval-code load-mem64 int-to-nat64 (env .fill) (env .rule) c f (state-of env s)
+  erased : (f : ℕ)
+      → log-code load-mem64 int-to-nat64 (env .fill) (env .rule) c f (state-of env s) .1
+      ≡ eval-code load-mem64 int-to-nat64 (env .fill) (env .rule) c f (state-of env s)
   erased f = erase-code load-mem64 int-to-nat64 (env .fill) (env .rule) c f (state-of env s)
 
   never : (f n p : ℕ) (t : Config) → unlimited env c f s ≡ ends (fault n p) t

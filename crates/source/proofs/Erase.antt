@@ -54,7 +54,8 @@ module _ (load-mem64 : ℤ → Memory → ℕ) (int-to-nat64 : ℤ → ℕ) (fil
     erase-code (IfElse p q c a b) f s = erase-ocmp q c _ _ _ _ (erase-code a f) (erase-code b f) s
     erase-code (While p q c b) f s = erase-while p q c _ _ (erase-code b) f s
 
-    pub erase-codes : (cs : Codes) (f : ℕ) (s : State) → (log-codes load-mem64 int-to-nat64 fill rule cs f s) .1 ≡ eval-codes load-mem64 int-to-nat64 fill rule cs f s
+    pub erase-codes : (cs : Codes) (f : ℕ) (s : State)
+        → (log-codes load-mem64 int-to-nat64 fill rule cs f s) .1 ≡ eval-codes load-mem64 int-to-nat64 fill rule cs f s
     erase-codes ⟨⟩ f s = refl
     erase-codes (c ∷ᶜ cs) f s =
         erase-some _ _ _ _ (erase-codes cs f) ∙ ap (λ o. if-some o (eval-codes load-mem64 int-to-nat64 fill rule cs f)) (erase-code c f s)

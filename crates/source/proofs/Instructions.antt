@@ -325,7 +325,8 @@ module _ (env : Env) where
           says-next (Source.update-flags (env .fill)) _ u u _ g refl
           (says-end _ u (with-flags (flags (value dst s) (value src s)) t) g (ap (λ x. state-of env (with-flags x t)) (two-are flags dst src fits d e))))))
 
-      says-mul : (src : Operand) → WfOperand src → Says p s (note-ins load-mem64 int-to-nat64 (env .fill) (env .rule) (Mul64 src)) s (Run.run-ins env p (Mul64 src) s)
+      says-mul : (src : Operand) → WfOperand src
+          → Says p s (note-ins load-mem64 int-to-nat64 (env .fill) (env .rule) (Mul64 src)) s (Run.run-ins env p (Mul64 src) s)
       unfolding note-ins Run.run-ins Run.act Source.update-reg Source.update-flags Source._>>=_
       says-mul src fits =
           let a = reg-at (s .regs) Rax in
