@@ -2,12 +2,12 @@
 -- pass or not. A record of one instruction is read back as what was written.
 use Prim.Native.Nat.{ℕ, _≤_}
 use mathlib.Core.Path.{_≡_, refl, _∙_, ap, subst, subst⁻¹}
-use mathlib.Core.Bool.{false}
+use mathlib.Core.Bool.{Bool, false}
 use mathlib.Core.List.{List, [], _∷_}
 use native.Mathlib.Omega.{arith}
 use lib.Dec.{eqb}
 use lib.ListN.{length, length-append}
-use Rattle.words.specs.Flags.{overflow, update-of}
+use Rattle.words.specs.Flags.{overflow, update-cf, update-of}
 use Rattle.words.proofs.FlagLaws.{cf-update-cf, update-cf-rest, overflow-update-cf, overflow-update-of, update-of-low, update-of-high}
 use Rattle.words.proofs.CountLaws.{popcnt-zero, lzcnt-zero, tzcnt-zero, popcnt-lowest, lzcnt-highest, tzcnt-lowest}
 use Rattle.machine.specs.declared.Operand.{Operand}
@@ -25,18 +25,18 @@ use Rattle.eval.specs.Instructions.{two-word, two-flags, act, run-ins}
 use Rattle.source.specs.Source.{eval-ins}
 use Rattle.source.proofs.RunsOn.{put-flags, clear-flags, runs-on}
 use Rattle.bytemachine.specs.ByteMachine.{exec-ins}
-use Rattle.demands.specs.Counting.{IsFill, cleared, carry-for-zero, Counting}
+use Rattle.demands.specs.Counting.{IsFill, carry-for-zero, Counting}
 
 -- ---- flags
-cleared-is : (fill b : ℕ) → IsFill fill false false (cleared fill b)
-cleared-is fill b =
-    let f = update-of fill false in
-    let rest = update-cf-rest f false in
+pub filled : (fill : ℕ) (carry over : Bool) → IsFill fill carry over (update-cf (update-of fill over) carry)
+filled fill carry over =
+    let f = update-of fill over in
+    let rest = update-cf-rest f carry in
     record {
-      carry-is = cf-update-cf f false;
-      overflow-is = overflow-update-cf f false ∙ overflow-update-of fill false;
-      between = omega (arith, update-of-low fill false);
-      above = omega (arith, update-of-high fill false);
+      carry-is = cf-update-cf f carry;
+      overflow-is = overflow-update-cf f carry ∙ overflow-update-of fill over;
+      between = omega (arith, update-of-low fill over);
+      above = omega (arith, update-of-high fill over);
     }
 
 carry-for-zero-is : (fill b : ℕ) → IsFill fill (eqb b 0) (overflow fill) (carry-for-zero fill b)
@@ -96,6 +96,6 @@ counting = record {
   ones = popcnt-lowest 64;
   leading = lzcnt-highest 64;
   trailing = tzcnt-lowest 64;
-  popcnt-flags = cleared-is;
+  popcnt-flags = λ fill b. filled fill false false;
   zeros-flags = carry-for-zero-is;
 }

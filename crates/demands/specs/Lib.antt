@@ -3,3 +3,4 @@ pub mod Counting
 pub mod Somewhere
 pub mod Telling
 pub mod Stepping
+pub mod Overflowing

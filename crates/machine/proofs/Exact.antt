@@ -1,14 +1,14 @@
 -- Exact addresses. A sum of signed terms is the difference of two natural numbers, what is added and what is taken away: so
 -- `exact` is a `subℕ`, and whether that is a word is a comparison of natural numbers.
-use Prim.Native.Nat.{ℕ, zero, suc, _+_, _*_, _-_, _^_, _≤_, _<_}
+use Prim.Native.Nat.{ℕ, suc, _+_, _*_, _-_, _^_, _≤_, _<_}
 use mathlib.Core.Path.{_≡_, refl, sym, _∙_, ap, ap₂, subst, subst⁻¹}
 use mathlib.Core.Bool.{Bool, true, false}
 use mathlib.Core.Option.{Option, none, some}
-use native.Mathlib.Nat.{add-zero, mul-le-mul}
+use native.Mathlib.Nat.{mul-le-mul}
 use native.Mathlib.Omega.{arith}
 use borrow.Author.Tests.{ltb-true, ltb-false, lt-ltb, le-ltb, lt-leb, le-leb}
 use lib.Dec.{ltb}
-use lib.IntN.{ℤ, pos, negsuc, subℕ, negℤ, natAbs, _+ℤ_}
+use lib.IntN.{ℤ, pos, negsuc, subℕ, natAbs, _+ℤ_}
 use lib.Signed.{ltZ, mag}
 use mir.Syntax.{Width, w16, w64}
 use mir.Val.{SFits, toZ, ofZ}

@@ -62,6 +62,11 @@ pub put-flags : (fill flags : ℕ) (t : State) → update-flags flags (with-flag
 unfolding update-flags _>>=_
 put-flags fill flags t = simp and-self
 
+-- and put again
+pub put-twice : (fill first flags : ℕ) (t : State) → (update-flags first >> update-flags flags) (with-flags fill t) ≡ (tt, with-flags flags t)
+unfolding update-flags _>>=_
+put-twice fill first flags t = simp and-self
+
 pub clear-flags : (fill : ℕ) (t : State) → update-cf-of false false (with-flags fill t) ≡ (tt, with-flags (update-cf (update-of fill false) false) t)
 unfolding update-cf-of _>>=_
 clear-flags fill t = simp and-self

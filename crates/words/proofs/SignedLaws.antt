@@ -1,11 +1,11 @@
 -- A word as a signed number is the word less 2 ^ n where it is negative. So a sum of two is the sum of the words less 2 ^ n once for each negative
--- one, and where it leaves the range both have one sign and the word of the sum has the other.
+-- one, and where it leaves the range both have one sign and the word of the sum has the other; where it does not, the word of the sum is the sum.
 use Prim.Native.Nat.{ℕ, zero, suc, _+_, _-_, _*_, _^_, _≤_, _<_}
-use mathlib.Core.Path.{_≡_, refl, sym, _∙_, ap, ap₂}
+use mathlib.Core.Path.{_≡_, refl, sym, _∙_, ap}
 use mathlib.Core.Bool.{Bool, true, false, not, _&&_, _||_, Bool·beq}
 use mathlib.Core.Logic.{_⊎_, inl, inr, ⊎-elim}
 use native.Mathlib.Omega.{arith}
-use borrow.Author.Tests.{ltb-true, ltb-false, leb-true, leb-false, lt-ltb, le-ltb, lt-leb, le-leb}
+use borrow.Author.Tests.{ltb-true, ltb-false, leb-true, leb-false, not-false, lt-ltb, le-ltb, lt-leb, le-leb}
 use lib.Dec.{ltb, leb}
 use lib.IntN.{ℤ, pos, negsuc, subℕ, negℤ, _+ℤ_, _-ℤ_}
 use lib.Pow.{pow-pos}
@@ -15,10 +15,10 @@ use mir.Val.{bits, hbits, SFits, toZ, ofZ}
 use mir.ValLaws.{toZ-pos, toZ-ofZ}
 use Rattle.words.specs.Bits.{bit}
 use Rattle.words.specs.Signed.{signed-word, signed-sum, leaves}
-use Rattle.words.specs.Sums.{sum-mod, sum-carry, Added}
+use Rattle.words.specs.Sums.{Added}
 use Rattle.words.proofs.BitLaws.{bit-lt}
 use Rattle.words.proofs.SumLaws.{sum-mod-lt, added-number}
-use Rattle.words.proofs.Differences.{pos-sub, neg-sub, sub-plus, sub-sub}
+use Rattle.words.proofs.Differences.{sub-eq, pos-sub, neg-sub, sub-plus, sub-sub}
 
 module _ (n x : ℕ) where
   pub sub-low : x < 2 ^ (n - 1) → signed-word n x ≡ subℕ x 0
@@ -99,6 +99,14 @@ module _ (n s t : ℕ) where
   pub leaves-not : t ≤ s + 2 ^ (n - 1) → s < t + 2 ^ (n - 1) → leaves n (subℕ s t) ≡ false
   leaves-not h k = is-outside ∙ within (2 ^ (n - 1) - 1) s t (omega (arith, pow-pos (n - 1))) (omega (arith, pow-pos (n - 1)))
 
+-- the number of a word is in the range
+pub word-within : (n x : ℕ) → 2 ^ n ≡ 2 ^ (n - 1) + 2 ^ (n - 1) → x < 2 ^ n → leaves n (signed-word n x) ≡ false
+word-within n x twice fits = go (ltb x (2 ^ (n - 1))) refl
+  where
+    go : (b : Bool) → ltb x (2 ^ (n - 1)) ≡ b → leaves n (signed-word n x) ≡ false
+    go true p = let h = ltb-true _ _ p in ap (leaves n) (sub-low n x h) ∙ leaves-not n x 0 (omega arith) (omega arith)
+    go false p = let h = ltb-false _ _ p in ap (leaves n) (sub-high n x h) ∙ leaves-not n x (2 ^ n) (omega arith) (omega arith)
+
 -- ---- a sum of two words of n bits and a carry
 module _ (n a b word : ℕ) (carry out : Bool) (twice : 2 ^ n ≡ 2 ^ (n - 1) + 2 ^ (n - 1)) (ha : a < 2 ^ n) (hb : b < 2 ^ n)
     (sum : Added n (a + b + bit carry) word out) where
@@ -117,10 +125,14 @@ module _ (n a b word : ℕ) (carry out : Bool) (twice : 2 ^ n ≡ 2 ^ (n - 1) + 
   word-fits : word < 2 ^ n
   word-fits = rw (sum .word-is) (sum-mod-lt n (a + b + bit carry))
 
+  whole : a < 2 ^ (n - 1) → b < 2 ^ (n - 1) → word ≡ a + b + bit carry
+  whole h k = ⊎-elim (λ e. e) (λ e. absurd (omega (arith, bit-lt carry))) parted
+
+  wrapped : 2 ^ (n - 1) ≤ a → 2 ^ (n - 1) ≤ b → word + 2 ^ n ≡ a + b + bit carry
+  wrapped h k = ⊎-elim (λ e. absurd (omega (arith, word-fits))) (λ e. e) parted
+
   both-low : a < 2 ^ (n - 1) → b < 2 ^ (n - 1) → leaves n (signed-sum n a b (bit carry)) ≡ negative word
-  both-low h k =
-      let s : word ≡ a + b + bit carry = ⊎-elim (λ e. e) (λ e. absurd (omega (arith, bit-lt carry))) parted in
-      ap (leaves n) (sum-sub n a b (bit carry) 0 0 (sub-low n a h) (sub-low n b k)) ∙ go (negative word) refl s
+  both-low h k = ap (leaves n) (sum-sub n a b (bit carry) 0 0 (sub-low n a h) (sub-low n b k)) ∙ go (negative word) refl (whole h k)
     where
       go : (r : Bool) → negative word ≡ r → word ≡ a + b + bit carry → leaves n (subℕ (a + b + bit carry) (0 + 0)) ≡ negative word
       go true p s = leaves-above n (a + b + bit carry) (0 + 0) (omega (arith, leb-true (2 ^ (n - 1)) word p)) ∙ sym p
@@ -128,8 +140,7 @@ module _ (n a b word : ℕ) (carry out : Bool) (twice : 2 ^ n ≡ 2 ^ (n - 1) + 
 
   both-high : 2 ^ (n - 1) ≤ a → 2 ^ (n - 1) ≤ b → leaves n (signed-sum n a b (bit carry)) ≡ not (negative word)
   both-high h k =
-      let s : word + 2 ^ n ≡ a + b + bit carry = ⊎-elim (λ e. absurd (omega (arith, word-fits))) (λ e. e) parted in
-      ap (leaves n) (sum-sub n a b (bit carry) (2 ^ n) (2 ^ n) (sub-high n a h) (sub-high n b k)) ∙ go (negative word) refl s
+      ap (leaves n) (sum-sub n a b (bit carry) (2 ^ n) (2 ^ n) (sub-high n a h) (sub-high n b k)) ∙ go (negative word) refl (wrapped h k)
     where
       go : (r : Bool) → negative word ≡ r → word + 2 ^ n ≡ a + b + bit carry
           → leaves n (subℕ (a + b + bit carry) (2 ^ n + 2 ^ n)) ≡ not (negative word)
@@ -166,3 +177,43 @@ module _ (n a b word : ℕ) (carry out : Bool) (twice : 2 ^ n ≡ 2 ^ (n - 1) + 
           let k = leb-true _ b q in
           apart 0 (2 ^ n) (omega arith) (sub-low n a h) (sub-high n b k) (omega arith) (omega arith)
       go false false p q = both-low (leb-false _ a p) (leb-false _ b q) ∙ low (negative word)
+
+  -- where the sum does not leave the range, the word of the sum is the sum. One operand is x and the other y too large
+  low-word : (x y : ℕ) → signed-word n a ≡ subℕ a x → signed-word n b ≡ subℕ b y → word < 2 ^ (n - 1) → word + (x + y) ≡ a + b + bit carry
+      → signed-word n word ≡ signed-sum n a b (bit carry)
+  low-word x y p q h e = sub-low n word h ∙ sub-eq word 0 (a + b + bit carry) (x + y) (omega arith) ∙ sym (sum-sub n a b (bit carry) x y p q)
+
+  high-word : (x y : ℕ) → signed-word n a ≡ subℕ a x → signed-word n b ≡ subℕ b y → 2 ^ (n - 1) ≤ word → word + (x + y) ≡ a + b + bit carry + 2 ^ n
+      → signed-word n word ≡ signed-sum n a b (bit carry)
+  high-word x y p q h e = sub-high n word h ∙ sub-eq word (2 ^ n) (a + b + bit carry) (x + y) e ∙ sym (sum-sub n a b (bit carry) x y p q)
+
+  -- of two signs it never leaves the range
+  word-apart : (x y : ℕ) → x + y ≡ 2 ^ n → signed-word n a ≡ subℕ a x → signed-word n b ≡ subℕ b y
+      → 2 ^ (n - 1) ≤ a + b → a + b + 1 < 2 ^ n + 2 ^ (n - 1) → signed-word n word ≡ signed-sum n a b (bit carry)
+  word-apart x y e p q h k =
+      ⊎-elim
+      (λ s. high-word x y p q (omega arith) (omega arith))
+      (λ s. low-word x y p q (omega (arith, bit-lt carry)) (omega arith))
+      parted
+
+  pub word-is-sum : leaves n (signed-sum n a b (bit carry)) ≡ false → signed-word n word ≡ signed-sum n a b (bit carry)
+  word-is-sum stays = go (negative a) (negative b) refl refl
+    where
+      go : (p q : Bool) → negative a ≡ p → negative b ≡ q → signed-word n word ≡ signed-sum n a b (bit carry)
+      go true true p q =
+          let h = leb-true _ a p in
+          let k = leb-true _ b q in
+          let positive : negative word ≡ true = not-false _ (sym (both-high h k) ∙ stays) in
+          high-word (2 ^ n) (2 ^ n) (sub-high n a h) (sub-high n b k) (leb-true _ word positive) (omega (arith, wrapped h k))
+      go true false p q =
+          let h = leb-true _ a p in
+          let k = leb-false _ b q in
+          word-apart (2 ^ n) 0 (omega arith) (sub-high n a h) (sub-low n b k) (omega arith) (omega arith)
+      go false true p q =
+          let h = leb-false _ a p in
+          let k = leb-true _ b q in
+          word-apart 0 (2 ^ n) (omega arith) (sub-low n a h) (sub-high n b k) (omega arith) (omega arith)
+      go false false p q =
+          let h = leb-false _ a p in
+          let k = leb-false _ b q in
+          low-word 0 0 (sub-low n a h) (sub-low n b k) (leb-false _ word (sym (both-low h k) ∙ stays)) (omega (arith, whole h k))
