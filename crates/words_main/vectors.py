@@ -5,7 +5,7 @@ usage: vectors.py rows > src/vectors.rt      (then rt fmt)
        vectors.py lines > stdout             what the program must write
 
 The numbers come from Python's integers and from the text of Vale's F* files, FStar.UInt and
-request 2026-02, and from nothing in crates/words. A row is eight words: the function's number in
+requests 2026-02 and 2026-06, and from nothing in crates/words. A row is eight words: the function's number in
 src/apply.rt, the two words of x, the two of y, the small argument s, and the two words of the
 expected result.
 """
@@ -19,6 +19,7 @@ cf overflow update_cf update_of add64 add32 sub64 sub32
 mul_wide four_insert insert_nat32 insert_nat64 quad32_xor add_lanes equal_lanes shl_lanes
 shr_lanes shuffle_lanes shift_quad two_two_to_four four_select select_word extract_nat64
 popcnt64 lzcnt64 tzcnt64
+signed16 signed64 add_overflows
 """.split()
 EDGES64 = [0, 1, 2, 2047, 2048, M32 - 1, M32, 2**63 - 1, 2**63, M64 - 2, M64 - 1]
 SEED = [0x0123456789ABCDEF]
@@ -65,6 +66,10 @@ def quads(count):
 def row(x, y, s, want):
     two = lambda v: list(v) if isinstance(v, tuple) else [v, 0]
     return two(x) + two(y) + [s] + two(want)
+
+
+def signed(x, n):
+    return x - 2**n if x >= 2**(n - 1) else x
 
 
 def select(parts, k):
@@ -126,6 +131,16 @@ def table():
     yield "popcnt64", [row(x, 0, 0, numeral(x).count("1")) for x in counted]
     yield "lzcnt64", [row(x, 0, 0, 64 - len(numeral(x).lstrip("0"))) for x in counted]
     yield "tzcnt64", [row(x, 0, 0, 64 - len(numeral(x).rstrip("0"))) for x in counted]
+    halves = [0, 1, 2**15 - 1, 2**15, 2**15 + 1, 2**16 - 1]
+    wholes = [0, 1, 2**63 - 1, 2**63, 2**63 + 1, M64 - 1, draw(63), 2**63 + draw(63)]
+    # of two words, whether the first is the lesser number
+    less = lambda x, y, n: int(signed(x, n) < signed(y, n))
+    yield "signed16", [row(x, y, 0, less(x, y, 16)) for x in halves for y in halves]
+    yield "signed64", [row(x, y, 0, less(x, y, 64)) for x in wholes for y in wholes]
+    # each sign with each, far from the edges, just within them and just beyond, with the carry and without
+    near = [0, 1, 2**62, 2**63 - 2, 2**63 - 1, 2**63, 2**63 + 1, 3 * 2**62, M64 - 1]
+    leaves = lambda z: int(not -(2**63) <= z <= 2**63 - 1)
+    yield "add_overflows", [row(a, b, c, leaves(signed(a, 64) + signed(b, 64) + c)) for a in near for b in near for c in (0, 1)]
 
 
 def main():

@@ -156,6 +156,19 @@ fn counts(op: u8, x: u64) -> u64 {
     }
 }
 
+fn half(x: u64) -> u16 {
+    (x % 0x1_0000) as u16
+}
+
+// Signed numbers are told by which of two is the lesser.
+fn signed(op: u8, x: u64, y: u64, carry: bool) -> bool {
+    match op {
+        42 => words::signed16(half(x)) < words::signed16(half(y)),
+        43 => words::signed64(x) < words::signed64(y),
+        _ => words::add_overflows(x, y, carry),
+    }
+}
+
 pub fn apply(op: u8, x: Pair, y: Pair, s: u64) -> Pair {
     match op {
         0..=5 => twos(op, x, y, byte(s)),
@@ -168,6 +181,7 @@ pub fn apply(op: u8, x: Pair, y: Pair, s: u64) -> Pair {
         36 => one(words::four_select(quad(x), byte(s)) as u64),
         37 => one(words::select_word(quad(x), byte(s)) as u64),
         38 => one(words::extract_nat64(quad(x), byte(s))),
-        _ => one(counts(op, x.lo)),
+        39..=41 => one(counts(op, x.lo)),
+        _ => one(signed(op, x.lo, y.lo, s == 1) as u64),
     }
 }
