@@ -1,8 +1,9 @@
-// Runs the stored jobs of data/ and compares what is printed of each with the stored text, byte for byte. The texts are those of
-// the separately written evaluator in compare/, whose README says how the files are made. A line that does not say "N of N" is an
-// error.
+// Runs the stored jobs of data/ and compares what is printed of each with the stored text, byte for byte; and the stored sums, by
+// both evaluations, with the word and the flags that are stored. What is expected is of the separately written evaluator in
+// compare/, whose README says how the files are made. A line that does not say "N of N" is an error.
 
 mod part;
+mod sums;
 mod tally;
 
 ghost use mathlib.Core.Path.{_≡_};
@@ -16,6 +17,12 @@ use tally::tell;
 
 // No file has as many jobs: a proved loop has to end, and nothing says that a file does.
 const MOST: u64 = 100_000;
+
+// What a file holds.
+enum Holds {
+    Jobs,
+    Sums,
+}
 
 // What was tried, or that the file has ended.
 enum Trial {
@@ -39,7 +46,7 @@ fn agrees(input: &[u8], text: &[u8]) -> bool
 }
 
 // Tries the file's next job. No text is empty, so one of no bytes is the end of the file.
-fn try_next(fd: i32, tally: Tally) -> Trial {
+fn try_job(fd: i32, tally: Tally) -> Trial {
     let mut input = io::large_buffer();
     let mut text = io::large_buffer();
     let n = read_part(fd, &mut input);
@@ -50,11 +57,28 @@ fn try_next(fd: i32, tally: Tally) -> Trial {
     Trial::Made(counted(tally, agrees(&input[..n], &text[..m])))
 }
 
-fn try_all(fd: i32) -> Tally {
+// Tries the file's next sum.
+fn try_sum(fd: i32, tally: Tally) -> Trial {
+    let mut row = [0u8; sums::ROW];
+    let n = io::read_full(fd, &mut row);
+    if n < sums::ROW {
+        return Trial::End;
+    }
+    Trial::Made(counted(tally, sums::agrees(&row)))
+}
+
+fn try_next(fd: i32, holds: Holds, tally: Tally) -> Trial {
+    match holds {
+        Holds::Jobs => try_job(fd, tally),
+        Holds::Sums => try_sum(fd, tally),
+    }
+}
+
+fn try_all(fd: i32, holds: Holds) -> Tally {
     let mut tally = none_yet();
     let mut left = MOST;
     while left > 0 {
-        let Trial::Made(next) = try_next(fd, tally) else {
+        let Trial::Made(next) = try_next(fd, holds, tally) else {
             return tally;
         };
         tally = next;
@@ -63,17 +87,18 @@ fn try_all(fd: i32) -> Tally {
     tally
 }
 
-fn try_file(name: &[u8]) {
+fn try_file(name: &[u8], holds: Holds) {
     let fd = os::open_read(name);
     if fd < 0 {
         os::fail(name);
         return;
     }
-    tell(name, try_all(fd));
+    tell(name, try_all(fd, holds));
     libc::close(fd);
 }
 
 fn main() {
-    try_file(b"systematic");
-    try_file(b"random");
+    try_file(b"systematic", Holds::Jobs);
+    try_file(b"random", Holds::Jobs);
+    try_file(b"sums", Holds::Sums);
 }

@@ -4,10 +4,10 @@ use Rattle.jobs_main.proofs.try_all.Statement.{statement}
 use Rattle.jobs_main.proofs.try_all.Tie as tie
 
 abbrev Inv-loop : tie.InvT-loop
-Inv-loop fd tally₀ left₀ tally left = Unit {0}
+Inv-loop fd holds tally₀ left₀ tally left = Unit {0}
 
 abbrev μ-loop : tie.MeasureT-loop
-μ-loop fd tally₀ left₀ tally left = left
+μ-loop fd holds tally₀ left₀ tally left = left
 
 none-yet-requires : tie.Need-none-yet-requires Inv-loop μ-loop
 none-yet-requires c κs = search needs
