@@ -1,6 +1,7 @@
 // The evaluator's cycle: a list of codes runs its instructions, enters its Blocks, and calls `eval_code` for an IfElse or a
 // While, whose parts are lists again. The codes of a list and the rounds of a While are loops, so that native depth is the
-// nesting of IfElses and Whiles.
+// nesting of IfElses and Whiles. Among the parameters values and registers stand right behind the places, and what is seldom looked
+// at stands last: what other orders cost is in docs/DECISIONS.md.
 ghost use mathlib.Core.Path.{_≡_};
 ghost use mathlib.Core.Bool.{false};
 ghost use Prim.Native.Nat.{_+_, _^_, _≤_, _<_};
@@ -79,13 +80,13 @@ pub fn eval_codes(
     code: &[u8],
     from: usize,
     end: usize,
-    fuel: u32,
+    values: &mut [u64],
     regs: &mut [u64; 16],
+    fuel: u32,
     xmms: &mut [u32; 64],
     flags: &mut u64,
     addresses: &[u64],
     tags: &[u8],
-    values: &mut [u64],
     counted: &mut [u64; COUNTED],
     limit: u64,
     fill: u64,
@@ -123,13 +124,13 @@ pub fn eval_codes(
             let went = eval_code(
                 code,
                 next,
-                fuel,
+                values,
                 regs,
+                fuel,
                 xmms,
                 flags,
                 addresses,
                 tags,
-                values,
                 counted,
                 limit,
                 fill,
@@ -152,13 +153,13 @@ pub fn eval_codes(
 fn eval_code(
     code: &[u8],
     at: usize,
-    fuel: u32,
+    values: &mut [u64],
     regs: &mut [u64; 16],
+    fuel: u32,
     xmms: &mut [u32; 64],
     flags: &mut u64,
     addresses: &[u64],
     tags: &[u8],
-    values: &mut [u64],
     counted: &mut [u64; COUNTED],
     limit: u64,
     fill: u64,
@@ -193,13 +194,13 @@ fn eval_code(
             code,
             first_code(code, way.part),
             way.behind,
-            given,
+            values,
             regs,
+            given,
             xmms,
             flags,
             addresses,
             tags,
-            values,
             counted,
             limit,
             fill,

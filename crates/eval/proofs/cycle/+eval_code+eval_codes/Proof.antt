@@ -32,7 +32,7 @@ use Rattle.eval.proofs.step.step_instruction.Reads as step-instruction
 use Rattle.eval.proofs.cycle.+eval_code+eval_codes.{statement}
 use Rattle.eval.proofs.cycle.+eval_code+eval_codes.Tie.{close}
 
--- what a code takes: the bytes, the place, the fuel and the rest; a list of codes takes its end behind its place
+-- what a code takes: the bytes, the place, values, registers, the fuel and the rest; a list of codes takes its end behind its place
 abbrev one : List (PK 8)
 one = eval-code-kinds.ps
 
@@ -41,10 +41,10 @@ list = eval-codes-kinds.ps
 
 -- the measure of a code, and of a list
 abbrev of-code : Measures 8 one ℕ
-of-code κs a = a .1 .1 .0 + (length (a .0 .now) - (a .1 .0 + 1))
+of-code κs a = a .1 .1 .1 .1 .0 + (length (a .0 .now) - (a .1 .0 + 1))
 
 abbrev of-codes : Measures 8 list ℕ
-of-codes κs a = a .1 .1 .1 .0 + (length (a .0 .now) - a .1 .0)
+of-codes κs a = a .1 .1 .1 .1 .1 .0 + (length (a .0 .now) - a .1 .0)
 
 -- what a function asks where its measure is t, and what a caller of measure t has to show
 abbrev at : (ps : List (PK 8)) → Measures 8 ps ℕ → In 8 ps → ℕ → In 8 ps
@@ -58,12 +58,12 @@ abbrev codes-claims : ℕ → eval-codes-lts.Claims
 codes-claims t = (step-instruction.Asked, step-instruction.Learnt, below one of-code eval-code.Pre t, eval-code.Post)
 
 abbrev Inv-codes : eval-codes-lts.InvT-loop
-Inv-codes code from end fuel regs₀ xmms₀ flags₀ addresses tags values₀ counted₀ limit fill evaluation next₀ regs xmms flags values counted next =
+Inv-codes code from end values₀ regs₀ fuel xmms₀ flags₀ addresses tags counted₀ limit fill evaluation next₀ values regs xmms flags counted next =
     Going (environment addresses tags fill (flag-rule evaluation)) (some limit) code from end fuel (held regs₀ xmms₀ flags₀ values₀) (tally counted₀) next
     (held regs xmms flags values) (tally counted)
 
 abbrev μ-codes : eval-codes-lts.MeasureT-loop
-μ-codes code from end fuel regs₀ xmms₀ flags₀ addresses tags values₀ counted₀ limit fill evaluation next₀ regs xmms flags values counted next = end - next
+μ-codes code from end values₀ regs₀ fuel xmms₀ flags₀ addresses tags counted₀ limit fill evaluation next₀ values regs xmms flags counted next = end - next
 
 codes-meets : {M : Type 1} (t : ℕ) → eval-codes-lts.Closed (codes-claims t) (at list of-codes eval-codes.Pre t) eval-codes.Post M
 codes-meets t =
@@ -96,12 +96,12 @@ code-claims t = (
 )
 
 abbrev Inv-code : eval-code-lts.InvT-loop
-Inv-code code at fuel regs₀ xmms₀ flags₀ addresses tags values₀ counted₀ limit fill evaluation chooses test left₀ regs xmms flags values counted left =
+Inv-code code at values₀ regs₀ fuel xmms₀ flags₀ addresses tags counted₀ limit fill evaluation chooses test left₀ values regs xmms flags counted left =
     Testing (environment addresses tags fill (flag-rule evaluation)) (some limit) code at fuel (held regs₀ xmms₀ flags₀ values₀) (tally counted₀)
     chooses test left (held regs xmms flags values) (tally counted)
 
 abbrev μ-code : eval-code-lts.MeasureT-loop
-μ-code code at fuel regs₀ xmms₀ flags₀ addresses tags values₀ counted₀ limit fill evaluation chooses test left₀ regs xmms flags values counted left = left
+μ-code code at values₀ regs₀ fuel xmms₀ flags₀ addresses tags counted₀ limit fill evaluation chooses test left₀ values regs xmms flags counted left = left
 
 -- there is fuel for the round
 fuelled :
