@@ -1,15 +1,20 @@
 #!/bin/sh
-# Compares the port, linked in as its proved static library, with the evaluator and builder of this folder.
+# Compares the port, linked in as its proved static library, with the evaluator and builder of this folder, and its
+# additions on the board with this processor's.
 #
-#     compare/run.sh [N [SEED]]     first systematic jobs under step limits, then N jobs (100,000) from
-#                                   SEED (a new one), then lists of builder calls, a tenth as many but
-#                                   at least 1,000, then as many lists of cells and their splits
+#     compare/run.sh [N [SEED]]     first systematic jobs under step limits and by both evaluations, and
+#                                   additions, then N jobs (100,000) from SEED (a new one), then lists of
+#                                   builder calls, a tenth as many but at least 1,000, then as many lists
+#                                   of cells and their splits
 set -eu
 cd "$(dirname "$0")/.."
 rt staticlib capi
 cargo build --release --offline --quiet --features c_target --manifest-path compare/Cargo.toml --target-dir target/compare
 target/compare/release/compare selfcheck
 target/compare/release/compare limited c
+target/compare/release/compare sums c
+${CC:-cc} -std=c11 -O2 -Wall -Wextra -Werror -Iinclude compare/processor.c target/staticlib/libcapi.a -o target/processor
+target/processor
 jobs="${1:-100000}"
 seed="${2:-new}"
 target/compare/release/compare batch "$jobs" "$seed" c

@@ -1,15 +1,16 @@
 //! Generated jobs through the program under test and this evaluator.
 
 use crate::answer::{render, Outcome};
-use crate::checks::check_run;
-use crate::follow::Settings;
-use crate::generate::job_bytes;
+use crate::board;
+use crate::checks::checked_run;
+use crate::generate::batch_bytes;
 use crate::job::parse;
 use crate::limits;
 use crate::rng::Rng;
-use crate::run::{accept, follow, Followed};
+use crate::run::{accept, Followed};
 use crate::tally::Tally;
 use crate::target::Target;
+use crate::terms::Evaluation::Base;
 use std::time::{Duration, Instant};
 
 /// From here on a batch has to meet every answer and number.
@@ -20,7 +21,7 @@ pub fn run(jobs: u64, seed: u64, target: &mut dyn Target) -> Result<Tally, Strin
     let mut tally = Tally::default();
     let mut progress = Progress::new(jobs);
     for index in 0..jobs {
-        let bytes = job_bytes(seed, index);
+        let bytes = batch_bytes(seed, index);
         let named = |what: String| describe(seed, index, &bytes, &what);
         let own = own_answer(&bytes, seed ^ index, &mut tally).map_err(named)?;
         let text = render(&own);
@@ -29,9 +30,7 @@ pub fn run(jobs: u64, seed: u64, target: &mut dyn Target) -> Result<Tally, Strin
             return Err(named(difference(&text, answer)));
         }
         tally.add(&own.answer);
-        // Another row of numbers than the one that the job was made from.
-        let mut rng = Rng::of_job(!seed, index);
-        limits::compare(&bytes, &own, &mut rng, target, &mut tally.limits).map_err(named)?;
+        on_terms(&bytes, &own, seed, index, target, &mut tally).map_err(named)?;
         progress.show(index + 1);
     }
     let missing = missing(&tally);
@@ -45,12 +44,33 @@ pub fn run(jobs: u64, seed: u64, target: &mut dyn Target) -> Result<Tally, Strin
     Ok(tally)
 }
 
-/// What a batch of some length has to meet and did not.
-pub fn missing(tally: &Tally) -> Vec<String> {
-    [tally.missing(), tally.limits.missing()].concat()
+/// The job by the base evaluation under some limits, and on the board. Bytes
+/// that are no job are left out.
+fn on_terms(
+    bytes: &[u8],
+    base: &Outcome,
+    seed: u64,
+    index: u64,
+    target: &mut dyn Target,
+    tally: &mut Tally,
+) -> Result<(), String> {
+    let Ok(job) = parse(bytes) else {
+        return Ok(());
+    };
+    // Another row of numbers than the one that the job was made from.
+    let mut rng = Rng::of_job(!seed, index);
+    limits::compare(&job, Base, base, &mut rng, target, &mut tally.limits)?;
+    let salt = seed ^ index;
+    board::compare(&job, base, salt, &mut rng, target, &mut tally.board)
 }
 
-/// This evaluator's outcome, with the checks inside it.
+/// What a batch of some length has to meet and did not.
+pub fn missing(tally: &Tally) -> Vec<String> {
+    let limits = tally.limits.missing();
+    [tally.missing(), limits, tally.board.missing()].concat()
+}
+
+/// This evaluator's outcome as the job program's, with the checks inside it.
 pub fn own_answer(bytes: &[u8], salt: u64, tally: &mut Tally) -> Result<Outcome, String> {
     let job = match parse(bytes) {
         Ok(job) => job,
@@ -63,15 +83,12 @@ pub fn own_answer(bytes: &[u8], salt: u64, tally: &mut Tally) -> Result<Outcome,
     if job.to_bytes() != bytes || crate::writer::write(&code) != job.code {
         return Err("writing what was read gives other bytes".to_string());
     }
-    let settings = Settings::new(job.fill);
-    let run = follow(&job, &code, u64::from(job.fuel), settings);
     let Followed {
         outcome,
         followed,
         met,
         ..
-    } = run.map_err(|_| "no budget was set")?;
-    check_run(&job, &code, &outcome, salt).map_err(|e| format!("inner check: {e}"))?;
+    } = checked_run(&job, &code, Base, salt)?;
     tally.followed += followed;
     tally.steps += outcome.steps;
     for (sum, count) in tally.met.iter_mut().zip(met) {

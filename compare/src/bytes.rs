@@ -3,16 +3,19 @@
 //! processor-like operations of the language where that one divides, and it
 //! keeps an xmm register as one number of 128 bits, lo0 lowest. So that the
 //! checks can halt it anywhere, it also takes a number of steps, which it counts
-//! down; the paper's own does as many as come.
+//! down; the paper's own does as many as come. The board's overflow it tells by
+//! signs, where instructions.rs works out the signed sum.
 
 use crate::cells::Cell;
 use crate::state::{Quad, Start};
+use crate::terms::Evaluation;
 use crate::tree::Instruction::*;
 use crate::tree::*;
 use std::collections::HashMap;
 
 const CARRY: u64 = 1;
 const OVERFLOW: u64 = 1 << 11;
+const SIGN: u64 = 1 << 63;
 
 /// Bytes not written yet are a hash of their address.
 #[derive(Clone)]
@@ -70,6 +73,7 @@ pub struct Machine {
     pub flags: u64,
     pub memory: ByteMemory,
     fill: u64,
+    evaluation: Evaluation,
     /// Instructions and tests that it may still do.
     pub left: u64,
 }
@@ -84,7 +88,7 @@ pub enum Halt {
 }
 
 impl Machine {
-    pub fn new(start: &Start, fill: u64, memory: ByteMemory) -> Machine {
+    pub fn new(start: &Start, fill: u64, evaluation: Evaluation, memory: ByteMemory) -> Machine {
         let join = |q: Quad| q.iter().rev().fold(0, |x, w| x << 32 | u128::from(*w));
         Machine {
             regs: start.regs,
@@ -92,6 +96,7 @@ impl Machine {
             flags: start.flags,
             memory,
             fill,
+            evaluation,
             left: u64::MAX,
         }
     }
@@ -208,9 +213,9 @@ impl Machine {
     fn instruction(&mut self, ins: &Instruction) {
         match *ins {
             Mov64(dst, src) => self.write(dst, self.read(src)),
-            Add64(dst, src) => self.add(dst, src, 0, CARRY),
+            Add64(dst, src) => self.add_as_evaluated(dst, src, 0),
             AddLea64(dst, a, b) => self.write(dst, self.read(a).wrapping_add(self.read(b))),
-            AddCarry64(dst, src) => self.add(dst, src, CARRY, CARRY),
+            AddCarry64(dst, src) => self.add_as_evaluated(dst, src, CARRY),
             Adcx64(dst, src) => self.add(dst, src, CARRY, CARRY),
             Adox64(dst, src) => self.add(dst, src, OVERFLOW, OVERFLOW),
             Sub64(dst, src) => self.arithmetic(dst, src, u64::wrapping_sub),
@@ -270,14 +275,34 @@ impl Machine {
         }
     }
 
-    /// Adds with the flag under `taken` (none for 0) and puts the carry into
-    /// the flag under `given`; the other flags stay.
+    /// Puts the carry into the flag under `given`; the other flags stay.
     fn add(&mut self, dst: Operand, src: Operand, taken: u64, given: u64) {
+        let sum = self.sum(dst, src, taken);
+        self.put_flag(given, sum.carries);
+    }
+
+    /// Add64 and AddCarry64. On the board every bit but carry and overflow comes
+    /// from the fill word.
+    fn add_as_evaluated(&mut self, dst: Operand, src: Operand, taken: u64) {
+        let sum = self.sum(dst, src, taken);
+        if self.evaluation == Evaluation::Board {
+            self.flags = self.fill;
+            self.put_flag(OVERFLOW, sum.turns);
+        }
+        self.put_flag(CARRY, sum.carries);
+    }
+
+    /// Adds with the flag under `taken` (none for 0) and writes the sum.
+    fn sum(&mut self, dst: Operand, src: Operand, taken: u64) -> Sum {
         let carry = u64::from(self.flags & taken != 0);
-        let (partial, first) = self.read(dst).overflowing_add(self.read(src));
+        let (a, b) = (self.read(dst), self.read(src));
+        let (partial, first) = a.overflowing_add(b);
         let (sum, second) = partial.overflowing_add(carry);
         self.write(dst, sum);
-        self.put_flag(given, first || second);
+        Sum {
+            carries: first || second,
+            turns: (a ^ sum) & (b ^ sum) & SIGN != 0,
+        }
     }
 
     fn arithmetic(&mut self, dst: Operand, src: Operand, work: fn(u64, u64) -> u64) {
@@ -343,6 +368,14 @@ impl Machine {
         let x = &mut self.xmms[usize::from(dst)];
         *x = *x & !(mask << at) | value << at;
     }
+}
+
+/// What the flags are told of a sum.
+struct Sum {
+    /// Out of the 64 bits.
+    carries: bool,
+    /// Both operands have one sign, the sum has the other.
+    turns: bool,
 }
 
 /// A shift by the width or more gives 0.

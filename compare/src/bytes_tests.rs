@@ -1,8 +1,11 @@
-//! What the byte machine does where the run would fault, and its counts.
+//! What the byte machine does where the run would fault, its counts, and its
+//! sums by either evaluation.
 
 use super::*;
 use crate::build::{at, number, reg};
 use crate::count_table::{flags, words};
+use crate::sum_table::{adders, over_fills, sums, OLD};
+use crate::terms::Evaluation::{Base, Board};
 
 fn machine() -> Machine {
     let start = Start {
@@ -10,7 +13,7 @@ fn machine() -> Machine {
         regs: [0; 16],
         xmms: [[0; 4]; 16],
     };
-    Machine::new(&start, 5, ByteMemory::new(1, &[]))
+    Machine::new(&start, 5, Base, ByteMemory::new(1, &[]))
 }
 
 fn one(ins: Instruction) -> Code {
@@ -147,5 +150,89 @@ fn counts_where_a_run_would_fault() {
         let spelled = m.memory.gather(u64::MAX, 8);
         let told = counted(count(reg(0), number(spelled)), 0, 0, 1);
         assert_eq!((m.regs, m.flags), (told.regs, told.flags));
+    }
+}
+
+/// A machine after one sum of Rax, or of the bytes at 0, and Rbx.
+fn summed(
+    ins: Instruction,
+    evaluation: Evaluation,
+    fill: u64,
+    old: u64,
+    words: [u64; 2],
+) -> Machine {
+    let mut m = machine();
+    (m.evaluation, m.fill, m.flags) = (evaluation, fill, old);
+    (m.regs[0], m.regs[1]) = (words[0], words[1]);
+    m.memory.spell(0, words[0], 8);
+    assert_eq!(m.run(&one(ins), 0), Ok(()));
+    m
+}
+
+#[test]
+fn sums_on_the_board() {
+    for (dst, src, sums) in sums() {
+        for (old, adder, which) in adders() {
+            let sum = sums[which];
+            for (fill, flags) in over_fills(sum) {
+                let from = format!("{dst} and {src}, flags {old}, fill {fill}");
+                for by in [reg(1), number(src)] {
+                    let m = summed(adder(reg(0), by), Board, fill, old, [dst, src]);
+                    assert_eq!((m.regs[0], m.flags), (sum.word, flags), "{from}");
+                }
+                let m = summed(adder(at(0), reg(1)), Board, fill, old, [dst, src]);
+                let word = m.memory.gather(0, 8);
+                assert_eq!((word, m.flags), (sum.word, flags), "{from}");
+            }
+        }
+    }
+}
+
+/// The rule is of the words alone, wherever the sum goes.
+#[test]
+fn sums_where_a_run_would_fault() {
+    for (dst, src, sums) in sums() {
+        for (fill, flags) in over_fills(sums[0]) {
+            let m = summed(Add64(number(dst), number(src)), Board, fill, 0, [7, 8]);
+            assert_eq!((m.flags, &m.regs[..2]), (flags, &[7, 8][..]));
+            let mut m = machine();
+            (m.evaluation, m.fill) = (Board, fill);
+            m.regs[usize::from(RSP)] = dst;
+            assert_eq!(m.run(&one(Add64(reg(RSP), number(src))), 0), Ok(()));
+            assert_eq!((m.regs[usize::from(RSP)], m.flags), (sums[0].word, flags));
+        }
+    }
+}
+
+#[test]
+fn sums_by_the_base_keep_the_other_flags() {
+    for (dst, src, sums) in sums() {
+        for (old, adder, which) in adders() {
+            let sum = sums[which];
+            for fill in [0, u64::MAX] {
+                let m = summed(adder(reg(0), reg(1)), Base, fill, old, [dst, src]);
+                let flags = old / 2 * 2 + u64::from(sum.carry);
+                assert_eq!((m.regs[0], m.flags), (sum.word, flags));
+            }
+        }
+    }
+}
+
+#[test]
+fn adcx_and_adox_are_the_same_by_both() {
+    for (dst, src, sums) in sums() {
+        for (old, fill) in OLD.map(|old| [(old, 0), (old, u64::MAX)]).concat() {
+            for evaluation in [Base, Board] {
+                let by_carry = sums[old as usize & 1];
+                let m = summed(Adcx64(reg(0), reg(1)), evaluation, fill, old, [dst, src]);
+                let flags = old / 2 * 2 + u64::from(by_carry.carry);
+                assert_eq!((m.regs[0], m.flags), (by_carry.word, flags));
+                let by_overflow = sums[(old >> 11) as usize & 1];
+                let m = summed(Adox64(reg(0), reg(1)), evaluation, fill, old, [dst, src]);
+                let kept = if old & 2048 == 0 { old } else { old - 2048 };
+                let flags = kept + 2048 * u64::from(by_overflow.carry);
+                assert_eq!((m.regs[0], m.flags), (by_overflow.word, flags));
+            }
+        }
     }
 }

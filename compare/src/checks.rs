@@ -1,6 +1,6 @@
-//! What has to hold inside this evaluator for a job that it ran: the byte
-//! machine's end, a larger fuel, the bound of the steps, other step limits, and
-//! that no answer leans on what the source leaves free.
+//! What has to hold inside this evaluator for a job that it ran, by either
+//! evaluation: the byte machine's end, a larger fuel, the bound of the steps,
+//! other step limits, and that no answer leans on what the source leaves free.
 
 use crate::answer::{Answer, Outcome, STOPPED};
 use crate::bound;
@@ -10,68 +10,153 @@ use crate::follow::{Mode, Settings};
 use crate::job::Job;
 use crate::places::next_at;
 use crate::rng::Rng;
-use crate::run::{self, follow};
+use crate::run::{self, accept, follow, Followed};
+use crate::sums::SumLog;
+use crate::terms::Evaluation;
 use crate::tree::{Code, RSP};
 use std::cmp::Ordering;
 
-/// Everything that is checked of a run besides the comparison. The outcome is
-/// the one under the largest limit.
-pub fn check_run(job: &Job, code: &Code, outcome: &Outcome, salt: u64) -> Result<(), String> {
-    byte_machine_agrees(job, code, outcome, salt)?;
-    if !bound::holds(code, u64::from(job.fuel), outcome.steps) {
-        return Err(format!("{} steps are over the bound", outcome.steps));
-    }
-    limits_hold(job, code, outcome, salt)?;
-    if outcome.answer == Answer::Done {
-        for fuel in [u64::from(job.fuel) + 1, 2 * u64::from(job.fuel) + 1_000] {
-            same_outcome(job, code, fuel, Settings::new(job.fill), outcome)?;
+/// Answers a job under the largest limit, and checks the run if it is one. Also
+/// hands back the sums that it completed.
+pub fn checked_answer(
+    job: &Job,
+    evaluation: Evaluation,
+    salt: u64,
+) -> Result<(Outcome, SumLog), String> {
+    match accept(job) {
+        Ok(code) => {
+            let followed = checked_run(job, &code, evaluation, salt)?;
+            Ok((followed.outcome, followed.sums))
         }
-        return Ok(());
+        Err(trouble) => Ok((Outcome::refused(trouble), SumLog::default())),
     }
-    let settings = Settings {
-        off: !salt,
-        mode: Mode::StopsAtFirst,
-        ..Settings::new(job.fill)
-    };
-    same_outcome(job, code, u64::from(job.fuel), settings, outcome)
 }
 
-fn same_outcome(
+/// A run on the board that completed no sum has to be the base evaluation's.
+pub fn only_sums_differ(base: &Outcome, board: &Outcome, sums: &SumLog) -> Result<(), String> {
+    match sums.completed.is_empty() && board != base {
+        true => Err(format!("without a sum, {base:?} became {board:?}")),
+        false => Ok(()),
+    }
+}
+
+/// Follows accepted code under the largest limit, and checks the run.
+pub fn checked_run(
     job: &Job,
     code: &Code,
-    fuel: u64,
-    settings: Settings,
-    outcome: &Outcome,
-) -> Result<(), String> {
-    let again = follow(job, code, fuel, settings).map_err(|_| "no budget was set")?;
-    if again.outcome != *outcome {
-        return Err(format!("fuel {fuel}, {settings:?}: {:?}", again.outcome));
-    }
-    Ok(())
+    evaluation: Evaluation,
+    salt: u64,
+) -> Result<Followed, String> {
+    let settings = Settings::new(job.fill, evaluation.unlimited());
+    let followed = follow(job, code, u64::from(job.fuel), settings);
+    let followed = followed.map_err(|_| "no budget was set")?;
+    let run = Run {
+        job,
+        code,
+        evaluation,
+        salt,
+    };
+    let held = run.check(&followed.outcome);
+    held.map_err(|e| format!("inner check, {evaluation:?}: {e}"))?;
+    Ok(followed)
 }
 
-/// The run again with as many steps as it made, with more and with fewer; the
-/// salt says how many, and whether the source then runs on.
-fn limits_hold(job: &Job, code: &Code, outcome: &Outcome, salt: u64) -> Result<(), String> {
-    let mut rng = Rng::new(salt);
-    let steps = outcome.steps;
-    let more = rng.pick(&[steps + 1, steps + 2, 1 << 32, 1 << 63, u64::MAX]);
-    let mut limits = vec![steps, more.max(steps + 1)];
-    if let Some(any) = rng.word().checked_rem(steps) {
-        limits.push(rng.pick(&[0, any, any, steps - 1]));
-    }
-    for limit in limits {
-        let settings = Settings {
-            off: !salt,
-            mode: rng.pick(&[Mode::RunsOn, Mode::StopsAtFirst]),
-            ..Settings::limited(job.fill, limit)
-        };
-        let limited = limit_holds(job, code, outcome, settings)?;
-        if limit < steps {
-            byte_machine_agrees(job, code, &limited, salt)?;
+/// A run of accepted code by one of the evaluations. The salt stands for what
+/// is left to chance.
+struct Run<'a> {
+    job: &'a Job,
+    code: &'a Code,
+    evaluation: Evaluation,
+    salt: u64,
+}
+
+impl Run<'_> {
+    /// Everything that is checked of a run besides the comparison. The outcome
+    /// is the one under the largest limit.
+    fn check(&self, outcome: &Outcome) -> Result<(), String> {
+        let fuel = u64::from(self.job.fuel);
+        self.byte_machine_agrees(outcome)?;
+        if !bound::holds(self.code, fuel, outcome.steps) {
+            return Err(format!("{} steps are over the bound", outcome.steps));
         }
+        self.limits_hold(outcome)?;
+        let settings = Settings::new(self.job.fill, self.evaluation.unlimited());
+        if outcome.answer == Answer::Done {
+            for larger in [fuel + 1, 2 * fuel + 1_000] {
+                self.same_outcome(larger, settings, outcome)?;
+            }
+            return Ok(());
+        }
+        let settings = Settings {
+            off: !self.salt,
+            mode: Mode::StopsAtFirst,
+            ..settings
+        };
+        self.same_outcome(fuel, settings, outcome)
     }
-    Ok(())
+
+    fn same_outcome(&self, fuel: u64, settings: Settings, outcome: &Outcome) -> Result<(), String> {
+        let again = follow(self.job, self.code, fuel, settings);
+        let again = again.map_err(|_| "no budget was set")?.outcome;
+        if again != *outcome {
+            return Err(format!("fuel {fuel}, {settings:?}: {again:?}"));
+        }
+        Ok(())
+    }
+
+    /// The run again with as many steps as it made, with more and with fewer;
+    /// the salt says how many, and whether the source then runs on.
+    fn limits_hold(&self, outcome: &Outcome) -> Result<(), String> {
+        let mut rng = Rng::new(self.salt);
+        let steps = outcome.steps;
+        let more = rng.pick(&[steps + 1, steps + 2, 1 << 32, 1 << 63, u64::MAX]);
+        let mut limits = vec![steps, more.max(steps + 1)];
+        if let Some(any) = rng.word().checked_rem(steps) {
+            limits.push(rng.pick(&[0, any, any, steps - 1]));
+        }
+        for limit in limits {
+            let settings = Settings {
+                off: !self.salt,
+                mode: rng.pick(&[Mode::RunsOn, Mode::StopsAtFirst]),
+                ..Settings::new(self.job.fill, self.evaluation.limited(limit))
+            };
+            let limited = limit_holds(self.job, self.code, outcome, settings)?;
+            if limit < steps {
+                self.byte_machine_agrees(&limited)?;
+            }
+        }
+        Ok(())
+    }
+
+    /// The byte machine, given as many steps as the run made, uses them all up
+    /// and then halts in the run's way, with the run's end. Ahead of a fault
+    /// every check has passed, so this is no less true of runs that are not Done.
+    fn byte_machine_agrees(&self, run: &Outcome) -> Result<(), String> {
+        let (start, fill) = (&self.job.start, self.job.fill);
+        let memory = ByteMemory::new(self.salt, &self.job.cells);
+        let mut machine = Machine::new(start, fill, self.evaluation, memory);
+        machine.left = run.steps;
+        let halt = machine.run(self.code, u64::from(self.job.fuel));
+        let expected = match run.answer {
+            Answer::Done => Ok(()),
+            Answer::Spent(_) => Err(Halt::OutOfFuel),
+            _ => Err(Halt::OutOfSteps),
+        };
+        if halt != expected || machine.left != 0 {
+            let (answer, left) = (run.answer, machine.left);
+            return Err(format!("{answer:?}, byte machine: {halt:?}, {left} left"));
+        }
+        let Some((end, cells)) = &run.end else {
+            return Err("a run without an end".to_string());
+        };
+        if machine.visible() != *end {
+            return Err(format!("the byte machine's end: {:?}", machine.visible()));
+        }
+        if end.regs[usize::from(RSP)] != start.regs[usize::from(RSP)] {
+            return Err("Rsp was changed in a run".to_string());
+        }
+        bytes_agree(&machine.memory, cells)
+    }
 }
 
 /// The outcome under a limit has to be the one that the run without it leads
@@ -83,10 +168,11 @@ pub fn limit_holds(
     settings: Settings,
 ) -> Result<Outcome, String> {
     let limited = run::outcome(job, code, settings);
-    let holds = match settings.limit.cmp(&unlimited.steps) {
+    let limit = settings.terms.limit;
+    let holds = match limit.cmp(&unlimited.steps) {
         Ordering::Greater => limited == *unlimited,
         Ordering::Equal => limited == at_own_limit(unlimited),
-        Ordering::Less => stopped_within(&limited, code, settings.limit),
+        Ordering::Less => stopped_within(&limited, code, limit),
     };
     match holds {
         true => Ok(limited),
@@ -111,35 +197,6 @@ fn stopped_within(limited: &Outcome, code: &Code, limit: u64) -> bool {
     }
 }
 
-/// The byte machine, given as many steps as the run made, uses them all up and
-/// then halts in the run's way, with the run's end. Ahead of a fault every
-/// check has passed, so this is no less true of runs that are not Done.
-fn byte_machine_agrees(job: &Job, code: &Code, run: &Outcome, salt: u64) -> Result<(), String> {
-    let memory = ByteMemory::new(salt, &job.cells);
-    let mut machine = Machine::new(&job.start, job.fill, memory);
-    machine.left = run.steps;
-    let halt = machine.run(code, u64::from(job.fuel));
-    let expected = match run.answer {
-        Answer::Done => Ok(()),
-        Answer::Spent(_) => Err(Halt::OutOfFuel),
-        _ => Err(Halt::OutOfSteps),
-    };
-    if halt != expected || machine.left != 0 {
-        let (answer, left) = (run.answer, machine.left);
-        return Err(format!("{answer:?}, byte machine: {halt:?}, {left} left"));
-    }
-    let Some((end, cells)) = &run.end else {
-        return Err("a run without an end".to_string());
-    };
-    if machine.visible() != *end {
-        return Err(format!("the byte machine's end: {:?}", machine.visible()));
-    }
-    if end.regs[usize::from(RSP)] != job.start.regs[usize::from(RSP)] {
-        return Err("Rsp was changed in a run".to_string());
-    }
-    bytes_agree(&machine.memory, cells)
-}
-
 fn bytes_agree(memory: &ByteMemory, cells: &[Cell]) -> Result<(), String> {
     if let Some(cell) = cells.iter().find(|c| !memory.agrees(c)) {
         return Err(format!("bytes and cell differ at {}", cell.address));
@@ -157,3 +214,7 @@ fn covered(address: u64, cells: &[Cell]) -> bool {
     let following = cells.partition_point(|c| c.address <= address);
     following > 0 && u128::from(address) < cells[following - 1].end()
 }
+
+#[cfg(test)]
+#[path = "checks_tests.rs"]
+mod tests;

@@ -2,6 +2,8 @@
 //! its checks, and what is counted on the way.
 
 use crate::state::{eval_operand, Judged, Located, State};
+use crate::sums::SumLog;
+use crate::terms::Terms;
 use crate::tree::INSTRUCTION_KINDS;
 
 #[derive(Clone, Copy, Debug, PartialEq, Eq)]
@@ -53,36 +55,26 @@ pub enum Mode {
 #[derive(Clone, Copy, Debug)]
 pub struct Settings {
     pub fill: u64,
+    /// The caller's.
+    pub terms: Terms,
     /// The answer of a load that meets no 64-bit cell.
     pub off: u64,
     pub mode: Mode,
-    /// The caller's step limit.
-    pub limit: u64,
     /// Instructions and comparisons that may be followed.
     pub budget: u64,
 }
-
-/// The job program's limit.
-pub const LARGEST_LIMIT: u64 = u64::MAX;
 
 /// An odd word that no generated job holds but by chance.
 pub const OFF_MEM64: u64 = 0x6a3d_70b5_19c2_8e4f;
 
 impl Settings {
-    pub fn new(fill: u64) -> Settings {
+    pub fn new(fill: u64, terms: Terms) -> Settings {
         Settings {
             fill,
+            terms,
             off: OFF_MEM64,
             mode: Mode::RunsOn,
-            limit: LARGEST_LIMIT,
             budget: u64::MAX,
-        }
-    }
-
-    pub fn limited(fill: u64, limit: u64) -> Settings {
-        Settings {
-            limit,
-            ..Settings::new(fill)
         }
     }
 }
@@ -98,6 +90,8 @@ pub struct Follow {
     pub steps_made: u64,
     /// How often each instruction was followed, by its number less 1.
     pub met: [u64; INSTRUCTION_KINDS],
+    /// The sums that were completed.
+    pub sums: SumLog,
     /// The least fuel that a loop test was met with.
     pub least_fuel: u64,
     pub over_budget: bool,
@@ -119,6 +113,7 @@ impl Follow {
             followed: 0,
             steps_made: 0,
             met: [0; INSTRUCTION_KINDS],
+            sums: SumLog::default(),
             least_fuel: u64::MAX,
             over_budget: false,
         }
@@ -136,7 +131,7 @@ impl Follow {
         if self.over_budget {
             return Err(Stop::Cut);
         }
-        if self.log.bad.is_empty() && self.steps_made >= self.settings.limit {
+        if self.log.bad.is_empty() && self.steps_made >= self.settings.terms.limit {
             self.log.note(Event::LimitMet(place), s);
         }
         self.may_go_on()

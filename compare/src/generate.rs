@@ -3,6 +3,7 @@
 
 use crate::build::block;
 use crate::damage;
+use crate::generate_sums;
 use crate::job::Job;
 use crate::large;
 use crate::nest;
@@ -10,10 +11,23 @@ use crate::rng::Rng;
 use crate::scene::Scene;
 use crate::settle::{job_of, settled, settled_bytes, with_fuel};
 use crate::sweep;
+use crate::terms::Evaluation;
 use crate::tree::Instruction::*;
 use crate::tree::*;
 
 const FAMILIES: u64 = 40;
+
+/// The bytes of a batch's job number `index`: those of `job_bytes`, but that some
+/// families are about sums, and that a run on the board ends soon enough too.
+/// Sets that were stored before there was a board are chosen from `job_bytes`,
+/// so those stay as they are.
+pub fn batch_bytes(seed: u64, index: u64) -> Vec<u8> {
+    let bytes = match index % FAMILIES {
+        3 | 7 | 11 | 15 | 19 => generate_sums::job(&mut Rng::of_job(seed, index)).to_bytes(),
+        _ => job_bytes(seed, index),
+    };
+    settled_bytes(Evaluation::Board, bytes)
+}
 
 /// The bytes of job number `index`.
 pub fn job_bytes(seed: u64, index: u64) -> Vec<u8> {
@@ -27,7 +41,7 @@ pub fn job_bytes(seed: u64, index: u64) -> Vec<u8> {
         22 | 29 | 33 => settled(nest::fragment(&mut rng)).to_bytes(),
         30 | 31 => settled(sweep::job(&mut rng, index)).to_bytes(),
         32 => cells_at_edges(&mut rng, turn).to_bytes(),
-        34 => settled_bytes(damage::bytes(&mut rng, turn, base)),
+        34 => settled_bytes(Evaluation::Base, damage::bytes(&mut rng, turn, base)),
         35 => settled(nest::job(&mut rng, turn)).to_bytes(),
         36 => endless(&mut rng).to_bytes(),
         37 => faulting(&mut rng, turn).to_bytes(),
@@ -37,7 +51,7 @@ pub fn job_bytes(seed: u64, index: u64) -> Vec<u8> {
     }
 }
 
-fn fork(rng: &mut Rng) -> Rng {
+pub fn fork(rng: &mut Rng) -> Rng {
     Rng::new(rng.word())
 }
 

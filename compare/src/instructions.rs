@@ -1,14 +1,19 @@
 //! The source's `eval_ins`. Words are worked out over whole numbers and then
 //! brought back with a remainder, as the source does. Popcnt64, Lzcnt64 and
-//! Tzcnt64, which it does not have, go by request 2026-02 in its manner.
+//! Tzcnt64, which it does not have, go by request 2026-02 in its manner, and on
+//! the board the flags of Add64 and AddCarry64 by request 2026-06.
 
 use crate::follow::Follow;
 use crate::state::*;
+use crate::sums::{Adder, Sum};
+use crate::terms::Evaluation;
 use crate::tree::Instruction::*;
 use crate::tree::*;
 
 const POW2_32: u64 = 1 << 32;
 const POW2_64: u128 = 1 << 64;
+/// What a word can stand for as a signed number.
+const SIGNED: std::ops::Range<i128> = -(1 << 63)..1 << 63;
 
 /// One instruction under way.
 struct Step<'a> {
@@ -28,9 +33,9 @@ pub fn eval_ins(ins: &Instruction, place: usize, s: State, f: &mut Follow) -> St
     let at = |o: Operand| locate(o, &regs);
     match *ins {
         Mov64(dst, src) => step.mov64(at(dst), at(src)),
-        Add64(dst, src) => step.add_with(at(dst), at(src), |_| false, update_cf),
+        Add64(dst, src) => step.add(at(dst), at(src), false),
         AddLea64(dst, src1, src2) => step.add_lea64(at(dst), at(src1), at(src2)),
-        AddCarry64(dst, src) => step.add_carry64(at(dst), at(src)),
+        AddCarry64(dst, src) => step.add(at(dst), at(src), cf(step.s.flags)),
         Adcx64(dst, src) => step.add_with(at(dst), at(src), cf, update_cf),
         Adox64(dst, src) => step.add_with(at(dst), at(src), overflow, update_of),
         Sub64(dst, src) => step.two_words(at(dst), at(src), |a, b| a + POW2_64 - b),
@@ -55,6 +60,7 @@ pub fn eval_ins(ins: &Instruction, place: usize, s: State, f: &mut Follow) -> St
         Lzcnt64(dst, src) => step.zeros64(at(dst), at(src), zeros_from_the_top),
         Tzcnt64(dst, src) => step.zeros64(at(dst), at(src), zeros_from_the_bottom),
     }
+    step.keep_sum(ins);
     step.now
 }
 
@@ -126,6 +132,24 @@ impl Step<'_> {
         self.now.xmms[usize::from(dst)] = value;
     }
 
+    /// For the tallies: a sum that passed its checks, with nothing bad before it.
+    fn keep_sum(&mut self, ins: &Instruction) {
+        if !self.f.log.bad.is_empty() {
+            return;
+        }
+        let step = self.f.steps_made;
+        let (adder, dst, src) = match *ins {
+            Add64(dst, src) => (Adder::Add64, dst, src),
+            AddCarry64(dst, src) => (Adder::AddCarry64, dst, src),
+            Adox64(..) => return self.f.sums.read_at(step),
+            _ => return,
+        };
+        let words = [dst, src].map(|o| self.f.operand(locate(o, &self.s.regs), &self.s));
+        let (before, fill, after) = (self.s.flags, self.f.settings.fill, self.now.flags);
+        let sum = Sum::new(adder, words, before, fill, after);
+        self.f.sums.add(step, sum);
+    }
+
     fn wide(&self, o: Located) -> u128 {
         u128::from(self.f.operand(o, &self.s))
     }
@@ -146,8 +170,25 @@ impl Step<'_> {
         self.update_preserving_flags(dst, low(self.wide(src)));
     }
 
-    /// Add64, Adcx64 and Adox64: `carry` is the flag added and `set` the
-    /// flag written, both over the old flags.
+    /// Add64 and AddCarry64, whose flags the evaluation decides.
+    fn add(&mut self, dst: Located, src: Located, old_carry: bool) {
+        self.check_source(src);
+        let operands = [self.wide(dst), self.wide(src)];
+        let sum = operands[0] + operands[1] + u128::from(old_carry);
+        self.update(dst, low(sum));
+        let new_carry = sum >= POW2_64;
+        self.now.flags = match self.f.settings.terms.evaluation {
+            Evaluation::Base => update_cf(self.s.flags, new_carry),
+            Evaluation::Board => {
+                let [a, b] = operands.map(signed);
+                let leaves = !SIGNED.contains(&(a + b + i128::from(old_carry)));
+                update_cf(update_of(self.f.settings.fill, leaves), new_carry)
+            }
+        };
+    }
+
+    /// Adcx64 and Adox64: `carry` is the flag added and `set` the flag
+    /// written, both over the old flags.
     fn add_with(
         &mut self,
         dst: Located,
@@ -166,15 +207,6 @@ impl Step<'_> {
         self.check_source(src1);
         self.check_source(src2);
         self.update_preserving_flags(dst, low(self.wide(src1) + self.wide(src2)));
-    }
-
-    fn add_carry64(&mut self, dst: Located, src: Located) {
-        self.check_source(src);
-        let old_carry = if cf(self.s.flags) { 1 } else { 0 };
-        let sum = self.wide(dst) + self.wide(src) + old_carry;
-        self.update(dst, low(sum));
-        self.now.flags = self.f.settings.fill;
-        self.now.flags = update_cf(self.s.flags, sum >= POW2_64);
     }
 
     fn two_words(&mut self, dst: Located, src: Located, work: fn(u128, u128) -> u128) {
@@ -304,6 +336,16 @@ impl Step<'_> {
 
 fn low(n: u128) -> u64 {
     (n % POW2_64) as u64
+}
+
+/// A word as two's complement reads it.
+fn signed(word: u128) -> i128 {
+    let n = word as i128;
+    if SIGNED.contains(&n) {
+        n
+    } else {
+        n - (1 << 64)
+    }
 }
 
 fn eq_result(a: u32, b: u32) -> u32 {

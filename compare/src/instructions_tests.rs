@@ -1,11 +1,13 @@
-//! Popcnt64, Lzcnt64 and Tzcnt64, which document 01 has no examples of, and the
-//! numbers of operands that fail their checks.
+//! Popcnt64, Lzcnt64 and Tzcnt64, which document 01 has no examples of, the
+//! numbers of operands that fail their checks, and sums by either evaluation.
 
 use super::*;
 use crate::build::{at, at_reg, number, reg};
 use crate::cells::Cell;
 use crate::count_table::{flags, words};
 use crate::follow::{Event, Settings, OFF_MEM64};
+use crate::sum_table::{adders, over_fills, sums, OLD};
+use crate::terms::Evaluation::{Base, Board};
 
 const RBX: Reg = 1;
 const PLACE: usize = 5;
@@ -29,14 +31,22 @@ fn holding(word: u64) -> State {
 }
 
 fn evaluated(ins: Instruction, fill: u64, s: &State) -> (State, Vec<Event>) {
-    let mut f = Follow::new(Settings::new(fill));
+    evaluated_by(Base, ins, fill, s)
+}
+
+fn evaluated_by(by: Evaluation, ins: Instruction, fill: u64, s: &State) -> (State, Vec<Event>) {
+    let mut f = Follow::new(Settings::new(fill, by.unlimited()));
     let end = eval_ins(&ins, PLACE, s.clone(), &mut f);
     (end, f.log.bad)
 }
 
 /// The end of an instruction that passes its checks.
 fn done(ins: Instruction, fill: u64, s: &State) -> State {
-    let (end, bad) = evaluated(ins, fill, s);
+    done_by(Base, ins, fill, s)
+}
+
+fn done_by(by: Evaluation, ins: Instruction, fill: u64, s: &State) -> State {
+    let (end, bad) = evaluated_by(by, ins, fill, s);
     assert_eq!((end.ok, bad), (true, vec![]), "{ins:?}");
     end
 }
@@ -260,4 +270,96 @@ fn the_high_half_is_judged_after_the_low_write() {
     // The failed store left an entry in the source's map, which has no range.
     assert_eq!(numbers(Mulx64(BELOW, BELOW, FINE)), [36]);
     assert_eq!(numbers(Mulx64(ABSENT, ABSENT, FINE)), [32]);
+}
+
+/// Rax and the cell have the destination's word, Rbx the source's.
+fn summands(dst: u64, src: u64, flags: u64) -> State {
+    let mut s = holding(dst);
+    (s.regs[0], s.regs[usize::from(RBX)], s.flags) = (dst, src, flags);
+    s
+}
+
+#[test]
+fn sums_on_the_board() {
+    for (dst, src, sums) in sums() {
+        for (old, adder, which) in adders() {
+            let (s, sum) = (summands(dst, src, old), sums[which]);
+            for (fill, flags) in over_fills(sum) {
+                let from = format!("{dst} and {src}, flags {old}, fill {fill}");
+                for by in [reg(RBX), number(src)] {
+                    let end = done_by(Board, adder(reg(RAX), by), fill, &s);
+                    assert_eq!((end.regs[0], end.flags), (sum.word, flags), "{from}");
+                }
+                let end = done_by(Board, adder(at(ADDRESS), reg(RBX)), fill, &s);
+                assert_eq!((cell_of(&end), end.flags), (sum.word, flags), "{from}");
+            }
+        }
+    }
+}
+
+#[test]
+fn sums_by_the_base_keep_the_other_flags() {
+    for (dst, src, sums) in sums() {
+        for (old, adder, which) in adders() {
+            let (s, sum) = (summands(dst, src, old), sums[which]);
+            for fill in [0, u64::MAX] {
+                let end = done(adder(reg(RAX), reg(RBX)), fill, &s);
+                let flags = old / 2 * 2 + u64::from(sum.carry);
+                assert_eq!((end.regs[0], end.flags), (sum.word, flags));
+            }
+        }
+    }
+}
+
+/// Adcx64, Adox64 and all others that have a destination and a source.
+#[test]
+fn no_other_instruction_goes_by_the_evaluation() {
+    let others = TWOS.into_iter().filter(|two| {
+        let ins = two(reg(RAX), reg(RBX));
+        !matches!(ins, Add64(..) | AddCarry64(..))
+    });
+    let others: Vec<OfTwo> = others.collect();
+    assert_eq!(others.len(), 10);
+    for (dst, src, sums) in sums() {
+        for old in OLD {
+            let s = summands(dst, src, old);
+            for two in &others {
+                let ins = two(reg(RAX), reg(RBX));
+                assert_eq!(done(ins, 6, &s), done_by(Board, ins, 6, &s), "{ins:?}");
+            }
+            let by_carry = sums[(old % 2) as usize];
+            let end = done_by(Board, Adcx64(reg(RAX), reg(RBX)), 6, &s);
+            let flags = old / 2 * 2 + u64::from(by_carry.carry);
+            assert_eq!((end.regs[0], end.flags), (by_carry.word, flags));
+        }
+    }
+}
+
+/// The source runs on: the flags are set by the words that it goes by, of which
+/// the one off Mem64 is a positive number. 31 comes before 32.
+#[test]
+fn failed_sums_set_the_flags_too() {
+    let largest = u64::MAX / 2;
+    let s = summands(largest, 1, 4);
+    let (nowhere, fill) = (at(ADDRESS + 1), 1 << 40);
+    let table = [
+        (Add64(reg(RSP), number(largest)), 2048, vec![32]),
+        (Add64(number(largest), reg(RBX)), 2048, vec![32]),
+        (Add64(number(1), reg(RBX)), 0, vec![32]),
+        (Add64(number(u64::MAX), reg(RBX)), 1, vec![32]),
+        (AddCarry64(nowhere, reg(RAX)), 2048, vec![32]),
+        (AddCarry64(nowhere, reg(RBX)), 0, vec![32]),
+        (Add64(reg(RAX), nowhere), 2048, vec![31]),
+        (Add64(reg(RBX), nowhere), 0, vec![31]),
+        (Add64(nowhere, nowhere), 2048, vec![31, 32]),
+        (AddCarry64(number(1 << 63), nowhere), 0, vec![31, 32]),
+    ];
+    for (ins, flags, numbers) in table {
+        let (end, bad) = evaluated_by(Board, ins, fill, &s);
+        assert_eq!((end.ok, end.flags), (false, (1 << 40) + flags), "{ins:?}");
+        let failed = numbers.iter().map(|n| Event::Failed(*n, PLACE));
+        assert_eq!(bad, failed.collect::<Vec<Event>>());
+        let (end, _) = evaluated(ins, fill, &s);
+        assert_eq!((end.ok, end.flags), (false, 4 + flags % 2), "{ins:?}");
+    }
 }

@@ -13,7 +13,7 @@ use std::collections::BTreeMap;
 pub struct LimitTally {
     counts: BTreeMap<String, u64>,
     runs: u64,
-    /// Runs that the program under test cannot make, as it takes no limit.
+    /// Runs that the program under test cannot make, as it takes no terms.
     pub not_taken: u64,
 }
 
@@ -121,7 +121,7 @@ impl LimitTally {
     }
 
     /// What a batch has to meet and did not. Nothing is missing from a program
-    /// that takes no limit.
+    /// that takes no terms.
     pub fn missing(&self) -> Vec<String> {
         if self.not_taken > 0 {
             return Vec::new();
@@ -138,8 +138,8 @@ impl LimitTally {
         labels
     }
 
-    pub fn report(&self) -> String {
-        let mut text = format!("runs under a limit {}\n", self.runs);
+    pub fn report(&self, heading: &str) -> String {
+        let mut text = format!("{heading} {}\n", self.runs);
         for (label, count) in &self.counts {
             text.push_str(&format!("  {label:<56} {count:>8}\n"));
         }

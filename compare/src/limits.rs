@@ -2,12 +2,13 @@
 //! evaluator. The limits stand around the steps that the run makes without one.
 
 use crate::answer::{render, Answer, Outcome};
-use crate::follow::{Settings, LARGEST_LIMIT};
-use crate::job::parse;
+use crate::follow::Settings;
+use crate::job::Job;
 use crate::limit_tally::{LimitTally, Met};
 use crate::rng::Rng;
 use crate::run::{accept, outcome};
 use crate::target::Target;
+use crate::terms::{Evaluation, Terms, LARGEST_LIMIT};
 
 /// How many limits are drawn for each job. One that a short run does not have
 /// is left out.
@@ -42,29 +43,28 @@ fn drawn(unlimited: &Outcome, rng: &mut Rng) -> Vec<(&'static str, u64)> {
     picks.into_iter().filter_map(limit).collect()
 }
 
-/// Runs a job under some limits. `unlimited` is its outcome without one; bytes
-/// that are no job are left out.
+/// Runs a job under some limits. `unlimited` is its outcome by the same
+/// evaluation without one.
 pub fn compare(
-    bytes: &[u8],
+    job: &Job,
+    evaluation: Evaluation,
     unlimited: &Outcome,
     rng: &mut Rng,
     target: &mut dyn Target,
     tally: &mut LimitTally,
 ) -> Result<(), String> {
-    let Ok(job) = parse(bytes) else {
-        return Ok(());
-    };
-    let accepted = accept(&job);
+    let accepted = accept(job);
     for (name, limit) in drawn(unlimited, rng) {
-        let Some(theirs) = target.limited(&job, limit) else {
+        let terms = evaluation.limited(limit);
+        let Some(theirs) = target.run(job, terms) else {
             tally.not_taken += 1;
             continue;
         };
         let own = match &accepted {
-            Ok(code) => outcome(&job, code, Settings::limited(job.fill, limit)),
+            Ok(code) => outcome(job, code, Settings::new(job.fill, terms)),
             Err(trouble) => Outcome::refused(*trouble),
         };
-        same(limit, &own, theirs)?;
+        same(terms, &own, theirs)?;
         tally.drew(name);
         tally.add(&Met {
             limit,
@@ -77,10 +77,10 @@ pub fn compare(
 }
 
 /// Refuses every outcome but this evaluator's.
-pub fn same(limit: u64, own: &Outcome, theirs: Result<Outcome, String>) -> Result<(), String> {
+pub fn same(terms: Terms, own: &Outcome, theirs: Result<Outcome, String>) -> Result<(), String> {
     match theirs.as_ref() == Ok(own) {
         true => Ok(()),
-        false => Err(difference(limit, own, theirs)),
+        false => Err(difference(terms, own, theirs)),
     }
 }
 
@@ -89,13 +89,13 @@ fn told(outcome: &Outcome) -> String {
     format!("{}({} steps made)\n", render(outcome), outcome.steps)
 }
 
-fn difference(limit: u64, own: &Outcome, theirs: Result<Outcome, String>) -> String {
+fn difference(terms: Terms, own: &Outcome, theirs: Result<Outcome, String>) -> String {
     let theirs = match theirs {
         Ok(outcome) => told(&outcome),
         Err(why) => format!("({why})\n"),
     };
     let own = told(own);
-    format!("limit {limit}, this evaluator:\n{own}program under test:\n{theirs}")
+    format!("{terms}, this evaluator:\n{own}program under test:\n{theirs}")
 }
 
 #[cfg(test)]

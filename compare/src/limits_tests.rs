@@ -3,31 +3,11 @@
 
 use super::*;
 use crate::batch::{missing, run};
-use crate::job::Job;
+use crate::other::*;
 use crate::run::answer;
 use crate::systematic;
 use crate::target::Own;
-
-type Limited = fn(&Job, u64) -> Option<Result<Outcome, String>>;
-
-/// This evaluator, but for what it says under a limit.
-struct Other(Limited);
-
-impl Target for Other {
-    fn answer(&mut self, job: &[u8]) -> Result<Vec<u8>, String> {
-        Own.answer(job)
-    }
-
-    fn limited(&mut self, job: &Job, limit: u64) -> Option<Result<Outcome, String>> {
-        (self.0)(job, limit)
-    }
-}
-
-fn changed(job: &Job, limit: u64, change: fn(&mut Outcome)) -> Option<Result<Outcome, String>> {
-    let mut outcome = answer(job, limit);
-    change(&mut outcome);
-    Some(Ok(outcome))
-}
+use crate::terms::Evaluation::Base;
 
 fn count_what_fails(outcome: &mut Outcome) {
     if let Answer::Fault(..) = outcome.answer {
@@ -35,41 +15,45 @@ fn count_what_fails(outcome: &mut Outcome) {
     }
 }
 
-fn flip_flags(outcome: &mut Outcome) {
-    if let Some((end, _)) = &mut outcome.end {
-        end.flags ^= 1;
+/// By the base evaluation under another limit; the board is as it should be.
+fn under(job: &Job, terms: Terms, limit: u64) -> Option<Result<Outcome, String>> {
+    match terms.evaluation {
+        Base => Some(Ok(answer(job, Base.limited(limit)))),
+        _ => right(job, terms),
     }
 }
 
-fn forget_cells(outcome: &mut Outcome) {
-    if let Some((_, cells)) = &mut outcome.end {
-        cells.clear();
+/// By the base evaluation something else.
+fn wrong(job: &Job, terms: Terms, change: fn(&mut Outcome)) -> Option<Result<Outcome, String>> {
+    match terms.evaluation {
+        Base => changed(job, terms, change),
+        _ => right(job, terms),
     }
 }
 
 /// The first two are a step late and a step early.
-const WRONG: [Limited; 7] = [
-    |job, limit| Some(Ok(answer(job, limit.saturating_add(1)))),
-    |job, limit| Some(Ok(answer(job, limit.saturating_sub(1)))),
-    |job, limit| changed(job, limit, count_what_fails),
-    |job, limit| changed(job, limit, |outcome| outcome.steps += 1),
-    |job, limit| changed(job, limit, flip_flags),
-    |job, limit| changed(job, limit, forget_cells),
+const WRONG: [OnTerms; 7] = [
+    |job, terms| under(job, terms, terms.limit.saturating_add(1)),
+    |job, terms| under(job, terms, terms.limit.saturating_sub(1)),
+    |job, terms| wrong(job, terms, count_what_fails),
+    |job, terms| wrong(job, terms, |outcome| outcome.steps += 1),
+    |job, terms| wrong(job, terms, flip_flags),
+    |job, terms| wrong(job, terms, forget_cells),
     |_, _| Some(Err("no answer".to_string())),
 ];
 
 #[test]
 fn what_is_wrong_under_a_limit_shows() {
-    for limited in WRONG {
-        assert!(run(400, 1, &mut Other(limited)).is_err());
+    for on_terms in WRONG {
+        assert!(run(400, 1, &mut Other(on_terms)).is_err());
     }
 }
 
 /// The same in systematic jobs; and it is the difference that is told.
 #[test]
 fn what_is_wrong_under_a_limit_shows_in_pairs() {
-    for limited in WRONG {
-        let why = systematic::limited(&mut Other(limited)).unwrap_err();
+    for on_terms in WRONG {
+        let why = systematic::limited(&mut Other(on_terms)).unwrap_err();
         assert!(why.contains("program under test:"), "{why}");
     }
 }
@@ -77,13 +61,13 @@ fn what_is_wrong_under_a_limit_shows_in_pairs() {
 #[test]
 fn pairs_need_a_program_with_limits() {
     let why = systematic::limited(&mut Other(|_, _| None)).unwrap_err();
-    assert!(why.contains("takes no step limit"), "{why}");
+    assert!(why.contains("takes neither step limit"), "{why}");
 }
 
 #[test]
 fn only_a_program_with_limits_has_to_meet_them() {
     let tally = run(400, 1, &mut Other(|_, _| None)).ok().unwrap();
-    assert!(tally.limits.missing().is_empty());
+    assert!(tally.limits.missing().is_empty() && tally.board.missing().is_empty());
     let tally = run(4_000, 1, &mut Own).ok().unwrap();
     assert!(missing(&tally).is_empty());
 }

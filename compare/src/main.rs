@@ -1,5 +1,5 @@
 //! An evaluator and a builder written apart from the port, from document 01,
-//! requests 2026-01 to 2026-05 and the F* text alone, and their comparison
+//! requests 2026-01 to 2026-06 and the F* text alone, and their comparison
 //! with it.
 
 // Calls of the linked port are the only ones that Rust cannot check.
@@ -8,6 +8,8 @@
 
 mod answer;
 mod batch;
+mod board;
+mod board_tally;
 mod bound;
 mod build;
 mod builder;
@@ -22,6 +24,7 @@ mod damage;
 mod follow;
 mod generate;
 mod generate_code;
+mod generate_sums;
 mod instructions;
 mod job;
 mod large;
@@ -30,6 +33,8 @@ mod limits;
 mod misses;
 mod nest;
 mod operands;
+#[cfg(test)]
+mod other;
 mod places;
 mod reader;
 mod rng;
@@ -42,12 +47,16 @@ mod split_tally;
 mod splits;
 mod state;
 mod store;
+#[cfg(test)]
+mod sum_table;
+mod sums;
 mod sweep;
 mod systematic;
 mod tally;
 mod target;
 #[cfg(feature = "c_target")]
 mod target_c;
+mod terms;
 mod tree;
 mod writer;
 
@@ -60,19 +69,21 @@ const USAGE: &str = "\
 compare run JOBFILE              answer one job by this evaluator
 compare batch N SEED PROGRAM     compare N generated jobs; SEED may be `new`
 compare limited PROGRAM          compare systematic jobs under step limits
-compare selfcheck                the examples of document 01
+compare sums PROGRAM             compare sums by both evaluations, and jobs on the board
+compare selfcheck                the examples of document 01, and P2 on the board
 compare store N SEED DIR         write a stored set of N jobs to DIR/jobs.txt
 compare systematic DIR           write the systematic set to DIR/systematic
 compare stored N SEED DIR        the same, and N generated jobs to DIR/random
 compare check FILE PROGRAM       run a stored set through a program
+compare store-sums DIR           write sums and their ends to DIR/sums
 compare make SEED INDEX JOBFILE  write one generated job
 compare builds N SEED [BUILDER]  compare N generated lists of builder calls
 compare store-builds DIR         write stored lists to DIR/systematic and random
 compare cells N SEED [CHECKER]   compare N generated lists of cells, and their splits
 PROGRAM is a path with arguments, or `self` for this evaluator, or (built
-with the feature c_target) `c` for the port linked in; for `limited` only
-these two. BUILDER is `c`, or `self` for the rule over a build's fields;
-CHECKER is `c`, or `self` for one that looks back at the cell before.";
+with the feature c_target) `c` for the port linked in; for `limited` and
+`sums` only these two. BUILDER is `c`, or `self` for the rule over a build's
+fields; CHECKER is `c`, or `self` for one that looks back at the cell before.";
 
 fn main() -> ExitCode {
     let words: Vec<String> = std::env::args().skip(1).collect();
@@ -91,6 +102,8 @@ fn command(words: &[String]) -> Result<(), String> {
         ["run", file] => run_one(file),
         ["batch", n, seed, _, ..] => run_batch(n, seed, &words[3..]),
         ["limited", _, ..] => run_limited(&words[1..]),
+        ["sums", _, ..] => run_sums(&words[1..]),
+        ["store-sums", dir] => write_sums(dir),
         ["selfcheck"] => selfcheck::all().map(|n| println!("{n} examples hold")),
         ["store", n, seed, dir] => {
             let stored = store::choose(number(n)? as usize, seed_of(seed)?)?;
@@ -104,7 +117,7 @@ fn command(words: &[String]) -> Result<(), String> {
         }
         ["check", file, _, ..] => check_set(file, &words[2..]),
         ["make", seed, index, file] => {
-            let bytes = generate::job_bytes(number(seed)?, number(index)?);
+            let bytes = generate::batch_bytes(number(seed)?, number(index)?);
             fs::write(file, bytes).map_err(|e| format!("{file}: {e}"))
         }
         ["builds", n, seed] => run_builds(n, seed, "c"),
@@ -171,6 +184,27 @@ fn run_limited(program: &[String]) -> Result<(), String> {
     let mut target = target_of(program)?;
     let pairs = systematic::limited(target.as_mut())?;
     println!("{pairs} pairs of a job and a step limit answered alike");
+    Ok(())
+}
+
+fn run_sums(program: &[String]) -> Result<(), String> {
+    let mut target = target_of(program)?;
+    let systematic::Compared {
+        rows,
+        kernels,
+        pairs,
+        others,
+    } = systematic::sums(target.as_mut())?;
+    println!("{rows} sums, {kernels} kernels by both evaluations,");
+    println!("{pairs} pairs of such a kernel and a step limit,");
+    println!("and {others} other jobs on the board answered alike");
+    Ok(())
+}
+
+fn write_sums(dir: &str) -> Result<(), String> {
+    let (stored, rows) = systematic::stored_sums()?;
+    write_set(dir, "sums", &stored)?;
+    println!("{rows} sums");
     Ok(())
 }
 

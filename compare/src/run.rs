@@ -3,11 +3,13 @@
 
 use crate::answer::{Answer, Outcome, STOPPED};
 use crate::cells;
-use crate::follow::{Event, Follow, Log, Settings, Stop, LARGEST_LIMIT};
+use crate::follow::{Event, Follow, Log, Settings, Stop};
 use crate::job::{parse, Job};
 use crate::reader::{self, Trouble};
 use crate::source::eval_code;
 use crate::state::State;
+use crate::sums::SumLog;
+use crate::terms::{Evaluation, Terms};
 use crate::tree::{Code, INSTRUCTION_KINDS};
 
 /// What following a job showed beside its outcome.
@@ -17,6 +19,7 @@ pub struct Followed {
     /// the steps.
     pub followed: u64,
     pub met: [u64; INSTRUCTION_KINDS],
+    pub sums: SumLog,
     pub least_fuel: u64,
 }
 
@@ -27,15 +30,15 @@ pub struct TooLong;
 /// Answers a job's bytes as the job program does, however long it takes.
 pub fn answer_bytes(input: &[u8]) -> Outcome {
     match parse(input) {
-        Ok(job) => answer(&job, LARGEST_LIMIT),
+        Ok(job) => answer(&job, Evaluation::Base.unlimited()),
         Err(trouble) => Outcome::refused(trouble),
     }
 }
 
-/// Answers a job under any limit.
-pub fn answer(job: &Job, limit: u64) -> Outcome {
+/// Answers a job on any terms.
+pub fn answer(job: &Job, terms: Terms) -> Outcome {
     match accept(job) {
-        Ok(code) => outcome(job, &code, Settings::limited(job.fill, limit)),
+        Ok(code) => outcome(job, &code, Settings::new(job.fill, terms)),
         Err(trouble) => Outcome::refused(trouble),
     }
 }
@@ -70,6 +73,7 @@ pub fn follow(job: &Job, code: &Code, fuel: u64, settings: Settings) -> Result<F
         },
         followed: f.followed,
         met: f.met,
+        sums: f.sums,
         least_fuel: f.least_fuel,
     })
 }

@@ -1,10 +1,12 @@
-//! Steps and limits of whole runs, reckoned by hand.
+//! Steps and limits of whole runs, and ends on the board, reckoned by hand.
 
 use super::*;
 use crate::answer::render;
 use crate::build::*;
+use crate::terms::Evaluation::{Base, Board};
+use crate::terms::LARGEST_LIMIT;
 use crate::tree::Instruction::*;
-use crate::tree::{Ocmp, Operand, Relation, RAX};
+use crate::tree::{Instruction, Ocmp, Operand, Relation, RAX};
 
 const A: Operand = Operand::Reg(RAX);
 const NOWHERE: u64 = 5;
@@ -24,7 +26,7 @@ fn add(n: u64) -> Code {
 
 /// The answer, the steps and Rax.
 fn ended(job: &Job, limit: u64) -> (Answer, u64, u64) {
-    let outcome = answer(job, limit);
+    let outcome = answer(job, Base.limited(limit));
     let (end, _) = outcome.end.expect("the job is not refused");
     (outcome.answer, outcome.steps, end.regs[usize::from(RAX)])
 }
@@ -142,7 +144,7 @@ fn what_comes_behind_a_bad_event_meets_no_limit() {
     let job = of_code(block(vec![add(1), bad, add(1), add(1), add(1)]));
     let code = accept(&job).unwrap();
     for limit in [2, 3, 4] {
-        let followed = follow(&job, &code, 0, Settings::limited(0, limit)).unwrap();
+        let followed = follow(&job, &code, 0, Settings::new(0, Base.limited(limit))).unwrap();
         assert_eq!(followed.outcome.answer, Answer::Fault(32, 17));
         assert_eq!((followed.outcome.steps, followed.followed), (1, 5));
     }
@@ -154,13 +156,16 @@ fn a_refused_run_makes_no_step() {
     let mut code = of_code(add(1));
     code.code.pop();
     for limit in [0, 1, LARGEST_LIMIT] {
-        let outcome = answer(&cells, limit);
+        let outcome = answer(&cells, Base.limited(limit));
         assert_eq!(outcome.answer, Answer::Refused(13, 0));
         assert_eq!((outcome.steps, outcome.end), (0, None));
-        let outcome = answer(&code, limit);
+        let outcome = answer(&code, Base.limited(limit));
         assert_eq!(outcome.answer, Answer::Refused(3, 3));
         assert_eq!((outcome.steps, outcome.end), (0, None));
-        assert_eq!(render(&answer(&code, limit)), "refused 3 at 3\n");
+        assert_eq!(
+            render(&answer(&code, Base.limited(limit))),
+            "refused 3 at 3\n"
+        );
     }
     assert_eq!(answer_bytes(&[]).steps, 0);
 }
@@ -168,10 +173,70 @@ fn a_refused_run_makes_no_step() {
 #[test]
 fn texts() {
     let job = countdown().fuel(3).fill(4).flags(9);
-    let text = |job: &Job, limit| render(&answer(job, limit));
+    let text = |job: &Job, limit| render(&answer(job, Base.limited(limit)));
     assert_eq!(text(&job, 0), "stopped 37 at 5\nsteps 0\nflags 9\nRax 2\n");
     assert_eq!(text(&job, 2), "stopped 37 at 5\nsteps 2\nflags 4\nRax 1\n");
     assert_eq!(text(&job, 5), "done\nsteps 5\nflags 4\n");
     let spent = text(&job.fuel(2), 4);
     assert_eq!(spent, "spent at 0\nsteps 4\nflags 4\n");
+}
+
+/// Rax is 2^63-1, so the first sum leaves the range. It is at 5, what comes next
+/// at 17.
+fn beyond(next: Instruction) -> Job {
+    let job = of_code(block(vec![add(1), ins(next)]));
+    job.reg(RAX, u64::MAX / 2).flags(4).fill(8)
+}
+
+const RAX_AFTER: &str = "Rax 9223372036854775808\n";
+
+#[test]
+fn the_overflow_of_a_sum_is_read() {
+    let job = beyond(Adox64(Operand::Reg(1), number(0)));
+    let text = |terms| render(&answer(&job, terms));
+    let done = format!("done\nsteps 2\nflags 4\n{RAX_AFTER}");
+    assert_eq!(text(Base.unlimited()), done);
+    let done = format!("done\nsteps 2\nflags 8\n{RAX_AFTER}Rbx 1\n");
+    assert_eq!(text(Board.unlimited()), done);
+    assert_eq!(text(Board.limited(2)), done);
+    let stopped = format!("stopped 37 at 17\nsteps 1\nflags 4\n{RAX_AFTER}");
+    assert_eq!(text(Base.limited(1)), stopped);
+    let stopped = format!("stopped 37 at 17\nsteps 1\nflags 2056\n{RAX_AFTER}");
+    assert_eq!(text(Board.limited(1)), stopped);
+    let untouched = "stopped 37 at 5\nsteps 0\nflags 4\nRax 9223372036854775807\n";
+    assert_eq!(text(Board.limited(0)), untouched);
+}
+
+/// A sum that fails leaves the flags of the one before.
+#[test]
+fn faults_behind_a_sum_on_the_board() {
+    let table = [
+        (Shl64(A, number(64)), 33),
+        (AddCarry64(Operand::Reg(7), number(1)), 32),
+        (Add64(number(1), number(1)), 32),
+        (Add64(A, at(NOWHERE)), 31),
+        (AddCarry64(at_reg(1, -1), A), 36),
+    ];
+    for (bad, number) in table {
+        let text = render(&answer(&beyond(bad), Board.unlimited()));
+        let head = format!("fault {number} at 17\nsteps 1\n");
+        assert_eq!(text, format!("{head}flags 2056\n{RAX_AFTER}"));
+    }
+}
+
+/// By the base the loop behind is not entered, on the board it has no end.
+#[test]
+fn fuel_that_only_the_board_needs() {
+    let b = Operand::Reg(1);
+    let loops = repeat(compare(Relation::Eq, b, number(1)), nothing());
+    let codes = vec![add(1), ins(Adox64(b, number(0))), loops];
+    let job = of_code(block(codes)).reg(RAX, u64::MAX / 2).fuel(3);
+    let end = |terms| {
+        let outcome = answer(&job, terms);
+        (outcome.answer, outcome.steps)
+    };
+    assert_eq!(end(Base.unlimited()), (Answer::Done, 3));
+    assert_eq!(end(Board.unlimited()), (Answer::Spent(29), 5));
+    assert_eq!(end(Board.limited(4)), (stopped(34), 4));
+    assert_eq!(end(Board.limited(5)), (Answer::Spent(29), 5));
 }

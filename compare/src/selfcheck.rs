@@ -1,7 +1,7 @@
 //! The examples of document 01 against this evaluator. The expected values
 //! are typed from there, P11's fault from request 2026-03, the job's one step
-//! from request 2026-04; the steps of P1 to P14 are reckoned by hand. Start
-//! values that are left open are 0.
+//! from request 2026-04, P2's flags on the board from request 2026-06; the steps
+//! of P1 to P14 are reckoned by hand. Start values that are left open are 0.
 
 use crate::answer::render;
 use crate::build::*;
@@ -9,6 +9,7 @@ use crate::cells;
 use crate::job::{parse, Job};
 use crate::reader::{self, Trouble};
 use crate::run::{answer, answer_bytes};
+use crate::terms::Evaluation::{self, Base, Board};
 use crate::tree::Instruction::*;
 use crate::tree::*;
 
@@ -21,12 +22,13 @@ const LIMIT: u64 = 100;
 /// Runs all the examples; hands back how many there are.
 pub fn all() -> Result<usize, String> {
     let mut count = 0;
-    for (name, job, first, steps, rest) in kernels().into_iter().chain(more_kernels()) {
-        let text = render(&answer(&job, LIMIT));
-        let expected = format!("{first}\nsteps {steps}\n{rest}");
-        if text != expected {
-            return Err(format!("{name}: expected\n{expected}but got\n{text}"));
-        }
+    let by_base = kernels().into_iter().chain(more_kernels());
+    for example in by_base {
+        kernel_holds(Base, example)?;
+        count += 1;
+    }
+    for example in kernels_on_the_board() {
+        kernel_holds(Board, example)?;
         count += 1;
     }
     for (name, holds) in byte_examples().into_iter().chain(cell_examples()) {
@@ -42,9 +44,27 @@ pub fn all() -> Result<usize, String> {
 /// Name, job, first line, steps, and what is printed behind them.
 type Example = (&'static str, Job, &'static str, u64, &'static str);
 
+fn kernel_holds(evaluation: Evaluation, example: Example) -> Result<(), String> {
+    let (name, job, first, steps, rest) = example;
+    let text = render(&answer(&job, evaluation.limited(LIMIT)));
+    let expected = format!("{first}\nsteps {steps}\n{rest}");
+    match text == expected {
+        true => Ok(()),
+        false => Err(format!("{name}: expected\n{expected}but got\n{text}")),
+    }
+}
+
+fn p2() -> Job {
+    plain(Add64(A, number(1))).reg(RAX, 1).flags(2048)
+}
+
+/// The old overflow is not kept.
+fn kernels_on_the_board() -> Vec<Example> {
+    vec![("P2 on the board", p2(), "done", 1, "flags 0\nRax 2\n")]
+}
+
 fn kernels() -> Vec<Example> {
     let p1 = plain(Add64(A, number(1))).reg(RAX, TOP);
-    let p2 = plain(Add64(A, number(1))).reg(RAX, 1).flags(2048);
     let p3 = plain(Sub64(A, number(1))).fill(9);
     let p4 = plain(Mulx64(A, A, number(2))).reg(RDX, 1 << 63);
     let p5 = plain(Xor64(A, A)).reg(RAX, 77).fill(TOP);
@@ -60,7 +80,7 @@ fn kernels() -> Vec<Example> {
     let p8_start = "flags 0\nxmm 1 1 2 3 4\n";
     vec![
         ("P1", p1, "done", 1, "flags 1\n"),
-        ("P2", p2, "done", 1, "flags 2048\nRax 2\n"),
+        ("P2", p2(), "done", 1, "flags 2048\nRax 2\n"),
         ("P3", p3, "done", 1, "flags 9\nRax 18446744073709551615\n"),
         ("P4", p4, "done", 1, p4_rest),
         ("P5", p5, "done", 1, "flags 18446744073709549566\n"),
@@ -151,6 +171,6 @@ fn job_example() -> Result<(), String> {
 mod tests {
     #[test]
     fn examples_hold() {
-        assert_eq!(super::all(), Ok(27));
+        assert_eq!(super::all(), Ok(28));
     }
 }

@@ -1,11 +1,14 @@
 //! Jobs out of a scene and a code, and the fuel of generated jobs: chosen after
-//! what the code needs, and taken away where a run would go on too long.
+//! what the code needs by one evaluation, and taken away where a run by either
+//! would go on too long. A job that is stored is not run on the board, and its
+//! fuel is the base's.
 
 use crate::follow::Settings;
 use crate::job::{parse, Job};
 use crate::rng::Rng;
 use crate::run::{accept, follow};
 use crate::scene::Scene;
+use crate::terms::Evaluation;
 use crate::tree::Code;
 use crate::writer::write;
 
@@ -26,21 +29,29 @@ pub fn job_of(scene: Scene, code: &Code, fuel: u32) -> Job {
 
 /// A job whose fuel stands at, below or above what it needs.
 pub fn with_fuel(rng: &mut Rng, scene: Scene, code: &Code) -> Job {
-    let mut job = job_of(scene, code, 0);
-    job.fuel = match needed_fuel(&job) {
+    settled(fuelled(rng, job_of(scene, code, 0), Evaluation::Base))
+}
+
+/// The fuel stands at, below or above what the job needs by the evaluation.
+pub fn fuelled(rng: &mut Rng, mut job: Job, evaluation: Evaluation) -> Job {
+    job.fuel = match needed_fuel(&job, evaluation) {
         Some(need) => fuel_near(rng, need),
         None => rng.below(12) as u32,
     };
-    settled(job)
+    job
+}
+
+fn within_budget(job: &Job, evaluation: Evaluation) -> Settings {
+    Settings {
+        budget: BUDGET,
+        ..Settings::new(job.fill, evaluation.unlimited())
+    }
 }
 
 /// The least fuel at which no loop starves, unless the job goes on too long.
-fn needed_fuel(job: &Job) -> Option<u32> {
+fn needed_fuel(job: &Job, evaluation: Evaluation) -> Option<u32> {
     let code = accept(job).ok()?;
-    let settings = Settings {
-        budget: BUDGET,
-        ..Settings::new(job.fill)
-    };
+    let settings = within_budget(job, evaluation);
     let followed = follow(job, &code, AMPLE, settings).ok()?;
     match followed.least_fuel {
         u64::MAX => Some(0),
@@ -60,14 +71,16 @@ fn fuel_near(rng: &mut Rng, need: u32) -> u32 {
 }
 
 /// Takes fuel away from a job that would not end within the budget.
-pub fn settled(mut job: Job) -> Job {
+pub fn settled(job: Job) -> Job {
+    settled_by(Evaluation::Base, job)
+}
+
+/// With less fuel a run by the other evaluation ends no later.
+fn settled_by(evaluation: Evaluation, mut job: Job) -> Job {
     let Ok(code) = accept(&job) else {
         return job;
     };
-    let settings = Settings {
-        budget: BUDGET,
-        ..Settings::new(job.fill)
-    };
+    let settings = within_budget(&job, evaluation);
     for fuel in [job.fuel, 9, 3, 1, 0] {
         job.fuel = fuel;
         if follow(&job, &code, u64::from(fuel), settings).is_ok() {
@@ -79,9 +92,48 @@ pub fn settled(mut job: Job) -> Job {
 
 /// The same of bytes, where they are a job: cut or shifted code may be
 /// accepted, with loops that the fuel was not for.
-pub fn settled_bytes(bytes: Vec<u8>) -> Vec<u8> {
+pub fn settled_bytes(evaluation: Evaluation, bytes: Vec<u8>) -> Vec<u8> {
     match parse(&bytes) {
-        Ok(job) => settled(job).to_bytes(),
+        Ok(job) => settled_by(evaluation, job).to_bytes(),
         Err(_) => bytes,
+    }
+}
+
+#[cfg(test)]
+mod tests {
+    use super::*;
+    use crate::build::{block, ins, number, of_code, reg, repeat};
+    use crate::generate::batch_bytes;
+    use crate::terms::EVALUATIONS;
+    use crate::tree::Instruction::{Add64, Adox64};
+    use crate::tree::{Ocmp, Relation, RAX};
+
+    /// Rbx gets the overflow of a sum, and a loop goes on while it is 1.
+    #[test]
+    fn fuel_is_taken_away_for_the_board() {
+        let endless = Ocmp::unplaced(Relation::Eq, reg(1), number(1));
+        let codes = vec![
+            ins(Add64(reg(RAX), number(1))),
+            ins(Adox64(reg(1), number(0))),
+            repeat(endless, block(Vec::new())),
+        ];
+        let job = of_code(block(codes)).reg(RAX, u64::MAX / 2).fuel(u32::MAX);
+        assert_eq!(settled(job.clone()), job);
+        let settled = settled_bytes(Evaluation::Board, job.to_bytes());
+        assert_eq!(parse(&settled).unwrap(), job.fuel(9));
+    }
+
+    #[test]
+    fn jobs_of_a_batch_end_soon_by_both() {
+        for index in 0..400 {
+            let Ok(job) = parse(&batch_bytes(3, index)) else {
+                continue;
+            };
+            let Ok(code) = accept(&job) else { continue };
+            for evaluation in EVALUATIONS {
+                let settings = within_budget(&job, evaluation);
+                assert!(follow(&job, &code, u64::from(job.fuel), settings).is_ok());
+            }
+        }
     }
 }

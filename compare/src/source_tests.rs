@@ -3,6 +3,7 @@
 use super::*;
 use crate::cells::Cell;
 use crate::follow::{Mode, Settings, OFF_MEM64};
+use crate::terms::Evaluation::Base;
 use crate::tree::Instruction::*;
 
 const A: Operand = Operand::Reg(RAX);
@@ -45,7 +46,7 @@ fn always() -> Ocmp {
 fn followed(code: &Code, fuel: u64, mode: Mode) -> (Vec<Event>, Option<(bool, u64)>, u64) {
     let settings = Settings {
         mode,
-        ..Settings::new(0)
+        ..Settings::new(0, Base.unlimited())
     };
     let mut f = Follow::new(settings);
     let end = eval_code(code, fuel, state(&[]), &mut f).ok();
@@ -96,7 +97,7 @@ fn the_source_runs_on_past_the_limit() {
         ins(12, Mov64(ONE, ONE)),
         inner,
     ]);
-    let mut f = Follow::new(Settings::limited(0, 1));
+    let mut f = Follow::new(Settings::new(0, Base.limited(1)));
     assert!(eval_code(&code, 0, state(&[]), &mut f).is_err());
     let expected = [
         Event::LimitMet(9),
@@ -129,7 +130,7 @@ fn a_fault_in_the_second_half_of_mulx_shows_the_start() {
         value: 7,
     };
     let low = Operand::Mem(Maddr::Const(8));
-    let mut f = Follow::new(Settings::new(0));
+    let mut f = Follow::new(Settings::new(0, Base.unlimited()));
     let code = ins(0, Mulx64(NOWHERE, low, ONE));
     let end = eval_code(&code, 0, state(&[cell]), &mut f).ok().unwrap();
     assert_eq!(end.cells(&[cell])[0].value, 0);
@@ -162,7 +163,7 @@ fn compared(relation: Relation, left: Operand, right: Operand) -> [Vec<Event>; 2
         s.regs[usize::from(RDX)] = 1 << 63;
         let settings = Settings {
             mode: Mode::StopsAtFirst,
-            ..Settings::new(0)
+            ..Settings::new(0, Base.unlimited())
         };
         let mut f = Follow::new(settings);
         let _ = eval_code(&Code::unplaced(node), 1, s, &mut f);

@@ -1,6 +1,7 @@
 //! How often each answer and number was met.
 
 use crate::answer::Answer;
+use crate::board_tally::BoardTally;
 use crate::limit_tally::LimitTally;
 use crate::tree::INSTRUCTION_KINDS;
 use std::collections::BTreeMap;
@@ -19,6 +20,7 @@ pub struct Tally {
     pub steps: u64,
     pub met: [u64; INSTRUCTION_KINDS],
     pub limits: LimitTally,
+    pub board: BoardTally,
 }
 
 /// An answer without its place.
@@ -32,11 +34,17 @@ pub fn class(answer: &Answer) -> String {
     }
 }
 
-/// All the classes that a job can be answered with. No run gets as far as the
-/// job program's limit, so Stopped is not among them.
-pub fn classes() -> Vec<String> {
+/// All the classes that a run can end with. None gets as far as the largest
+/// limit, so Stopped is not among them.
+pub fn end_classes() -> Vec<String> {
     let mut all = vec![class(&Answer::Done), class(&Answer::Spent(0))];
     all.extend(FAULTS.map(|n| class(&Answer::Fault(n, 0))));
+    all
+}
+
+/// All the classes that a job can be answered with.
+pub fn classes() -> Vec<String> {
+    let mut all = end_classes();
     all.extend(REFUSALS.map(|n| class(&Answer::Refused(n, 0))));
     all
 }
@@ -75,7 +83,8 @@ impl Tally {
         text.push_str(&format!(
             "rarest of the {INSTRUCTION_KINDS} instructions {least}\n"
         ));
-        text.push_str(&self.limits.report());
+        text.push_str(&self.limits.report("runs under a limit"));
+        text.push_str(&self.board.report());
         text
     }
 }

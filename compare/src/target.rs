@@ -1,10 +1,11 @@
 //! The program under test: something that answers a job's bytes with text, and
-//! maybe a job under a step limit.
+//! maybe a job on terms of the caller's.
 
 use crate::answer::{render, Outcome};
 use crate::follow::{Mode, Settings};
 use crate::job::Job;
 use crate::run::{accept, answer_bytes, outcome};
+use crate::terms::Terms;
 use std::io::{Read, Write};
 use std::process::{Child, Command, Stdio};
 use std::sync::mpsc;
@@ -14,13 +15,17 @@ pub trait Target {
     /// The text for one job, or why there is none.
     fn answer(&mut self, job: &[u8]) -> Result<Vec<u8>, String>;
 
-    /// The outcome of a job under a step limit, or why there is none. None
-    /// where the program under test cannot be given a limit: the job program
-    /// has its own.
-    fn limited(&mut self, _job: &Job, _limit: u64) -> Option<Result<Outcome, String>> {
+    /// The outcome of a job on terms of the caller's, or why there is none.
+    /// None where the program under test takes no terms: the job program has
+    /// the base evaluation and the largest limit.
+    fn run(&mut self, _job: &Job, _terms: Terms) -> Option<Result<Outcome, String>> {
         None
     }
 }
+
+/// To pass over such a program would look like a comparison.
+pub const NO_TERMS: &str = "the program under test takes neither step limit nor evaluation; \
+    `self` does, and `c` if built with the feature c_target";
 
 /// How long a process may take for one job.
 const PATIENCE: Duration = Duration::from_secs(60);
@@ -41,10 +46,10 @@ impl Target for Own {
 
     /// Nothing is followed past the limit here; the run that this is compared
     /// with goes on.
-    fn limited(&mut self, job: &Job, limit: u64) -> Option<Result<Outcome, String>> {
+    fn run(&mut self, job: &Job, terms: Terms) -> Option<Result<Outcome, String>> {
         let settings = Settings {
             mode: Mode::StopsAtFirst,
-            ..Settings::limited(job.fill, limit)
+            ..Settings::new(job.fill, terms)
         };
         Some(Ok(match accept(job) {
             Ok(code) => outcome(job, &code, settings),

@@ -1,5 +1,5 @@
 //! The port linked in: its proved parser, evaluator and renderer, through the
-//! C interface and the safe wrapper over it (`../rust`). Under a limit of the
+//! C interface and the safe wrapper over it (`../rust`). On terms of the
 //! caller's it is the evaluator alone, over state and cells that are lent.
 
 use crate::answer::{Answer, Outcome};
@@ -8,6 +8,7 @@ use crate::job::Job;
 use crate::reader::Trouble;
 use crate::state::Start;
 use crate::target::Target;
+use crate::terms::{Evaluation, Terms};
 use pokchrei::{Cells, Setting, State, JOB_ROOM};
 
 pub struct Linked {
@@ -27,7 +28,7 @@ impl Target for Linked {
         Ok(pokchrei::job(job, &mut self.out).to_vec())
     }
 
-    fn limited(&mut self, job: &Job, limit: u64) -> Option<Result<Outcome, String>> {
+    fn run(&mut self, job: &Job, terms: Terms) -> Option<Result<Outcome, String>> {
         let addresses: Vec<u64> = job.cells.iter().map(|c| c.address).collect();
         let tags: Vec<u8> = job.cells.iter().map(|c| c.tag).collect();
         let mut values: Vec<u64> = job.cells.iter().map(|c| c.value).collect();
@@ -40,7 +41,8 @@ impl Target for Linked {
         let setting = Setting {
             fill: job.fill,
             fuel: job.fuel,
-            limit,
+            limit: terms.limit,
+            evaluation: evaluation_of(terms.evaluation),
         };
         let end = pokchrei::run(&job.code, cells, &mut state, setting);
         let after = (start_of(&state), with_values(&job.cells, &values));
@@ -73,6 +75,13 @@ fn outcome(
         steps,
         end: (!refused).then_some(after),
     })
+}
+
+fn evaluation_of(evaluation: Evaluation) -> pokchrei::Evaluation {
+    match evaluation {
+        Evaluation::Base => pokchrei::Evaluation::Base,
+        Evaluation::Board => pokchrei::Evaluation::Board,
+    }
 }
 
 fn answer_of(answer: &pokchrei::Answer) -> Answer {

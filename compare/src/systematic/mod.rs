@@ -1,19 +1,23 @@
 //! A systematic set of short jobs: every instruction, operand kind, role,
 //! comparison, fault and refusal, and the edges of words, fuel and addresses,
-//! each in a job of its own or beside others of its group.
+//! each in a job of its own or beside others of its group. Sums and kernels that
+//! go by their overflow stand beside the set, which is stored without them.
 
 mod addresses;
 mod comparisons;
 mod counts;
+mod evaluations;
 mod faults;
 mod flags;
 mod fuel;
 mod lanes;
 mod limited;
+mod overflows;
 mod refusals;
 mod roles;
 mod stage;
 mod steps;
+mod sums;
 mod wild;
 mod words;
 
@@ -24,6 +28,9 @@ use crate::store::Record;
 use crate::tally::Tally;
 use crate::target::Target;
 use std::collections::BTreeSet;
+
+pub use evaluations::Compared;
+pub use sums::stored as stored_sums;
 
 fn jobs() -> Vec<Vec<u8>> {
     let mut jobs = roles::jobs();
@@ -68,6 +75,12 @@ pub fn limited(target: &mut dyn Target) -> Result<usize, String> {
     limited::compare(&jobs(), target)
 }
 
+/// Runs sums, kernels that go by their overflow, and the whole set by the
+/// evaluations.
+pub fn sums(target: &mut dyn Target) -> Result<Compared, String> {
+    evaluations::compare(&jobs(), target)
+}
+
 #[cfg(test)]
 mod tests {
     use crate::checks::limit_holds;
@@ -75,6 +88,7 @@ mod tests {
     use crate::job::parse;
     use crate::run::{accept, answer};
     use crate::target::Own;
+    use crate::terms::Evaluation::Base;
 
     #[test]
     fn every_class_is_met() {
@@ -98,6 +112,17 @@ mod tests {
         assert!((300..=400).contains(&pairs));
     }
 
+    /// Every kind of sum is met, and without the other jobs too.
+    #[test]
+    fn sums_by_both_evaluations() {
+        let compared = super::sums(&mut Own).unwrap();
+        assert_eq!((compared.rows, compared.kernels), (5_376, 306));
+        assert!((2_000..=3_000).contains(&compared.pairs));
+        assert!(compared.others > 1_800);
+        let alone = super::evaluations::compare(&[], &mut Own).unwrap();
+        assert_eq!((alone.rows, alone.others), (5_376, 0));
+    }
+
     /// None of the jobs of `steps.rs` is refused, and they are not enough alone.
     #[test]
     fn a_kind_that_is_not_met_is_told() {
@@ -111,9 +136,9 @@ mod tests {
         for bytes in super::jobs() {
             let Ok(job) = parse(&bytes) else { continue };
             let Ok(code) = accept(&job) else { continue };
-            let unlimited = answer(&job, u64::MAX);
+            let unlimited = answer(&job, Base.unlimited());
             for limit in 0..=unlimited.steps + 1 {
-                let settings = Settings::limited(job.fill, limit);
+                let settings = Settings::new(job.fill, Base.limited(limit));
                 limit_holds(&job, &code, &unlimited, settings).unwrap();
             }
         }
