@@ -19,6 +19,13 @@ flags 0
 Rax 5
 cell 4096 64 12
 END
+example evaluations <<'END'
+base: Rax 2, flags 2048
+base: Rax 9223372036854775808, flags 0
+board: Rax 2, flags 0
+board: Rax 9223372036854775808, flags 2048
+neither: refused 0 at 0
+END
 example build_kernel <<'END'
 22 0c 00 00 00 31 41 00 40 00 00 00 00 00 00 00 00 07 41 00 40 01 00 00 00 00 00 00 00
 done

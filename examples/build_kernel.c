@@ -32,7 +32,7 @@ static uint8_t run(const uint8_t *code, size_t length, uint64_t regs[16], uint32
     size_t place;
 
     return pokchrei_run(code, length, no_addresses, 0, no_tags, 0, no_values, 0, regs, xmms, &flags, 0, fuel, limit,
-                        &number, &place, steps);
+                        POKCHREI_BASE, &number, &place, steps);
 }
 
 int main(void)

@@ -41,7 +41,7 @@ int main(void)
     size_t place;
 
     uint8_t kind = pokchrei_run(code, sizeof code, addresses, 1, tags, 1, values, 1, regs, xmms, &flags, 0, 0,
-                                POKCHREI_LARGEST_LIMIT, &number, &place, &steps);
+                                POKCHREI_LARGEST_LIMIT, POKCHREI_BASE, &number, &place, &steps);
     print_answer(kind, number, place);
     if (kind == POKCHREI_REFUSED)
         return 1;

@@ -24,13 +24,24 @@ enum pokchrei_kind {
     POKCHREI_DONE = 0,    /* after the last code */
     POKCHREI_FAULT = 1,   /* a check failed: number (a pokchrei_fault), and place of its instruction or comparison */
     POKCHREI_SPENT = 2,   /* a While was met without fuel: its place */
-    POKCHREI_REFUSED = 3, /* code (1 to 6) or cells (11 to 15) were not accepted: number, and place or index */
+    POKCHREI_REFUSED = 3, /* code (1 to 6) or cells (11 to 15) were not accepted: number, and place or index; or the
+                             evaluation (0, at 0) is no pokchrei_evaluation */
     POKCHREI_STOPPED = 4  /* the limit was used up: its number (a pokchrei_stop), and the place of what came next */
 };
 
 /* The number of a Stopped. */
 enum pokchrei_stop {
     POKCHREI_LIMIT_USED_UP = 37 /* as many steps as the limit were made, and an instruction or a comparison came next */
+};
+
+/*
+ * Which flags Add64 and AddCarry64 leave. Both evaluations set carry by the sum, and all else is the same in both:
+ * Adcx64 and Adox64 too.
+ */
+enum pokchrei_evaluation {
+    POKCHREI_BASE = 0, /* the old flags but for the carry, as F* has it; the job program's */
+    POKCHREI_BOARD = 1 /* as on the board: overflow is set exactly where the sum of the operands as signed numbers, with
+                          the old carry in AddCarry64, leaves -2^63 to 2^63 - 1; the other bits are the fill word's */
 };
 
 /* The largest limit: at a step a nanosecond it lasts for 584 years. */
@@ -87,7 +98,7 @@ uint8_t pokchrei_check_cells(const uint64_t *addresses, size_t address_count, co
  * Runs code over lent cells. The start is read from regs, xmms (word j of xmm i at 4 * i + j), flags and values, and
  * the end is written there: for a fault, a stopped and a spent run as it was just before that instruction, comparison
  * or loop test; for a refusal as lent. Answers a pokchrei_kind; *number and *place belong to it, and are 0 where it
- * has none.
+ * has none. The evaluation is a pokchrei_evaluation; any other number is refused ahead of all else.
  *
  * *steps is the number of steps made: of instructions completed and of comparisons that passed their check; 0 for a
  * refusal. With as many as limit made, the run is stopped where an instruction or a comparison comes next, ahead of its
@@ -97,7 +108,7 @@ uint8_t pokchrei_check_cells(const uint64_t *addresses, size_t address_count, co
 uint8_t pokchrei_run(const uint8_t *code, size_t code_length, const uint64_t *addresses, size_t address_count,
                      const uint8_t *tags, size_t tag_count, uint64_t *values, size_t value_count, uint64_t regs[16],
                      uint32_t xmms[64], uint64_t *flags, uint64_t fill, uint32_t fuel, uint64_t limit,
-                     uint8_t *number, size_t *place, uint64_t *steps);
+                     uint8_t evaluation, uint8_t *number, size_t *place, uint64_t *steps);
 
 /* The room that the text of a job is given; it needs no more. */
 #define POKCHREI_JOB_ROOM 65536
@@ -105,7 +116,7 @@ uint8_t pokchrei_run(const uint8_t *code, size_t code_length, const uint64_t *ad
 /*
  * Answers a job as the job program does. The input is the job's bytes: fuel (4), fill (8), flags (8), sixteen registers
  * (8 each), sixteen xmm (four words of 4 each), cell count (2), cells (address 8, tag 1, value 8), then code; fields low
- * byte first. The step limit is the largest. The text is written to the start of out; what lies behind it stays.
+ * byte first. The step limit is the largest and the evaluation the base's. The text is written to the start of out; what lies behind it stays.
  * Answers the text's length.
  */
 size_t pokchrei_job(const uint8_t *input, size_t input_length, uint8_t out[POKCHREI_JOB_ROOM]);
