@@ -71,6 +71,17 @@ pub struct Cells<'a> {
     pub values: &'a mut [u64],
 }
 
+/// Which flags Add64 and AddCarry64 leave. Both set carry by the sum, and all else is the same in both.
+#[derive(Clone, Copy, Debug, Default, PartialEq, Eq)]
+pub enum Evaluation {
+    /// The old flags but for the carry, as F* has it. The job program has this one.
+    #[default]
+    Base,
+    /// As on the board: overflow set exactly where the sum of the operands as signed numbers, with the old carry in
+    /// AddCarry64, leaves -2^63 to 2^63 - 1; all other bits but the carry are the fill word's.
+    Board,
+}
+
 /// What a caller names for a run beside code, cells and start.
 #[derive(Clone, Copy, Debug, PartialEq, Eq)]
 pub struct Setting {
@@ -78,15 +89,17 @@ pub struct Setting {
     pub fuel: u32,
     /// The most steps that the run may make; `u64::MAX` is as good as none.
     pub limit: u64,
+    pub evaluation: Evaluation,
 }
 
-/// The largest limit, and no fuel: every loop is Spent.
+/// The largest limit, F*'s evaluation, and no fuel: every loop is Spent.
 impl Default for Setting {
     fn default() -> Setting {
         Setting {
             fill: 0,
             fuel: 0,
             limit: u64::MAX,
+            evaluation: Evaluation::Base,
         }
     }
 }
@@ -150,6 +163,7 @@ pub fn run(code: &[u8], cells: Cells<'_>, state: &mut State, setting: Setting) -
             setting.fill,
             setting.fuel,
             setting.limit,
+            number_of(setting.evaluation),
             &mut number,
             &mut place,
             &mut steps,
@@ -173,6 +187,14 @@ pub fn job<'a>(input: &[u8], out: &'a mut [u8; JOB_ROOM]) -> &'a [u8] {
     // SAFETY: the slice and the array live through the call, which keeps neither.
     let length = unsafe { raw::pokchrei_job(input.as_ptr(), input.len(), out) };
     &out[..length]
+}
+
+/// The C interface's number of an evaluation.
+fn number_of(evaluation: Evaluation) -> u8 {
+    match evaluation {
+        Evaluation::Base => 0,
+        Evaluation::Board => 1,
+    }
 }
 
 fn accepted(number: u8, place: usize) -> Result<(), Refusal> {

@@ -58,6 +58,7 @@ extern "C" {
         fill: u64,
         fuel: u32,
         limit: u64,
+        evaluation: u8,
         number: &mut u8,
         place: &mut usize,
         steps: &mut u64,

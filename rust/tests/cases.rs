@@ -1,7 +1,7 @@
-//! Cases of document 01 and of requests 2026-02 to 2026-04 through the wrapper.
+//! Cases of document 01 and of requests 2026-02 to 2026-04 and 2026-06 through the wrapper.
 
 use pokchrei::{check_cells, check_code, job, run};
-use pokchrei::{Answer, Cells, End, Refusal, Setting, State, JOB_ROOM};
+use pokchrei::{Answer, Cells, End, Evaluation, Refusal, Setting, State, JOB_ROOM};
 
 const ADD_RAX_1: [u8; 12] = [0x02, 0x41, 0x00, 0x40, 1, 0, 0, 0, 0, 0, 0, 0];
 const SUB_RAX_1: [u8; 12] = [0x07, 0x41, 0x00, 0x40, 1, 0, 0, 0, 0, 0, 0, 0];
@@ -49,6 +49,82 @@ fn p2_add_keeps_overflow() {
         (answer, state.regs[0], state.flags),
         (Answer::Done, 2, 2048)
     );
+}
+
+/// From Rax and Rbx and flags, by an instruction of this kind with these as destination and source: Rax and flags.
+fn two_registers(kind: u8, words: [u64; 2], flags: u64, setting: Setting) -> (u64, u64) {
+    let mut state = State {
+        flags,
+        ..State::default()
+    };
+    state.regs[..2].copy_from_slice(&words);
+    let cells = Cells {
+        addresses: &[],
+        tags: &[],
+        values: &mut [],
+    };
+    let end = run(&[kind, 0x41, 0, 0x41, 1], cells, &mut state, setting);
+    assert_eq!(end.answer, Answer::Done);
+    (state.regs[0], state.flags)
+}
+
+fn on_board(fill: u64) -> Setting {
+    Setting {
+        fill,
+        evaluation: Evaluation::Board,
+        ..Setting::default()
+    }
+}
+
+#[test]
+fn p2_on_the_board_clears_overflow() {
+    let (answer, state) = run_alone(&ADD_RAX_1, 1, 2048, on_board(0));
+    assert_eq!((answer, state.regs[0], state.flags), (Answer::Done, 2, 0));
+}
+
+#[test]
+fn on_the_board_an_addition_sets_overflow_by_the_signed_sum() {
+    const LARGEST: u64 = i64::MAX as u64;
+    const LEAST: u64 = i64::MIN as u64;
+    // Add64 (02) or AddCarry64 (04), both words, flags and fill; then Rax and flags.
+    let table = [
+        (0x02, [LARGEST, 1], 0, 0, LEAST, 2048),
+        (0x02, [LARGEST, 0], 2049, 0, LARGEST, 0),
+        (0x02, [LEAST, u64::MAX], 0, 0, LARGEST, 2049),
+        (0x02, [LEAST, LARGEST], 2048, 0, u64::MAX, 0),
+        (0x04, [LARGEST, 0], 0, 0, LARGEST, 0),
+        (0x04, [LARGEST, 0], 1, 0, LEAST, 2048),
+        (0x04, [LEAST, u64::MAX], 0, 0, LARGEST, 2049),
+        (0x04, [LEAST, u64::MAX], 1, 0, LEAST, 1),
+        (0x02, [1, 1], 0, u64::MAX, 2, u64::MAX - 2049),
+        (
+            0x04,
+            [LARGEST, LARGEST],
+            u64::MAX,
+            u64::MAX,
+            u64::MAX,
+            u64::MAX - 1,
+        ),
+    ];
+    for (kind, words, flags, fill, rax, after) in table {
+        let end = two_registers(kind, words, flags, on_board(fill));
+        assert_eq!(
+            end,
+            (rax, after),
+            "{kind} of {words:x?}, flags {flags:x}, fill {fill:x}"
+        );
+    }
+}
+
+#[test]
+fn adcx_and_adox_do_not_change_on_the_board() {
+    for kind in [0x05, 0x06] {
+        for flags in [0, 1, 2048, 2049, u64::MAX] {
+            let words = [i64::MAX as u64, 1];
+            let base = two_registers(kind, words, flags, setting(7, 0));
+            assert_eq!(two_registers(kind, words, flags, on_board(7)), base);
+        }
+    }
 }
 
 #[test]
@@ -100,6 +176,7 @@ fn p14_under_limits_around_its_steps() {
             fill: 0,
             fuel,
             limit,
+            ..Setting::default()
         };
         let (end, state) = end_alone(&count_down(), 3, 0, setting);
         assert_eq!(
