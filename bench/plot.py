@@ -28,7 +28,8 @@ stored job that is not refused:
 - proved: the static library. It checks code and cells, and then runs from the bytes.
 - plain (`bench/src/plain.rs`): safe Rust that reads the bytes as it goes and checks nothing beforehand. It is the
   yardstick: but for what a request adds it stays as it is, so that the ratios of two landings can be held side by side.
-  Request 2026-04 added the count of steps and its limit to each step, so that ratios from before it are of another one.
+  Request 2026-04 added the count of steps and its limit to each step, so that ratios from before it are of another one;
+  2026-06 the choice between two evaluations to Add64 and AddCarry64.
 - decoded (`bench/src/decoded.rs`): safe Rust that first decodes the code into an array, with operands as values and
   structures as indexes, and runs from that. It checks nothing beforehand either.
 
@@ -42,7 +43,8 @@ KERNELS = """\
 `straight` has registers alone, `mixed` IfElse, memory, lanes and products, `deep` 13 IfElse in each other. `memory` has
 64-bit cells in a row; `scattered` has cells of every tag with gaps, and no 64-bit cell where it would be in a row. Both
 interpreters find a cell by bisection; the proved evaluator looks first where it would be in a row. `counts` has
-registers, and a count in three of eight steps.
+registers, and a count in three of eight steps. `sums` has an Add64 or AddCarry64 in three of six, and the board's
+evaluation in the second row; every other row is of the base's.
 """
 
 SIZE = """\

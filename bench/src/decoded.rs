@@ -25,8 +25,8 @@ struct Comparison(u8, Operand, Operand);
 enum Op {
     Mov64(Operand, Operand),
     Add64(Operand, Operand),
-    /// Adcx64 too.
     AddCarry64(Operand, Operand),
+    Adcx64(Operand, Operand),
     Adox64(Operand, Operand),
     Sub64(Operand, Operand),
     IMul64(Operand, Operand),
@@ -95,7 +95,8 @@ fn two_words(code: &[u8], at: usize) -> (Op, usize) {
     let op = match code[at] {
         0x01 => Op::Mov64(dst, src),
         0x02 => Op::Add64(dst, src),
-        0x04 | 0x05 => Op::AddCarry64(dst, src),
+        0x04 => Op::AddCarry64(dst, src),
+        0x05 => Op::Adcx64(dst, src),
         0x06 => Op::Adox64(dst, src),
         0x07 => Op::Sub64(dst, src),
         0x0a => Op::IMul64(dst, src),
@@ -304,6 +305,7 @@ fn step(machine: &mut Machine, op: &Op) -> Result<(), u8> {
         Op::Mov64(dst, src) => two(machine, 0x01, dst, src),
         Op::Add64(dst, src) => two(machine, 0x02, dst, src),
         Op::AddCarry64(dst, src) => two(machine, 0x04, dst, src),
+        Op::Adcx64(dst, src) => two(machine, 0x05, dst, src),
         Op::Adox64(dst, src) => two(machine, 0x06, dst, src),
         Op::Sub64(dst, src) => two(machine, 0x07, dst, src),
         Op::IMul64(dst, src) => two(machine, 0x0a, dst, src),

@@ -45,6 +45,7 @@ pub fn plain(kernel: &Kernel) -> End {
         flags: kernel.state.flags,
         fill: kernel.setting.fill,
         limit: kernel.setting.limit,
+        evaluation: kernel.setting.evaluation,
         steps: 0,
     };
     let stop = machine.eval(0, kernel.setting.fuel).err();
@@ -65,6 +66,7 @@ pub fn decoded(kernel: &Kernel) -> End {
         flags: kernel.state.flags,
         fill: kernel.setting.fill,
         limit: kernel.setting.limit,
+        evaluation: kernel.setting.evaluation,
         steps: 0,
     };
     let program = Program::decode(&kernel.code);

@@ -4,7 +4,7 @@
 use crate::bytes::{length_at, u32_at, u64_at};
 use crate::ends::{self, End};
 use crate::kernels::Kernel;
-use pokchrei::{Answer, Setting, State};
+use pokchrei::{Answer, Evaluation, Setting, State};
 
 const FILL: usize = 4;
 const FLAGS: usize = 12;
@@ -48,6 +48,7 @@ fn read(name: &str, job: &[u8]) -> Option<Kernel> {
             fill: u64_at(job, FILL),
             fuel: u32_at(job, 0),
             limit: u64::MAX,
+            evaluation: Evaluation::Base,
         },
         addresses: cells.iter().map(|cell| u64_at(cell, 0)).collect(),
         tags: cells.iter().map(|cell| cell[8]).collect(),
@@ -115,11 +116,19 @@ fn under_limits(mut kernel: Kernel, free: &End) -> usize {
     limits.len()
 }
 
+/// Runs a job again on the board, and answers whether that ends otherwise.
+fn on_board(mut kernel: Kernel, base: &End) -> bool {
+    kernel.setting.evaluation = Evaluation::Board;
+    let end = ends::proved(&kernel);
+    ends::hold(&kernel, &end);
+    end != *base
+}
+
 /// Holds both interpreters to the proved evaluator on every stored job that is not refused: they take no other. The
 /// steps are held to the stored text, and the ends under a limit to the end without one.
 pub fn agree(path: &str) {
     let set = std::fs::read(path).expect("a stored set of jobs");
-    let (mut compared, mut refused, mut runs) = (0, 0, 0);
+    let (mut compared, mut refused, mut runs, mut other) = (0, 0, 0, 0);
     for (index, (job, text)) in stored(&set).into_iter().enumerate() {
         let name = format!("{path}, job {index}");
         let kernel = read(&name, job);
@@ -129,10 +138,12 @@ pub fn agree(path: &str) {
             (Some(kernel), Some(end)) => {
                 ends::hold(&kernel, &end);
                 compared += 1;
-                runs += under_limits(kernel, &end);
+                runs += under_limits(kernel.clone(), &end);
+                other += usize::from(on_board(kernel, &end));
             }
             _ => refused += 1,
         }
     }
     println!("{path}: {compared} jobs end alike, {refused} are refused; {runs} runs under a limit end alike");
+    println!("    and as many on the board, where {other} end otherwise than by the base");
 }

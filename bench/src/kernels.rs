@@ -1,9 +1,10 @@
 //! The kernels that are timed.
 
 use crate::encode::*;
-use pokchrei::{Setting, State};
+use pokchrei::{Evaluation, Setting, State};
 
-/// Code with its start, its cells, and fill word, fuel and limit.
+/// Code with its start, its cells, and fill word, fuel, limit and evaluation.
+#[derive(Clone)]
 pub struct Kernel {
     pub name: String,
     pub code: Code,
@@ -16,7 +17,7 @@ pub struct Kernel {
 
 pub const FIRST_CELL: u64 = 4096;
 
-/// Registers and flags of 0, no cells, and the largest fuel and limit.
+/// Registers and flags of 0, no cells, the largest fuel and limit, and the base's evaluation.
 pub fn kernel(name: &str, code: Code) -> Kernel {
     Kernel {
         name: name.to_string(),
@@ -26,6 +27,7 @@ pub fn kernel(name: &str, code: Code) -> Kernel {
             fill: 0,
             fuel: u32::MAX,
             limit: u64::MAX,
+            evaluation: Evaluation::Base,
         },
         addresses: Vec::new(),
         tags: Vec::new(),
@@ -91,6 +93,31 @@ pub fn counts(steps: u64) -> Kernel {
     let mut kernel = looped("counts", steps, 6, body);
     set_regs(&mut kernel, &[(RBX, 0x0123_4567_89ab_cdef)]);
     kernel
+}
+
+/// Additions, whose flags the evaluation decides, and an Adox64 that reads the overflow.
+pub fn sums(steps: u64) -> Kernel {
+    let body = vec![
+        two(ADD64, reg(RAX), reg(RBX)),
+        two(0x04, reg(RSI), reg(RAX)),
+        two(0x06, reg(RDI), reg(RSI)),
+        two(0x04, reg(RBX), reg(RDI)),
+    ];
+    let mut kernel = looped("sums", steps, 4, body);
+    set_regs(&mut kernel, &[(RAX, 1 << 62), (RBX, 0x6123_4567_89ab_cdef)]);
+    kernel
+}
+
+/// A kernel on the board.
+pub fn on_board(kernel: Kernel) -> Kernel {
+    Kernel {
+        name: format!("{}, board", kernel.name),
+        setting: Setting {
+            evaluation: Evaluation::Board,
+            ..kernel.setting
+        },
+        ..kernel
+    }
 }
 
 /// IfElse, memory, lanes and products.

@@ -2,7 +2,8 @@
 //! number alone here; its place is the interpreter's to add.
 
 use crate::encode::{RAX, RDX};
-use crate::plain::{counted, sum, with_bit};
+use crate::plain::{added, counted, sum, with_bit};
+use pokchrei::Evaluation;
 
 /// A start, which becomes the end, and the cells that were lent.
 pub struct Machine<'a> {
@@ -14,6 +15,7 @@ pub struct Machine<'a> {
     pub flags: u64,
     pub fill: u64,
     pub limit: u64,
+    pub evaluation: Evaluation,
     pub steps: u64,
 }
 
@@ -31,14 +33,12 @@ pub fn number(r: u8) -> usize {
 
 /// The word and the flags that an instruction of this kind leaves of two words, the flags and the fill word.
 #[inline(always)]
-fn result(kind: u8, a: u64, b: u64, flags: u64, fill: u64) -> (u64, u64) {
+fn result(kind: u8, evaluation: Evaluation, a: u64, b: u64, flags: u64, fill: u64) -> (u64, u64) {
     match kind {
         0x01 => (b, flags),
-        0x02 => {
-            let (v, c) = sum(a, b, false);
-            (v, with_bit(flags, 0, c))
-        }
-        0x04 | 0x05 => {
+        0x02 => added(evaluation, a, b, false, flags, fill),
+        0x04 => added(evaluation, a, b, flags & 1 == 1, flags, fill),
+        0x05 => {
             let (v, c) = sum(a, b, flags & 1 == 1);
             (v, with_bit(flags, 0, c))
         }
@@ -98,9 +98,9 @@ impl Machine<'_> {
 impl Machine<'_> {
     #[inline(always)]
     pub fn two(&mut self, kind: u8, slot: Slot, b: u64) {
-        let (flags, fill) = (self.flags, self.fill);
+        let (evaluation, flags, fill) = (self.evaluation, self.flags, self.fill);
         let word = self.word(slot);
-        (*word, self.flags) = result(kind, *word, b, flags, fill);
+        (*word, self.flags) = result(kind, evaluation, *word, b, flags, fill);
     }
 
     pub fn mul(&mut self, b: u64) {

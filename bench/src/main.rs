@@ -3,7 +3,8 @@
 //!
 //!     bench                  the kernels, the growth of cost and the stack, as lines of fields divided by tabs
 //!     bench quick            the same with fewer steps
-//!     bench agree FILE...    holds the interpreters to the proved evaluator on stored jobs, with a limit and without
+//!     bench agree FILE...    holds the interpreters to the proved evaluator on stored jobs, with a limit and without, and
+//!                            on the board
 //!     bench write FOLDER     the kernels as jobs, for beside.c; prints their files and steps
 //!     bench stack N          one deep run of N rounds at the largest fuel
 
@@ -53,7 +54,8 @@ fn line(group: &str, size: u64, kernel: &Kernel, times: u32) {
     println!("{group}\t{name}\t{size}\t{proved:.4}\t{plain:.4}\t{decoded:.4}");
 }
 
-fn timed(steps: u64) -> [Kernel; 7] {
+/// The kernels that a job can hold: those of the base's evaluation.
+fn timed(steps: u64) -> [Kernel; 8] {
     [
         kernels::straight(steps),
         kernels::mixed(steps),
@@ -62,11 +64,13 @@ fn timed(steps: u64) -> [Kernel; 7] {
         kernels::memory(steps, 1024),
         kernels::scattered(steps, 1024),
         kernels::counts(steps),
+        kernels::sums(steps),
     ]
 }
 
 fn kernels(steps: u64, times: u32) {
-    for kernel in &timed(steps) {
+    let board = kernels::on_board(kernels::sums(steps));
+    for kernel in timed(steps).iter().chain([&board]) {
         line("kernel", ends::proved(kernel).steps, kernel, times);
     }
 }

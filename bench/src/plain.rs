@@ -1,7 +1,9 @@
 //! A plain interpreter of the same bytes, decoding as it goes: what the proved evaluator is measured against.
 //! It takes accepted code and cells. It is a yardstick: made neither quicker nor slower, so that the ratios of one
-//! landing can be held beside those of another. What a request adds gets a function of its own; steps, which request
-//! 2026-04 has every evaluator count and limit, are counted where they are made.
+//! landing can be held beside those of another. What a request adds gets a function of its own, as 2026-06's board has for
+//! its additions; steps, which request 2026-04 has every evaluator count and limit, are counted where they are made.
+
+use pokchrei::Evaluation;
 
 const RSP: usize = 7;
 const RAX: usize = 0;
@@ -17,6 +19,7 @@ pub struct Machine<'a> {
     pub flags: u64,
     pub fill: u64,
     pub limit: u64,
+    pub evaluation: Evaluation,
     pub steps: u64,
 }
 
@@ -49,6 +52,23 @@ pub fn sum(a: u64, b: u64, carry: bool) -> (u64, bool) {
     let (x, first) = a.overflowing_add(b);
     let (y, second) = x.overflowing_add(carry as u64);
     (y, first | second)
+}
+
+/// The sum of two words and a carry, and the flags that an Add64 or an AddCarry64 leaves.
+pub fn added(
+    evaluation: Evaluation,
+    a: u64,
+    b: u64,
+    carry: bool,
+    flags: u64,
+    fill: u64,
+) -> (u64, u64) {
+    let (word, out) = sum(a, b, carry);
+    let kept = match evaluation {
+        Evaluation::Base => flags,
+        Evaluation::Board => with_bit(fill, 11, ((a ^ word) & (b ^ word)) >> 63 == 1),
+    };
+    (word, with_bit(kept, 0, out))
 }
 
 /// The count of a word's bits that an instruction of this kind makes, and the flags of a fill word.
@@ -139,11 +159,16 @@ impl Machine<'_> {
     fn result(&self, kind: u8, a: u64, b: u64) -> (u64, u64) {
         match kind {
             0x01 => (b, self.flags),
-            0x02 => {
-                let (v, c) = sum(a, b, false);
-                (v, with_bit(self.flags, 0, c))
-            }
-            0x04 | 0x05 => {
+            0x02 => added(self.evaluation, a, b, false, self.flags, self.fill),
+            0x04 => added(
+                self.evaluation,
+                a,
+                b,
+                self.flags & 1 == 1,
+                self.flags,
+                self.fill,
+            ),
+            0x05 => {
                 let (v, c) = sum(a, b, self.flags & 1 == 1);
                 (v, with_bit(self.flags, 0, c))
             }
