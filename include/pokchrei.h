@@ -116,8 +116,8 @@ uint8_t pokchrei_run(const uint8_t *code, size_t code_length, const uint64_t *ad
 /*
  * Answers a job as the job program does. The input is the job's bytes: fuel (4), fill (8), flags (8), sixteen registers
  * (8 each), sixteen xmm (four words of 4 each), cell count (2), cells (address 8, tag 1, value 8), then code; fields low
- * byte first. The step limit is the largest and the evaluation the base's. The text is written to the start of out; what lies behind it stays.
- * Answers the text's length.
+ * byte first. The step limit is the largest, the evaluation the base's. The text is written to the start of out; what
+ * lies behind it stays. Answers the text's length.
  */
 size_t pokchrei_job(const uint8_t *input, size_t input_length, uint8_t out[POKCHREI_JOB_ROOM]);
 

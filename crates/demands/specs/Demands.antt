@@ -56,7 +56,7 @@ module _ (code : List ℕ) (env : Env) (fuel : ℕ) (limit : Option ℕ) (s : Co
     pub judged : ((n p : ℕ) → ran .end .how ≡ refused n p → ⊥) → (c : Code) × (parse code ≡ got c (length code)) × (cells ≡ accepted)
     -- the log is the source's, ok stays clear, and some `load_mem64` and `int_to_nat64` meet their clauses
     pub correspondence : Correspondence
-    -- the source is F*'s text, where it is written another way; of request 2026-02's three instructions F* has none
+    -- the source with F*'s flag rule is F*'s text, where it is written another way; of request 2026-02's three instructions F* has none
     pub text : (load-mem64 : ℤ → Memory → ℕ) (int-to-nat64 : ℤ → ℕ) (fill : ℕ) → Upstream load-mem64 int-to-nat64 fill
 
   -- the third demand

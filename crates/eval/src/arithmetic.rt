@@ -7,7 +7,7 @@ ghost use Rattle.words.specs.Bits.{bit};
 ghost use Rattle.words.specs.Flags as Flags;
 ghost use Rattle.words.specs.Sums.{sum-mod, sum-carry};
 ghost use Rattle.code.specs.Families.{is-two};
-ghost use Rattle.eval.specs.FlagRule.{base-flags, board-flags, flag-rule};
+ghost use Rattle.eval.specs.FlagRule.{board-flags, flag-rule};
 ghost use Rattle.eval.specs.Instructions.{two-word, two-flags};
 ghost use Rattle.eval.specs.Promises.{IsEffect};
 use crate::answer::Evaluation;
@@ -33,9 +33,9 @@ pub struct Effect {
     pub flags: u64,
 }
 
-// Add64 and AddCarry64 as F* has them.
-fn base_addition(flags: u64, a: u64, b: u64, carry: bool) -> Effect
-    ensures { λ r. ⌜ ((fill : ℕ) → IsEffect (sum-mod 64 (a + b + bit carry)) (base-flags fill flags a b (bit carry)) r) ⌝ }
+// The sum, and the flags but for its carry: Adcx64, and Add64 and AddCarry64 as F* has them.
+fn carry_addition(flags: u64, a: u64, b: u64, carry: bool) -> Effect
+    ensures { λ r. ⌜ IsEffect (sum-mod 64 (a + b + bit carry)) (Flags.update-cf flags (sum-carry 64 (a + b + bit carry))) r ⌝ }
 {
     let sum = add64(a, b, carry);
     Effect {
@@ -44,7 +44,7 @@ fn base_addition(flags: u64, a: u64, b: u64, carry: bool) -> Effect
     }
 }
 
-// On the board.
+// Add64 and AddCarry64 on the board.
 fn board_addition(fill: u64, a: u64, b: u64, carry: bool) -> Effect
     ensures { λ r. ⌜ ((flags : ℕ) → IsEffect (sum-mod 64 (a + b + bit carry)) (board-flags fill flags a b (bit carry)) r) ⌝ }
 {
@@ -62,22 +62,8 @@ fn addition(evaluation: Evaluation, fill: u64, flags: u64, a: u64, b: u64, carry
     ensures { λ r. ⌜ IsEffect (sum-mod 64 (a + b + bit carry)) (flag-rule evaluation fill flags a b (bit carry)) r ⌝ }
 {
     match evaluation {
-        Evaluation::Base => base_addition(flags, a, b, carry),
+        Evaluation::Base => carry_addition(flags, a, b, carry),
         Evaluation::Board => board_addition(fill, a, b, carry),
-    }
-}
-
-// Adcx64.
-fn carry_addition(flags: u64, a: u64, b: u64) -> Effect
-    ensures { λ r. ⌜
-        IsEffect (sum-mod 64 (a + b + bit (Flags.cf flags)))
-        (Flags.update-cf flags (sum-carry 64 (a + b + bit (Flags.cf flags)))) r
-        ⌝ }
-{
-    let sum = add64(a, b, cf(flags));
-    Effect {
-        word: sum.word,
-        flags: update_cf(flags, sum.carry),
     }
 }
 
@@ -117,7 +103,7 @@ pub fn effect_of(kind: u8, evaluation: Evaluation, fill: u64, flags: u64, a: u64
         0x01 => Effect { word: b, flags },
         0x02 => addition(evaluation, fill, flags, a, b, false),
         0x04 => addition(evaluation, fill, flags, a, b, cf(flags)),
-        0x05 => carry_addition(flags, a, b),
+        0x05 => carry_addition(flags, a, b, cf(flags)),
         0x06 => overflow_addition(flags, a, b),
         0x07 => Effect {
             word: sub64(a, b).word,

@@ -127,7 +127,7 @@ abbrev pub returned : State → Logged
 returned s = ([], some s)
 
 module _ (load-mem64 : ℤ → Memory → ℕ) (int-to-nat64 : ℤ → ℕ) (fill : ℕ) (rule : FlagRule) where
-  -- what the text names, over the open places
+  -- what the text names, over the open places and the flag rule
   abbrev havoc : {A : Type 0} → State → A → ℕ
   havoc = Source.havoc load-mem64 int-to-nat64 fill rule
 

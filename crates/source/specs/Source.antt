@@ -2,6 +2,7 @@
 -- Where it is written another way than the text (Upstream names the places), Upstream says that the two are the same.
 -- F* has no Popcnt64, Lzcnt64 and Tzcnt64: their clauses of `eval-ins`, the last three, are request 2026-02's.
 -- Open places: every `load_mem64` and `int_to_nat64` that meets its clause is a parameter; `havoc` is the fill word.
+-- The flags of Add64 and AddCarry64 are a parameter too, `rule`: with `base-flags` they are F*'s, with `board-flags` request 2026-06's.
 use Prim.Native.Nat.{ℕ, zero, suc, _+_, _*_, _%_, _^_}
 use mathlib.Core.Bool.{Bool, true, false, not, _&&_, cond}
 use mathlib.Core.List.{List}

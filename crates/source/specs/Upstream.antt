@@ -1,4 +1,4 @@
--- The text of X64.Semantics_s where Source is written another way: the flags of Add64 and AddCarry64, which stand in one definition of eval;
+-- The text of X64.Semantics_s where Source, with F*'s flag rule, is written another way: the flags of Add64 and AddCarry64, which the rule gives;
 -- the difference of Sub64, which is over the whole numbers; registers and xmm, which are functions in the text and lists here; the test of an
 -- amount, the local `eq_result`, and the cut that `two_to_nat` makes; and the recursion, where `eval-while` is over the evaluation of its body,
 -- so that `eval_while b c` is `eval-while b (eval-code c)`.
@@ -31,7 +31,7 @@ abbrev pub IntToNatN : (ℕ → ℤ → ℕ) → Type 0
 IntToNatN int-to-natN = (n i : ℕ) → i < n → int-to-natN n (pos i) ≡ i
 
 module _ (load-mem64 : ℤ → Memory → ℕ) (int-to-nat64 : ℤ → ℕ) (fill : ℕ) where
-  -- what the text names, over the open places
+  -- what the text names, over the open places and F*'s flag rule
   abbrev eval-ins : Instruction → St (Unit {0})
   eval-ins = Source.eval-ins load-mem64 int-to-nat64 fill base-flags
 

@@ -1,6 +1,6 @@
 // Words_s, Words.Two_s, Words.Four_s, Types_s and TypesNative_s: words of 32 and 64 bits, their
 // halves and quarters, their bits, and the carry and overflow bits of a flags word. The counts of bits are request
-// 2026-02's.
+// 2026-02's, the overflow of signed sums 2026-06's.
 mod bits;
 mod counts;
 mod flags;

@@ -18,6 +18,9 @@ cf-requires c κs = search needs
 addition-requires-2 : tie.Need-addition-requires-2
 addition-requires-2 c κs = search needs
 
+cf-requires-2 : tie.Need-cf-requires-2
+cf-requires-2 c κs = search needs
+
 carry-addition-requires : tie.Need-carry-addition-requires
 carry-addition-requires c κs = search needs
 
@@ -85,8 +88,10 @@ returns-3 c =
 returns-4 : tie.Need-returns-4
 unfolding two-word two-flags
 returns-4 c =
+    let kind = c .before .before .match .keys4 in
+    let carry = c .before .cf2 .ensures in
     let sum = c .carry-addition .ensures in
-    record { word-is = rw (c .before .match .keys4) (sum .word-is); flags-is = rw (c .before .match .keys4) (sum .flags-is) }
+    record { word-is = rw (kind, ← carry) (sum .word-is); flags-is = rw (kind, ← carry) (sum .flags-is) }
 
 returns-5 : tie.Need-returns-5
 unfolding two-word two-flags
@@ -148,6 +153,7 @@ effect-of-spec =
     addition-requires
     cf-requires
     addition-requires-2
+    cf-requires-2
     carry-addition-requires
     overflow-addition-requires
     sub64-requires
