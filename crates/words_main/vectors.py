@@ -133,10 +133,11 @@ def table():
     yield "tzcnt64", [row(x, 0, 0, 64 - len(numeral(x).rstrip("0"))) for x in counted]
     halves = [0, 1, 2**15 - 1, 2**15, 2**15 + 1, 2**16 - 1]
     wholes = [0, 1, 2**63 - 1, 2**63, 2**63 + 1, M64 - 1, draw(63), 2**63 + draw(63)]
-    # of two words, whether the first is the lesser number
-    less = lambda x, y, n: int(signed(x, n) < signed(y, n))
-    yield "signed16", [row(x, y, 0, less(x, y, 16)) for x in halves for y in halves]
-    yield "signed64", [row(x, y, 0, less(x, y, 64)) for x in wholes for y in wholes]
+    # whether it is below and above the least number, -1, 0, 1 and the largest
+    picks = lambda n: enumerate([-(2**(n - 1)), -1, 0, 1, 2**(n - 1) - 1])
+    beside = lambda x, n: [row(x, 0, i, (int(signed(x, n) < m), int(m < signed(x, n)))) for i, m in picks(n)]
+    yield "signed16", [r for x in halves for r in beside(x, 16)]
+    yield "signed64", [r for x in wholes for r in beside(x, 64)]
     # each sign with each, far from the edges, just within them and just beyond, with the carry and without
     near = [0, 1, 2**62, 2**63 - 2, 2**63 - 1, 2**63, 2**63 + 1, 3 * 2**62, M64 - 1]
     leaves = lambda z: int(not -(2**63) <= z <= 2**63 - 1)

@@ -47,12 +47,12 @@ module _ (env : Env) (memory : ByteMemory) where
 
   both-then : (h : Outcome) (x : Config) (j : Counted) (f : Part) (o : Option BState) (l : BState → Option BState) (s t : Config)
       → ((u : Config) → ends h x ≡ ends done u → Reaches o s u) → Both f l
-      → continue h x j f .end ≡ ends done t → Reaches (go-on (env .fill) (env .rule) o l) s t
+      → continue h x j f .end ≡ ends done t → Reaches (go-on (env .fill) o l) s t
   unfolding continue go-on
   both-then done x j f o l s t first g e =
       let a = first x refl in
       let b = g x t j (a .kept) e in
-      record { same = ap (λ (o : Option BState). go-on (env .fill) (env .rule) o l) (a .same) ∙ b .same; kept = b .kept; rsp = b .rsp ∙ a .rsp }
+      record { same = ap (λ (o : Option BState). go-on (env .fill) o l) (a .same) ∙ b .same; kept = b .kept; rsp = b .rsp ∙ a .rsp }
   both-then (fault n p) x j f o l s t first g e = absurd (not-done (fault n p) x t (λ z. let y : _≡_ {A = ℕ} 0 1 = cc in omega arith) e)
   both-then (stopped n p) x j f o l s t first g e = absurd (not-done (stopped n p) x t (λ z. let y : _≡_ {A = ℕ} 0 1 = cc in omega arith) e)
   both-then (spent p) x j f o l s t first g e = absurd (not-done (spent p) x t (λ z. let y : _≡_ {A = ℕ} 0 1 = cc in omega arith) e)
@@ -65,7 +65,7 @@ module _ (env : Env) (memory : ByteMemory) where
       let v = both _ _ e in
       ap₂ f (reads env memory a s (v .0) k) (reads env memory b s (v .1) k)
 
-  tests : (c : Ocmp) (s : Config) → valid-ocmp env c s ≡ true → Kept env s → test (env .fill) (env .rule) c (at s) ≡ eval-ocmp env c s
+  tests : (c : Ocmp) (s : Config) → valid-ocmp env c s ≡ true → Kept env s → test (env .fill) c (at s) ≡ eval-ocmp env c s
   unfolding valid-ocmp eval-ocmp test
   tests (OEq a b) s e k = words-read a b eqb s e k
   tests (ONe a b) s e k = words-read a b (λ x y. not (eqb x y)) s e k
@@ -76,33 +76,33 @@ module _ (env : Env) (memory : ByteMemory) where
 
   -- of the run without a limit, which tries each step
   both-ocmp : (q : ℕ) (c : Ocmp) (f g : Part) (l m : BState → Option BState) → Both f l → Both g m
-      → Both (decide env none q c f g) (λ b. branch (env .fill) (env .rule) (test (env .fill) (env .rule) c b) l m b)
+      → Both (decide env none q c f g) (λ b. branch (env .fill) (test (env .fill) c b) l m b)
   unfolding decide run-ocmp check step used-up count continue branch
   both-ocmp q c f g l m F G s t j k e = checked (valid-ocmp env c s) refl e
     where
       after : Config
       after = with-flags (env .fill) s
 
-      taken : (b : Bool) → cond b f g after (count done j) .end ≡ ends done t → Reaches (branch (env .fill) (env .rule) b l m (at s)) s t
+      taken : (b : Bool) → cond b f g after (count done j) .end ≡ ends done t → Reaches (branch (env .fill) b l m (at s)) s t
       taken true h = let r = F after t (count done j) (with-flags-kept (env .fill) k) h in record { same = r .same; kept = r .kept; rsp = r .rsp }
       taken false h = let r = G after t (count done j) (with-flags-kept (env .fill) k) h in record { same = r .same; kept = r .kept; rsp = r .rsp }
 
       checked : (v : Bool) → valid-ocmp env c s ≡ v
           → (let x = check v (ocmp-number env c s) q s (ends done after) in
           continue (x .how) (x .config) (count (x .how) j) (cond (eval-ocmp env c s) f g) .end ≡ ends done t)
-          → Reaches (branch (env .fill) (env .rule) (test (env .fill) (env .rule) c (at s)) l m (at s)) s t
+          → Reaches (branch (env .fill) (test (env .fill) c (at s)) l m (at s)) s t
       checked true v e = rw (tests c s v k) (taken (eval-ocmp env c s) e)
       checked false v e = absurd (not-done (fault (ocmp-number env c s) q) s t (λ z. let y : _≡_ {A = ℕ} 0 1 = cc in omega arith) e)
 
   -- ---- codes
   both-rounds : (f : ℕ → Part) (l : ℕ → BState → Option BState) → ((n : ℕ) → Both (f n) (l n))
-      → (p q : ℕ) (c : Ocmp) (n : ℕ) → Both (rounds env none f p q c n) (loop (env .fill) (env .rule) l c n)
+      → (p q : ℕ) (c : Ocmp) (n : ℕ) → Both (rounds env none f p q c n) (loop (env .fill) l c n)
   unfolding rounds loop
   both-rounds f l h p q c zero s t j k e = absurd (not-done (spent p) s t (λ z. let y : _≡_ {A = ℕ} 0 1 = cc in omega arith) e)
   both-rounds f l h p q c (suc n) s t j k e =
       both-ocmp q c _ _ _ _
       (λ u v i x d.
-      both-then _ _ _ (rounds env none f p q c n) (l n (at u)) (loop (env .fill) (env .rule) l c n) u v (λ w. h n u w i x) (both-rounds f l h p q c n) d)
+      both-then _ _ _ (rounds env none f p q c n) (l n (at u)) (loop (env .fill) l c n) u v (λ w. h n u w i x) (both-rounds f l h p q c n) d)
       both-end s t j k e
 
   mutual

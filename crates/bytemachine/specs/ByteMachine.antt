@@ -61,55 +61,56 @@ write (OMem m) v s = with-bytes (write-bytes (wrap (eval-maddr m (s .regs))) v (
 abbrev pub write-xmm : ℕ → Four ℕ → BState → BState
 write-xmm x q s = with-xmms (set-xmm (s .xmms) x q) s
 
-module _ (fill : ℕ) (rule : FlagRule) where
-  -- an instruction
-  unfoldable pub exec-ins : Instruction → BState → BState
-  exec-ins (Mov64 dst src) s = write dst (read src s) s
-  exec-ins (Add64 dst src) s =
-      let a = read dst s in
-      let b = read src s in
-      with-flags (rule fill (s .flags) a b 0) (write dst (sum-mod 64 (a + b)) s)
-  exec-ins (AddLea64 dst src1 src2) s = write dst (sum-mod 64 (read src1 s + read src2 s)) s
-  exec-ins (AddCarry64 dst src) s =
-      let a = read dst s in
-      let b = read src s in
-      let c = bit (cf (s .flags)) in
-      with-flags (rule fill (s .flags) a b c) (write dst (sum-mod 64 (a + b + c)) s)
-  exec-ins (Adcx64 dst src) s =
-      let sum = read dst s + read src s + bit (cf (s .flags)) in
-      with-flags (update-cf (s .flags) (sum-carry 64 sum)) (write dst (sum-mod 64 sum) s)
-  exec-ins (Adox64 dst src) s =
-      let sum = read dst s + read src s + bit (overflow (s .flags)) in
-      with-flags (update-of (s .flags) (sum-carry 64 sum)) (write dst (sum-mod 64 sum) s)
-  exec-ins (Sub64 dst src) s = with-flags fill (write dst (sub-mod 64 (read dst s) (read src s)) s)
-  exec-ins (Mul64 src) s =
-      let a = reg-at (s .regs) Rax in
-      let b = read src s in
-      with-flags fill (with-regs (set-reg (set-reg (s .regs) Rax (mul-mod 64 a b)) Rdx (mul-div 64 a b)) s)
-  exec-ins (Mulx64 dst-hi dst-lo src) s =
-      let a = reg-at (s .regs) Rdx in
-      let b = read src s in
-      write dst-hi (mul-div 64 a b) (write dst-lo (mul-mod 64 a b) s)
-  exec-ins (IMul64 dst src) s = with-flags fill (write dst (mul-mod 64 (read dst s) (read src s)) s)
-  exec-ins (Xor64 dst src) s =
-      with-flags (update-cf (update-of fill false) false) (write dst (ixor 64 (read dst s) (read src s)) s)
-  exec-ins (And64 dst src) s = with-flags fill (write dst (iand 64 (read dst s) (read src s)) s)
-  exec-ins (Shr64 dst amt) s = with-flags fill (write dst (ishr (read dst s) (read amt s)) s)
-  exec-ins (Shl64 dst amt) s = with-flags fill (write dst (ishl 64 (read dst s) (read amt s)) s)
-  exec-ins (Paddd dst src) s = with-flags fill (write-xmm dst (add-lanes (xmm-at (s .xmms) dst) (xmm-at (s .xmms) src)) s)
-  exec-ins (Pxor dst src) s = write-xmm dst (quad32-xor (xmm-at (s .xmms) dst) (xmm-at (s .xmms) src)) s
-  exec-ins (Pslld dst amt) s = write-xmm dst (shl-lanes (xmm-at (s .xmms) dst) amt) s
-  exec-ins (Psrld dst amt) s = write-xmm dst (shr-lanes (xmm-at (s .xmms) dst) amt) s
-  exec-ins (Pshufd dst src imm8) s = write-xmm dst (shuffle-lanes (xmm-at (s .xmms) src) imm8) s
-  exec-ins (Pcmpeqd dst src) s = write-xmm dst (equal-lanes (xmm-at (s .xmms) src) (xmm-at (s .xmms) dst)) s
-  exec-ins (Pextrq dst src index) s =
-      write dst (two-to-nat 32 (two-select (four-to-two-two (xmm-at (s .xmms) src)) (index % 2))) s
-  exec-ins (Pinsrd dst src index) s = write-xmm dst (insert-nat32 (xmm-at (s .xmms) dst) (read src s % 2 ^ 32) (index % 4)) s
-  exec-ins (Pinsrq dst src index) s = write-xmm dst (insert-nat64 (xmm-at (s .xmms) dst) (read src s) (index % 2)) s
-  exec-ins (VPSLLDQ dst src count) s = write-xmm dst (shift-quad (xmm-at (s .xmms) src)) s
-  exec-ins (Popcnt64 dst src) s = with-flags (update-cf (update-of fill false) false) (write dst (popcnt 64 (read src s)) s)
-  exec-ins (Lzcnt64 dst src) s = let b = read src s in with-flags (update-cf fill (eqb b 0)) (write dst (lzcnt 64 b) s)
-  exec-ins (Tzcnt64 dst src) s = let b = read src s in with-flags (update-cf fill (eqb b 0)) (write dst (tzcnt 64 b) s)
+module _ (fill : ℕ) where
+  module _ (rule : FlagRule) where
+    -- an instruction
+    unfoldable pub exec-ins : Instruction → BState → BState
+    exec-ins (Mov64 dst src) s = write dst (read src s) s
+    exec-ins (Add64 dst src) s =
+        let a = read dst s in
+        let b = read src s in
+        with-flags (rule fill (s .flags) a b 0) (write dst (sum-mod 64 (a + b)) s)
+    exec-ins (AddLea64 dst src1 src2) s = write dst (sum-mod 64 (read src1 s + read src2 s)) s
+    exec-ins (AddCarry64 dst src) s =
+        let a = read dst s in
+        let b = read src s in
+        let c = bit (cf (s .flags)) in
+        with-flags (rule fill (s .flags) a b c) (write dst (sum-mod 64 (a + b + c)) s)
+    exec-ins (Adcx64 dst src) s =
+        let sum = read dst s + read src s + bit (cf (s .flags)) in
+        with-flags (update-cf (s .flags) (sum-carry 64 sum)) (write dst (sum-mod 64 sum) s)
+    exec-ins (Adox64 dst src) s =
+        let sum = read dst s + read src s + bit (overflow (s .flags)) in
+        with-flags (update-of (s .flags) (sum-carry 64 sum)) (write dst (sum-mod 64 sum) s)
+    exec-ins (Sub64 dst src) s = with-flags fill (write dst (sub-mod 64 (read dst s) (read src s)) s)
+    exec-ins (Mul64 src) s =
+        let a = reg-at (s .regs) Rax in
+        let b = read src s in
+        with-flags fill (with-regs (set-reg (set-reg (s .regs) Rax (mul-mod 64 a b)) Rdx (mul-div 64 a b)) s)
+    exec-ins (Mulx64 dst-hi dst-lo src) s =
+        let a = reg-at (s .regs) Rdx in
+        let b = read src s in
+        write dst-hi (mul-div 64 a b) (write dst-lo (mul-mod 64 a b) s)
+    exec-ins (IMul64 dst src) s = with-flags fill (write dst (mul-mod 64 (read dst s) (read src s)) s)
+    exec-ins (Xor64 dst src) s =
+        with-flags (update-cf (update-of fill false) false) (write dst (ixor 64 (read dst s) (read src s)) s)
+    exec-ins (And64 dst src) s = with-flags fill (write dst (iand 64 (read dst s) (read src s)) s)
+    exec-ins (Shr64 dst amt) s = with-flags fill (write dst (ishr (read dst s) (read amt s)) s)
+    exec-ins (Shl64 dst amt) s = with-flags fill (write dst (ishl 64 (read dst s) (read amt s)) s)
+    exec-ins (Paddd dst src) s = with-flags fill (write-xmm dst (add-lanes (xmm-at (s .xmms) dst) (xmm-at (s .xmms) src)) s)
+    exec-ins (Pxor dst src) s = write-xmm dst (quad32-xor (xmm-at (s .xmms) dst) (xmm-at (s .xmms) src)) s
+    exec-ins (Pslld dst amt) s = write-xmm dst (shl-lanes (xmm-at (s .xmms) dst) amt) s
+    exec-ins (Psrld dst amt) s = write-xmm dst (shr-lanes (xmm-at (s .xmms) dst) amt) s
+    exec-ins (Pshufd dst src imm8) s = write-xmm dst (shuffle-lanes (xmm-at (s .xmms) src) imm8) s
+    exec-ins (Pcmpeqd dst src) s = write-xmm dst (equal-lanes (xmm-at (s .xmms) src) (xmm-at (s .xmms) dst)) s
+    exec-ins (Pextrq dst src index) s =
+        write dst (two-to-nat 32 (two-select (four-to-two-two (xmm-at (s .xmms) src)) (index % 2))) s
+    exec-ins (Pinsrd dst src index) s = write-xmm dst (insert-nat32 (xmm-at (s .xmms) dst) (read src s % 2 ^ 32) (index % 4)) s
+    exec-ins (Pinsrq dst src index) s = write-xmm dst (insert-nat64 (xmm-at (s .xmms) dst) (read src s) (index % 2)) s
+    exec-ins (VPSLLDQ dst src count) s = write-xmm dst (shift-quad (xmm-at (s .xmms) src)) s
+    exec-ins (Popcnt64 dst src) s = with-flags (update-cf (update-of fill false) false) (write dst (popcnt 64 (read src s)) s)
+    exec-ins (Lzcnt64 dst src) s = let b = read src s in with-flags (update-cf fill (eqb b 0)) (write dst (lzcnt 64 b) s)
+    exec-ins (Tzcnt64 dst src) s = let b = read src s in with-flags (update-cf fill (eqb b 0)) (write dst (tzcnt 64 b) s)
 
   -- a comparison, unsigned
   unfoldable pub test : Ocmp → BState → Bool
@@ -135,15 +136,16 @@ module _ (fill : ℕ) (rule : FlagRule) where
   loop body c zero s = none
   loop body c (suc fuel) s = branch (test c s) (λ t. go-on (body fuel t) (loop body c fuel)) some s
 
-  unfoldable mutual
-    -- a code, with fuel: the state after its last code, or none where the machine has halted out of fuel
-    pub exec : Code → ℕ → BState → Option BState
-    exec (Ins p i) fuel s = some (exec-ins i s)
-    exec (Block p cs) fuel s = execs cs fuel s
-    exec (IfElse p q c a b) fuel s = branch (test c s) (exec a fuel) (exec b fuel) s
-    exec (While p q c b) fuel s = loop (exec b) c fuel s
+  module _ (rule : FlagRule) where
+    unfoldable mutual
+      -- a code, with fuel: the state after its last code, or none where the machine has halted out of fuel
+      pub exec : Code → ℕ → BState → Option BState
+      exec (Ins p i) fuel s = some (exec-ins rule i s)
+      exec (Block p cs) fuel s = execs cs fuel s
+      exec (IfElse p q c a b) fuel s = branch (test c s) (exec a fuel) (exec b fuel) s
+      exec (While p q c b) fuel s = loop (exec b) c fuel s
 
-    -- a list of codes
-    pub execs : Codes → ℕ → BState → Option BState
-    execs ⟨⟩ fuel s = some s
-    execs (c ∷ᶜ cs) fuel s = go-on (exec c fuel s) (execs cs fuel)
+      -- a list of codes
+      pub execs : Codes → ℕ → BState → Option BState
+      execs ⟨⟩ fuel s = some s
+      execs (c ∷ᶜ cs) fuel s = go-on (exec c fuel s) (execs cs fuel)

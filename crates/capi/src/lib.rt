@@ -12,7 +12,7 @@ ghost use Rattle.eval.specs.Running.{run-of};
 ghost use Rattle.eval.specs.Inputs.{IsInput};
 ghost use Rattle.job.specs.Job.{output, code-of, state-of, setting-of};
 ghost use Rattle.job.specs.Written.{Printed};
-ghost use Rattle.capi.specs.Told.{refusal, refusal-of, told, told-of, ending, ending-of, evaluation-given, run-given, lent-state, lent-setting, InputGiven};
+ghost use Rattle.capi.specs.Told.{refusal, refusal-of, told, told-of, ending, evaluation-given, run-given, lent-state, lent-setting, InputGiven};
 use code::check_code;
 use eval::Answer;
 use eval::Evaluation;

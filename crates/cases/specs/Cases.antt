@@ -23,7 +23,7 @@ use Rattle.code.specs.Records.{body-length, operand-count, register-fields, num
 use Rattle.code.specs.Reader.{got, followed, with-fields, read-record, read-operands, read-with, read-ocmp, read-part, read-codes, read-block, read-if, read-while, read-structure, read-body, read-code, parse, verdict-of, check-code}
 use Rattle.eval.specs.declared.answer.Evaluation.the-variants.{Base, Board}
 use Rattle.eval.specs.FlagRule.{base-flags, board-flags, flag-rule}
-use Rattle.eval.specs.Config.{Env, Config, with-flags, with-values, Outcome, done, fault, stopped, spent, check}
+use Rattle.eval.specs.Config.{Env, with-rule, Config, with-flags, with-values, Outcome, done, fault, stopped, spent, check}
 use Rattle.eval.specs.Counted.{counted, Ended, ended, continue, used-up, count, step}
 use Rattle.eval.specs.Instructions.{two-word, two-flags, quads-word, quads-flags, shifts-word, inserts-word, cell-of, valid-operand, eval-operand, valid-dst-operand, update-operand, act, run-ins, valid-ocmp, eval-ocmp}
 use Rattle.job.specs.Text.{digits, name-of, first-line, reg-lines, xmm-lines, cell-lines, render}
@@ -66,7 +66,7 @@ one-cell a = environment (a ∷ []) (64 ∷ []) 0 (flag-rule Base)
 
 -- the board's evaluation in its place
 abbrev on-board : Env → Env
-on-board env = environment (env .addresses) (env .tags) (env .fill) (flag-rule Board)
+on-board = with-rule (flag-rule Board)
 
 -- a row of a table: code, cells, fill and evaluation, fuel, limit, start, how it ends, and with what and how many steps
 abbrev row-at : List ℕ → Env → ℕ → ℕ → Config → Outcome → Config → ℕ → Kernel

@@ -25,7 +25,7 @@ use Rattle.eval.specs.Instructions.{two-word, two-flags, act, run-ins}
 use Rattle.source.specs.Source.{eval-ins}
 use Rattle.source.proofs.RunsOn.{put-flags, clear-flags, runs-on}
 use Rattle.bytemachine.specs.ByteMachine.{exec-ins}
-use Rattle.demands.specs.Counting.{IsFill, carry-for-zero, Counting}
+use Rattle.demands.specs.Counting.{IsFill, Counting}
 
 -- ---- flags
 pub filled : (fill : ℕ) (carry over : Bool) → IsFill fill carry over (update-cf (update-of fill over) carry)
@@ -39,15 +39,10 @@ filled fill carry over =
       above = omega (arith, update-of-high fill over);
     }
 
-carry-for-zero-is : (fill b : ℕ) → IsFill fill (eqb b 0) (overflow fill) (carry-for-zero fill b)
-carry-for-zero-is fill b =
-    let rest = update-cf-rest fill (eqb b 0) in
-    record {
-      carry-is = cf-update-cf fill (eqb b 0);
-      overflow-is = overflow-update-cf fill (eqb b 0);
-      between = omega arith;
-      above = omega arith;
-    }
+pub carried : (flags : ℕ) (carry : Bool) → IsFill flags carry (overflow flags) (update-cf flags carry)
+carried flags carry =
+    let rest = update-cf-rest flags carry in
+    record { carry-is = cf-update-cf flags carry; overflow-is = overflow-update-cf flags carry; between = omega arith; above = omega arith }
 
 -- ---- an instruction of a destination and a source is read
 module _ (k : ℕ) (i : Instruction) (dst src : Operand) (laid-so : layout i ≡ laid k [] (dst ∷ src ∷ [])) where
@@ -75,19 +70,19 @@ counting = record {
   popcnt64 = record {
     is-read = λ dst src. read-so 0x19 (Popcnt64 dst src) dst src refl;
     runs = λ env p dst src s. refl;
-    evaluates = λ load int fill rule dst src s. runs-on load int fill rule (Popcnt64 dst src) dst src _ _ _ s (clear-flags fill);
+    evaluates = λ load int fill rule dst src s. runs-on load int fill (Popcnt64 dst src) dst src _ _ _ s (clear-flags fill);
     executes = λ fill rule dst src s. refl;
   };
   lzcnt64 = record {
     is-read = λ dst src. read-so 0x1a (Lzcnt64 dst src) dst src refl;
     runs = λ env p dst src s. refl;
-    evaluates = λ load int fill rule dst src s. runs-on load int fill rule (Lzcnt64 dst src) dst src _ _ _ s (put-flags fill _);
+    evaluates = λ load int fill rule dst src s. runs-on load int fill (Lzcnt64 dst src) dst src _ _ _ s (put-flags fill _);
     executes = λ fill rule dst src s. refl;
   };
   tzcnt64 = record {
     is-read = λ dst src. read-so 0x1b (Tzcnt64 dst src) dst src refl;
     runs = λ env p dst src s. refl;
-    evaluates = λ load int fill rule dst src s. runs-on load int fill rule (Tzcnt64 dst src) dst src _ _ _ s (put-flags fill _);
+    evaluates = λ load int fill rule dst src s. runs-on load int fill (Tzcnt64 dst src) dst src _ _ _ s (put-flags fill _);
     executes = λ fill rule dst src s. refl;
   };
   ones-of-zero = popcnt-zero 64;
@@ -97,5 +92,5 @@ counting = record {
   leading = lzcnt-highest 64;
   trailing = tzcnt-lowest 64;
   popcnt-flags = λ fill b. filled fill false false;
-  zeros-flags = carry-for-zero-is;
+  zeros-flags = λ fill b. carried fill (eqb b 0);
 }

@@ -4,13 +4,14 @@ use Prim.Native.Nat.{ℕ, _+_, _-_, _%_, _^_, _<_, _≤_}
 use mathlib.Core.Path.{_≡_, refl, sym, _∙_, subst}
 use mathlib.Core.Bool.{Bool, true, false, cond, _||_}
 use mathlib.Core.List.{List}
+use mathlib.Core.Option.{Option}
 use native.Mathlib.Nat.{add-zero, mod-eq-of-lt}
 use native.Mathlib.Omega.{arith}
 use borrow.Author.Tests.{ltb-true, ltb-false, ne-eqb}
 use lib.Dec.{eqb, ltb}
 use lib.IntN.{ℤ}
 use Rattle.words.specs.Bits.{bit}
-use Rattle.words.specs.Flags.{cf}
+use Rattle.words.specs.Flags.{cf, overflow}
 use Rattle.words.specs.Signed.{signed-word, signed-sum, leaves}
 use Rattle.words.specs.Sums.{sum-mod, sum-carry, Added}
 use Rattle.words.proofs.FlagLaws.{cf-update-cf, update-cf-lt, update-of-lt}
@@ -21,26 +22,33 @@ use Rattle.machine.specs.Bytes.{wrap}
 use Rattle.machine.specs.declared.Operand.{Operand}
 use Rattle.code.specs.declared.tree.Instruction.{Instruction}
 use Rattle.code.specs.declared.tree.Instruction.the-variants.{Add64, AddCarry64}
+use Rattle.code.specs.declared.tree.Ocmp.{Ocmp}
 use Rattle.code.specs.Layout.{layout}
 use Rattle.code.proofs.Layouts.{of-each, every-ins}
 use Rattle.eval.specs.declared.answer.Evaluation.{Evaluation}
 use Rattle.eval.specs.declared.answer.Evaluation.the-variants.{Base, Board}
 use Rattle.eval.specs.FlagRule.{FlagRule, base-flags, board-flags, flag-rule}
-use Rattle.eval.specs.Config.{Env, Config, ends, done}
-use Rattle.eval.specs.Instructions.{two-word, two-flags, cell-of, valid-operand, eval-operand, valid-dst-operand, update-operand, act, run-ins}
+use Rattle.eval.specs.Config.{Env, with-rule, Config, ends, done}
+use Rattle.eval.specs.Counted.{Counted, Part}
+use Rattle.eval.specs.Running.{run-ocmp, decide}
+use Rattle.eval.specs.Instructions.{two-word, two-flags, cell-of, valid-operand, eval-operand, valid-dst-operand, update-operand, act, run-ins, valid-ocmp, ocmp-number, eval-ocmp}
 use Rattle.source.specs.Source.{State, eval-ins}
 use Rattle.source.specs.Source as Source
 use Rattle.source.proofs.RunsOn.{put-flags, put-twice, runs-on}
 use Rattle.bytemachine.specs.ByteMachine.{BState, exec-ins}
 use Rattle.demands.specs.Counting.{IsFill}
-use Rattle.demands.specs.Overflowing.{Adds, NoAddition, with-rule, GivesFlags, Overflowing}
-use Rattle.demands.proofs.Counting.{filled}
+use Rattle.demands.specs.Overflowing.{Adds, NotByRule, GivesFlags, Overflowing}
+use Rattle.demands.proofs.Counting.{filled, carried}
 use Rattle.demands.proofs.Demands.{demands}
 
 -- ---- flags
 board-is : (fill flags a b c : ℕ) → IsFill fill (sum-carry 64 (a + b + c)) (leaves 64 (signed-sum 64 a b c)) (board-flags fill flags a b c)
 unfolding board-flags
 board-is fill flags a b c = filled fill _ _
+
+base-is : (fill flags a b c : ℕ) → IsFill flags (sum-carry 64 (a + b + c)) (overflow flags) (base-flags fill flags a b c)
+unfolding base-flags
+base-is fill flags a b c = carried flags _
 
 carry-as-before : (fill flags a b c : ℕ) → cf (board-flags fill flags a b c) ≡ cf (base-flags fill flags a b c)
 unfolding base-flags
@@ -79,44 +87,49 @@ module _ (a b : ℕ) (carry : Bool) where
       let z : _≡_ {A = ℕ} 0 1 = cc in omega arith
 
 -- ---- the other instructions
-abbrev addition : Instruction → Bool
-addition i = eqb (layout i .kind) 0x02 || eqb (layout i .kind) 0x04
+abbrev by-rule : Instruction → Bool
+by-rule i = eqb (layout i .kind) 0x02 || eqb (layout i .kind) 0x04
 
-no-addition : (i : Instruction) → NoAddition i → addition i ≡ false
-no-addition i n = rw (ne-eqb _ 0x02 (n .0), ne-eqb _ 0x04 (n .1))
+not-by-rule : (i : Instruction) → NotByRule i → by-rule i ≡ false
+not-by-rule i n = rw (ne-eqb _ 0x02 (n .0), ne-eqb _ 0x04 (n .1))
 
 -- what is the same of all instructions, but that these two are left out, is the same of the others
 module _ {A : Type 0} (x : A) (f g : Instruction → A) where
-  abbrev but-additions : (Instruction → A) → Instruction → A
-  but-additions h i = cond (addition i) x (h i)
+  abbrev but-two : (Instruction → A) → Instruction → A
+  but-two h i = cond (by-rule i) x (h i)
 
-  others : ((bytes : List ℕ) (os : List Operand) → of-each (but-additions f) bytes os ≡ of-each (but-additions g) bytes os)
-      → (i : Instruction) → NoAddition i → f i ≡ g i
+  others : ((bytes : List ℕ) (os : List Operand) → of-each (but-two f) bytes os ≡ of-each (but-two g) bytes os)
+      → (i : Instruction) → NotByRule i → f i ≡ g i
   others e i n =
-      subst (λ (b : Bool). cond b x (f i) ≡ cond b x (g i)) (no-addition i n) (every-ins (but-additions f) (but-additions g) e i)
+      subst (λ (b : Bool). cond b x (f i) ≡ cond b x (g i)) (not-by-rule i n) (every-ins (but-two f) (but-two g) e i)
 
-run-others : (i : Instruction) → NoAddition i → (env : Env) (rule : FlagRule) (p : ℕ) (s : Config)
+run-others : (i : Instruction) → NotByRule i → (env : Env) (rule : FlagRule) (p : ℕ) (s : Config)
     → run-ins (with-rule rule env) p i s ≡ run-ins env p i s
 unfolding run-ins act two-word two-flags cell-of valid-operand eval-operand valid-dst-operand update-operand
 run-others i n env rule p s = others (ends done s) (λ i. run-ins (with-rule rule env) p i s) (λ i. run-ins env p i s) (λ bytes os. refl) i n
 
-source-others : (i : Instruction) → NoAddition i → (load-mem64 : ℤ → Memory → ℕ) (int-to-nat64 : ℤ → ℕ) (fill : ℕ) (rule other : FlagRule) (s : State)
+source-others : (i : Instruction) → NotByRule i → (load-mem64 : ℤ → Memory → ℕ) (int-to-nat64 : ℤ → ℕ) (fill : ℕ) (rule other : FlagRule) (s : State)
     → eval-ins load-mem64 int-to-nat64 fill rule i s ≡ eval-ins load-mem64 int-to-nat64 fill other i s
 unfolding eval-ins Source.eval-operand Source.valid-shift-operand Source.update-operand′ Source.update-operand Source.update-xmm
 source-others i n load int fill rule other s =
     others (tt, s) (λ i. eval-ins load int fill rule i s) (λ i. eval-ins load int fill other i s) (λ bytes os. refl) i n
 
-machine-others : (i : Instruction) → NoAddition i → (fill : ℕ) (rule other : FlagRule) (s : BState)
+machine-others : (i : Instruction) → NotByRule i → (fill : ℕ) (rule other : FlagRule) (s : BState)
     → exec-ins fill rule i s ≡ exec-ins fill other i s
 unfolding exec-ins
 machine-others i n fill rule other s = others s (λ i. exec-ins fill rule i s) (λ i. exec-ins fill other i s) (λ bytes os. refl) i n
+
+run-comparisons : (env : Env) (rule : FlagRule) (limit : Option ℕ) (q : ℕ) (c : Ocmp) (yes-way no-way : Part) (s : Config) (k : Counted)
+    → decide (with-rule rule env) limit q c yes-way no-way s k ≡ decide env limit q c yes-way no-way s k
+unfolding decide run-ocmp valid-ocmp ocmp-number eval-ocmp cell-of valid-operand eval-operand
+run-comparisons env rule limit q c yes-way no-way s k = refl
 
 -- ---- Add64 and AddCarry64
 add64-is : Adds Add64 (λ flags. 0)
 unfolding run-ins act two-word two-flags exec-ins eval-ins sum-mod
 add64-is = record {
   runs = λ env p dst src s. rw add-zero;
-  evaluates = λ load int fill rule dst src s. rw add-zero (runs-on load int fill rule (Add64 dst src) dst src _ _ _ s (put-flags fill _));
+  evaluates = λ load int fill rule dst src s. rw add-zero (runs-on load int fill (Add64 dst src) dst src _ _ _ s (put-flags fill _));
   executes = λ fill rule dst src s. rw add-zero;
 }
 
@@ -124,7 +137,7 @@ add-carry64-is : Adds AddCarry64 (λ flags. bit (cf flags))
 unfolding run-ins act two-word two-flags exec-ins eval-ins sum-mod
 add-carry64-is = record {
   runs = λ env p dst src s. refl;
-  evaluates = λ load int fill rule dst src s. runs-on load int fill rule (AddCarry64 dst src) dst src _ _ _ s (put-twice fill _ _);
+  evaluates = λ load int fill rule dst src s. runs-on load int fill (AddCarry64 dst src) dst src _ _ _ s (put-twice fill _ _);
   executes = λ fill rule dst src s. refl;
 }
 
@@ -136,6 +149,8 @@ overflowing = record {
   run-others = run-others;
   source-others = source-others;
   machine-others = machine-others;
+  run-comparisons = run-comparisons;
+  base = base-is;
   as-before = carry-as-before;
   board = board-is;
   in-range = λ x h. word-within 64 x refl h;

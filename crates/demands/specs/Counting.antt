@@ -45,7 +45,7 @@ pub record Counts (kind : ℕ) (ins : Operand → Operand → Instruction) (coun
       (ends done (with-flags (flags (env .fill) b) (update-operand env dst (count b) s))))
   -- the source: it runs on where one of the two checks fails, with ok clear
   pub evaluates : (load-mem64 : ℤ → Memory → ℕ) (int-to-nat64 : ℤ → ℕ) (fill : ℕ) (rule : FlagRule) (dst src : Operand) (s : Source.State)
-      → let b = Source.eval-operand load-mem64 int-to-nat64 fill rule src s in
+      → let b = Source.eval-operand load-mem64 int-to-nat64 fill src s in
       let t = Source.with-flags (flags fill b) (Source.update-operand-preserve-flags′ dst (count b) s) in
       Source.run (Source.eval-ins load-mem64 int-to-nat64 fill rule (ins dst src)) s
       ≡ Source.with-ok (s .ok && Source.valid-operand src s && Source.valid-dst-operand dst s) t

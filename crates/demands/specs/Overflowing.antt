@@ -8,7 +8,7 @@ use mathlib.Core.List.{List}
 use mathlib.Core.Option.{Option}
 use lib.IntN.{ℤ}
 use Rattle.words.specs.Bits.{bit}
-use Rattle.words.specs.Flags.{cf}
+use Rattle.words.specs.Flags.{cf, overflow}
 use Rattle.words.specs.Signed.{signed-word, signed-sum, leaves}
 use Rattle.words.specs.Sums.{sum-mod, sum-carry}
 use Rattle.machine.specs.Registers.{IsState}
@@ -19,12 +19,15 @@ use Rattle.machine.specs.declared.State.{State}
 use Rattle.machine.specs.declared.Operand.{Operand}
 use Rattle.code.specs.declared.tree.Instruction.{Instruction}
 use Rattle.code.specs.declared.tree.Instruction.the-variants.{Add64, AddCarry64}
+use Rattle.code.specs.declared.tree.Ocmp.{Ocmp}
 use Rattle.code.specs.Layout.{layout}
 use Rattle.code.specs.WellFormed.{Bytes}
 use Rattle.eval.specs.declared.answer.Evaluation.{Evaluation}
 use Rattle.eval.specs.FlagRule.{FlagRule, base-flags, board-flags, flag-rule}
-use Rattle.eval.specs.Config.{Env, Config, config, with-flags, ends, done, check}
+use Rattle.eval.specs.Config.{Env, with-rule, Config, config, with-flags, ends, done, check}
 use Rattle.eval.specs.Instructions.{valid-operand, eval-operand, valid-dst-operand, update-operand, run-ins}
+use Rattle.eval.specs.Counted.{Counted, Part}
+use Rattle.eval.specs.Running.{decide}
 use Rattle.eval.specs.Promises.{environment}
 use Rattle.source.specs.Source as Source
 use Rattle.bytemachine.specs.ByteMachine as Machine
@@ -44,8 +47,8 @@ pub record Adds (ins : Operand → Operand → Instruction) (carry : ℕ → ℕ
       (ends done (with-flags (env .rule (env .fill) (s .flags) a b c) (update-operand env dst (sum-mod 64 (a + b + c)) s))))
   -- the source: it runs on where one of the two checks fails, with ok clear
   pub evaluates : (load-mem64 : ℤ → Memory → ℕ) (int-to-nat64 : ℤ → ℕ) (fill : ℕ) (rule : FlagRule) (dst src : Operand) (s : Source.State)
-      → let a = Source.eval-operand load-mem64 int-to-nat64 fill rule dst s in
-      let b = Source.eval-operand load-mem64 int-to-nat64 fill rule src s in
+      → let a = Source.eval-operand load-mem64 int-to-nat64 fill dst s in
+      let b = Source.eval-operand load-mem64 int-to-nat64 fill src s in
       let c = carry (s .flags) in
       let t = Source.with-flags (rule fill (s .flags) a b c) (Source.update-operand-preserve-flags′ dst (sum-mod 64 (a + b + c)) s) in
       Source.run (Source.eval-ins load-mem64 int-to-nat64 fill rule (ins dst src)) s
@@ -58,12 +61,8 @@ pub record Adds (ins : Operand → Operand → Instruction) (carry : ℕ → ℕ
       Machine.exec-ins fill rule (ins dst src) s ≡ Machine.with-flags (rule fill (s .flags) a b c) (Machine.write dst (sum-mod 64 (a + b + c)) s)
 
 -- an instruction that is neither Add64 nor AddCarry64
-abbrev pub NoAddition : Instruction → Type 0
-NoAddition i = (layout i .kind ≡ 0x02 → ⊥) × (layout i .kind ≡ 0x04 → ⊥)
-
--- an environment with another flag rule
-abbrev pub with-rule : FlagRule → Env → Env
-with-rule rule env = environment (env .addresses) (env .tags) (env .fill) rule
+abbrev pub NotByRule : Instruction → Type 0
+NotByRule i = (layout i .kind ≡ 0x02 → ⊥) × (layout i .kind ≡ 0x04 → ⊥)
 
 -- a rule that gives a flags word
 abbrev pub GivesFlags : FlagRule → Type 0
@@ -74,13 +73,17 @@ pub record Overflowing : Type 0 where
   -- the rule is put in for these two, in all three texts
   pub add64 : Adds Add64 (λ flags. 0)
   pub add-carry64 : Adds AddCarry64 (λ flags. bit (cf flags))
-  -- and for no other: Adcx64 and Adox64 do what they did
-  pub run-others : (i : Instruction) → NoAddition i → (env : Env) (rule : FlagRule) (p : ℕ) (s : Config)
+  -- and for no other instruction, nor for a comparison: Adcx64 and Adox64 do what they did. Of a comparison the other two texts do not have the rule
+  pub run-others : (i : Instruction) → NotByRule i → (env : Env) (rule : FlagRule) (p : ℕ) (s : Config)
       → run-ins (with-rule rule env) p i s ≡ run-ins env p i s
-  pub source-others : (i : Instruction) → NoAddition i → (load-mem64 : ℤ → Memory → ℕ) (int-to-nat64 : ℤ → ℕ) (fill : ℕ) (rule other : FlagRule)
+  pub source-others : (i : Instruction) → NotByRule i → (load-mem64 : ℤ → Memory → ℕ) (int-to-nat64 : ℤ → ℕ) (fill : ℕ) (rule other : FlagRule)
       (s : Source.State) → Source.eval-ins load-mem64 int-to-nat64 fill rule i s ≡ Source.eval-ins load-mem64 int-to-nat64 fill other i s
-  pub machine-others : (i : Instruction) → NoAddition i → (fill : ℕ) (rule other : FlagRule) (s : Machine.BState)
+  pub machine-others : (i : Instruction) → NotByRule i → (fill : ℕ) (rule other : FlagRule) (s : Machine.BState)
       → Machine.exec-ins fill rule i s ≡ Machine.exec-ins fill other i s
+  pub run-comparisons : (env : Env) (rule : FlagRule) (limit : Option ℕ) (q : ℕ) (c : Ocmp) (yes-way no-way : Part) (s : Config) (k : Counted)
+      → decide (with-rule rule env) limit q c yes-way no-way s k ≡ decide env limit q c yes-way no-way s k
+  -- F*'s rule sets carry, and all other bits are those of the old flags
+  pub base : (fill flags a b c : ℕ) → IsFill flags (sum-carry 64 (a + b + c)) (overflow flags) (base-flags fill flags a b c)
   -- on the board carry is as before; overflow is set exactly where the signed sum leaves its range; all other bits are the fill word's
   pub as-before : (fill flags a b c : ℕ) → cf (board-flags fill flags a b c) ≡ cf (base-flags fill flags a b c)
   pub board : (fill flags a b c : ℕ) → IsFill fill (sum-carry 64 (a + b + c)) (leaves 64 (signed-sum 64 a b c)) (board-flags fill flags a b c)

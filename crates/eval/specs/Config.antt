@@ -15,6 +15,10 @@ pub record Env : Type 0 where
   pub fill : ℕ
   pub rule : FlagRule
 
+-- an environment with another flag rule
+abbrev pub with-rule : FlagRule → Env → Env
+with-rule rule env = record { addresses = env .addresses; tags = env .tags; fill = env .fill; rule = rule }
+
 -- what changes in a run: registers, xmm words, flags, and the cells' values
 pub record Config : Type 0 where
   pub regs : List ℕ

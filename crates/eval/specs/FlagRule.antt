@@ -14,7 +14,7 @@ FlagRule = (fill flags a b c : ℕ) → ℕ
 unfoldable pub base-flags : FlagRule
 base-flags fill flags a b c = update-cf flags (sum-carry 64 (a + b + c))
 
--- the board's: the fill word but for the carry, and for overflow where the sum as signed numbers leaves -2^63 to 2^63 - 1
+-- the board's: the fill word but for two bits, the carry of the sum, and overflow, which is set exactly where the signed sum leaves -2^63 to 2^63 - 1
 unfoldable pub board-flags : FlagRule
 board-flags fill flags a b c = update-cf (update-of fill (leaves 64 (signed-sum 64 a b c))) (sum-carry 64 (a + b + c))
 

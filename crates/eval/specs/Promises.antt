@@ -33,7 +33,7 @@ use Rattle.eval.specs.declared.cycle.Way.{Way}
 use Rattle.eval.specs.declared.arithmetic.Effect.{Effect}
 
 -- ---- what is lent
--- the environment of lent addresses and tags
+-- the environment of lent addresses and tags, a fill word and a flag rule
 abbrev pub environment : List ℕ → List ℕ → ℕ → FlagRule → Env
 environment addresses tags fill rule = record { addresses = addresses; tags = tags; fill = fill; rule = rule }
 

@@ -1,4 +1,4 @@
--- Running: accepted code over accepted cells, from a start, with a fill word, fuel and a step limit.
+-- Running: accepted code over accepted cells, from a start, with a fill word, a flag rule, fuel and a step limit.
 use Prim.Native.Nat.{ℕ, zero, suc}
 use mathlib.Core.Bool.{cond}
 use mathlib.Core.List.{List}

@@ -15,7 +15,7 @@ use tally::counted;
 use tally::none_yet;
 use tally::tell;
 
-// No file has as many jobs: a proved loop has to end, and nothing says that a file does.
+// No file has as many jobs or sums: a proved loop has to end, and nothing says that a file does.
 const MOST: u64 = 100_000;
 
 // What a file holds.

@@ -60,10 +60,10 @@ fn run_sum(row: &[u8]) -> Run
     )
 }
 
-// Whether a sum ends as it is stored. Where this says so, the definition does.
+// Whether a sum ends as it is stored.
 pub fn agrees(row: &[u8]) -> bool
     requires { ⌜ 50 ≤ length (now row) ⌝ }
-    ensures { λ r. ⌜ (r ≡ true → IsStored (now (row .entry))) ⌝ }
+    ensures { λ r. ⌜ (r ≡ true → IsStored (now (row .entry))) × (IsStored (now (row .entry)) → r ≡ true) ⌝ }
 {
     let end = run_sum(row);
     let answer = end.answer;

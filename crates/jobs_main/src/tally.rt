@@ -1,4 +1,4 @@
-// How many jobs were tried, how many of them agree, and which is the first that does not.
+// How many jobs or sums were tried, how many of them agree, and which is the first that does not.
 
 ghost use mathlib.Core.Path.{_≡_};
 ghost use Prim.Native.Nat.{_+_, _%_, _^_};
@@ -38,7 +38,7 @@ pub fn counted(t: Tally, ok: bool) -> Tally
     }
 }
 
-// NAME AGREE of TRIED, and the index of the first job that does not agree.
+// NAME AGREE of TRIED, and the index of the first that does not agree.
 pub fn tell(name: &[u8], t: Tally) {
     io::write_all(1, name);
     io::write_all(1, b" ");

@@ -3,7 +3,7 @@ use Prim.Native.Nat.{ℕ, zero, suc, _+_, _-_, _≤_, _<_}
 use mathlib.Core.Path.{_≡_, refl, sym, ap, _∙_}
 use mathlib.Core.Bool.{Bool, true, false, not, _&&_}
 use mathlib.Core.List.{[], _∷_}
-use mathlib.Core.Logic.{_⊎_, inl, inr}
+use mathlib.Core.Logic.{_⊎_}
 use native.Mathlib.Omega.{arith}
 use native.Mathlib.Numerals.{add-one}
 use borrow.Author.Tests.{not-true, not-false, eqb-true, eqb-false}
@@ -16,13 +16,11 @@ use Rattle.machine.specs.declared.Maddr.the-variants.{MConst, MReg, MIndex}
 use Rattle.machine.specs.declared.Operand.{Operand as Operand′}
 use Rattle.machine.specs.declared.Operand.the-variants.{OConst, OReg, OMem}
 use Rattle.code.specs.declared.kinds.Class.{Class}
-use Rattle.code.specs.declared.kinds.Class.the-variants.{Instruction, Comparison, Operand}
-use Rattle.code.specs.Records.{is-ins, is-ocmp, is-operand, operand-count}
-use Rattle.code.specs.Kinds.{class, is-used}
-use Rattle.code.proofs.KindLaws.{class-ins, counts}
-use Rattle.code.proofs.Classes.{tag, ins-kind, ocmp-kind, operand-kind, not-ocmp, not-operand, code-used, ins-is-code, ocmp-used, others-2, others-3}
+use Rattle.code.specs.declared.kinds.Class.the-variants.{Operand}
+use Rattle.code.specs.Kinds.{class}
+use Rattle.code.proofs.Classes.{tag, operand-kind, not-operand, others-3}
 use Rattle.numbered.specs.declared.operands.Numbers.{Numbers}
-use Rattle.numbered.specs.Given.{operand-of, operand-given, operands-given, is-instruction, is-comparison}
+use Rattle.numbered.specs.Given.{operand-of, operand-given, operands-given}
 
 -- the first of five where the second to the fifth are not picked
 first-or-none :

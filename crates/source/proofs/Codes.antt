@@ -47,20 +47,13 @@ unfolding if-some
 clear-some log none k c h = tt
 clear-some log (some u) k c h = h u c
 
-module _ (load-mem64 : ℤ → Memory → ℕ) (int-to-nat64 : ℤ → ℕ) (fill : ℕ) (rule : FlagRule) where
-  -- a state whose ok is clear is one with ok made clear, and from there each instruction computes
-  ins-clear : (i : Instruction) (s : State) → s .ok ≡ false → eval-ins load-mem64 int-to-nat64 fill rule i s .1 .ok ≡ false
-  unfolding eval-ins Source._>>=_
-  ins-clear i s e =
-      ap (λ b. eval-ins load-mem64 int-to-nat64 fill rule i (with-ok b s) .1 .ok) e
-      ∙ every-ins (λ i. eval-ins load-mem64 int-to-nat64 fill rule i (with-ok false s) .1 .ok) (λ i. false) (λ bytes os. refl) i
-
-  clear-ocmp : (q : ℕ) (c : Ocmp) (f g : State → Logged) → Clears f → Clears g → Clears (log-ocmp load-mem64 int-to-nat64 fill rule q c f g)
+module _ (load-mem64 : ℤ → Memory → ℕ) (int-to-nat64 : ℤ → ℕ) (fill : ℕ) where
+  clear-ocmp : (q : ℕ) (c : Ocmp) (f g : State → Logged) → Clears f → Clears g → Clears (log-ocmp load-mem64 int-to-nat64 fill q c f g)
   unfolding note-ocmp check Source.check
   clear-ocmp q c f g F G u e = clear-choose _ f g F G _ (bind-clear _ _ u e)
 
   clear-while : (p q : ℕ) (c : Ocmp) (body : ℕ → State → Logged) → ((f : ℕ) → Clears (body f))
-      → (f : ℕ) → Clears (log-while load-mem64 int-to-nat64 fill rule p q c body f)
+      → (f : ℕ) → Clears (log-while load-mem64 int-to-nat64 fill p q c body f)
   unfolding log-while
   clear-while p q c body h zero u e = tt
   clear-while p q c body h (suc f) u e =
@@ -68,18 +61,26 @@ module _ (load-mem64 : ℤ → Memory → ℕ) (int-to-nat64 : ℤ → ℕ) (fil
       (λ v g. clear-some _ _ _ (h f v g) (λ w k. clear-choose (w .ok) _ _ (clear-while p q c body h f) (λ x l. l) w k))
       (λ v g. g) u e
 
-  mutual
-    unfolding log-code log-codes
+  module _ (rule : FlagRule) where
+    -- a state whose ok is clear is one with ok made clear, and from there each instruction computes
+    ins-clear : (i : Instruction) (s : State) → s .ok ≡ false → eval-ins load-mem64 int-to-nat64 fill rule i s .1 .ok ≡ false
+    unfolding eval-ins Source._>>=_
+    ins-clear i s e =
+        ap (λ b. eval-ins load-mem64 int-to-nat64 fill rule i (with-ok b s) .1 .ok) e
+        ∙ every-ins (λ i. eval-ins load-mem64 int-to-nat64 fill rule i (with-ok false s) .1 .ok) (λ i. false) (λ bytes os. refl) i
 
-    pub clear-code : (c : Code) (f : ℕ) → Clears (log-code load-mem64 int-to-nat64 fill rule c f)
-    clear-code (Ins p i) f u e = ap (λ r. r .1 .ok) (erase-ins load-mem64 int-to-nat64 fill rule i u) ∙ ins-clear i u e
-    clear-code (Block p cs) f u e = clear-codes cs f u e
-    clear-code (IfElse p q c a b) f u e = clear-ocmp q c _ _ (clear-code a f) (clear-code b f) u e
-    clear-code (While p q c b) f u e = clear-while p q c _ (clear-code b) f u e
+    mutual
+      unfolding log-code log-codes
 
-    clear-codes : (cs : Codes) (f : ℕ) → Clears (log-codes load-mem64 int-to-nat64 fill rule cs f)
-    clear-codes ⟨⟩ f u e = e
-    clear-codes (c ∷ᶜ cs) f u e = clear-some _ _ _ (clear-code c f u e) (clear-codes cs f)
+      pub clear-code : (c : Code) (f : ℕ) → Clears (log-code load-mem64 int-to-nat64 fill rule c f)
+      clear-code (Ins p i) f u e = ap (λ r. r .1 .ok) (erase-ins load-mem64 int-to-nat64 fill rule i u) ∙ ins-clear i u e
+      clear-code (Block p cs) f u e = clear-codes cs f u e
+      clear-code (IfElse p q c a b) f u e = clear-ocmp q c _ _ (clear-code a f) (clear-code b f) u e
+      clear-code (While p q c b) f u e = clear-while p q c _ (clear-code b) f u e
+
+      clear-codes : (cs : Codes) (f : ℕ) → Clears (log-codes load-mem64 int-to-nat64 fill rule cs f)
+      clear-codes ⟨⟩ f u e = e
+      clear-codes (c ∷ᶜ cs) f u e = clear-some _ _ _ (clear-code c f u e) (clear-codes cs f)
 
 -- ---- the first bad event
 good-then : (l r : List Event) → first-bad l ≡ none → first-bad (l ++ r) ≡ first-bad r
@@ -160,7 +161,7 @@ module _ (env : Env) where
 
   module _ (load-mem64 : ℤ → Memory → ℕ) (loads : LoadsMem64 load-mem64) (int-to-nat64 : ℤ → ℕ) (ints : IntToNat64 int-to-nat64) where
     abbrev noted : Config → Ocmp → (State × Bool) × List Note
-    noted s c = note-ocmp load-mem64 int-to-nat64 (env .fill) (env .rule) (state-of env s) c
+    noted s c = note-ocmp load-mem64 int-to-nat64 (env .fill) (state-of env s) c
 
     ocmp-passes : (c : Ocmp) (s : Config) → WfOcmp c → Held env s → Run.valid-ocmp env c s ≡ true
         → noted s c ≡ ((state-of env (with-flags (env .fill) s), Run.eval-ocmp env c s), (Run.ocmp-number env c s, true) ∷ [])
@@ -178,7 +179,7 @@ module _ (env : Env) where
 
     -- of the run without a limit, which tries each step
     tells-ocmp : (q : ℕ) (c : Ocmp) (f g : Part) (f′ g′ : State → Logged) → WfOcmp c → TellAll f f′ → TellAll g g′ → Clears f′ → Clears g′
-        → TellAll (Running.decide env none q c f g) (log-ocmp load-mem64 int-to-nat64 (env .fill) (env .rule) q c f′ g′)
+        → TellAll (Running.decide env none q c f g) (log-ocmp load-mem64 int-to-nat64 (env .fill) q c f′ g′)
     unfolding Running.decide Running.run-ocmp Config.check step used-up count continue events first-bad
     tells-ocmp q c f g f′ g′ fits F G F′ G′ s k h = go (Run.valid-ocmp env c s) refl
       where
@@ -217,13 +218,12 @@ module _ (env : Env) where
 
     tells-rounds : (p q : ℕ) (c : Ocmp) (body : ℕ → Part) (body′ : ℕ → State → Logged) → WfOcmp c
         → ((f : ℕ) → TellAll (body f) (body′ f)) → ((f : ℕ) → Clears (body′ f)) → (f : ℕ)
-        → TellAll (Running.rounds env none body p q c f) (log-while load-mem64 int-to-nat64 (env .fill) (env .rule) p q c body′ f)
+        → TellAll (Running.rounds env none body p q c f) (log-while load-mem64 int-to-nat64 (env .fill) p q c body′ f)
     unfolding Running.rounds log-while first-bad choose
     tells-rounds p q c body body′ fits tells clears zero s k h = ends-spent p s refl refl tt
     tells-rounds p q c body body′ fits tells clears (suc f) s k h =
-        let next : State → Logged = λ u. choose (u .ok) (log-while load-mem64 int-to-nat64 (env .fill) (env .rule) p q c body′ f) returned u in
-        let next-clear : Clears next =
-        λ u e. clear-choose (u .ok) _ _ (clear-while load-mem64 int-to-nat64 (env .fill) (env .rule) p q c body′ clears f) (λ v g. g) u e in
+        let next : State → Logged = λ u. choose (u .ok) (log-while load-mem64 int-to-nat64 (env .fill) p q c body′ f) returned u in
+        let next-clear : Clears next = λ u e. clear-choose (u .ok) _ _ (clear-while load-mem64 int-to-nat64 (env .fill) p q c body′ clears f) (λ v g. g) u e in
         tells-ocmp q c _ _ (λ u. if-some (body′ f u .0) (body′ f u .1) next) returned fits
         (λ t l i. tells-then _ _ _ _ next (tells f t l i) (tells-rounds p q c body body′ fits tells clears f) next-clear)
         tells-returned

@@ -30,19 +30,19 @@ erase-choose false f g f′ g′ F G s = G s
 module _ (load-mem64 : ℤ → Memory → ℕ) (int-to-nat64 : ℤ → ℕ) (fill : ℕ) (rule : FlagRule) where
   erase-ocmp : (q : ℕ) (c : Ocmp) (f g : State → Logged) (f′ g′ : State → Option State)
       → ((s : State) → (f s) .1 ≡ f′ s) → ((s : State) → (g s) .1 ≡ g′ s) → (s : State)
-      → (log-ocmp load-mem64 int-to-nat64 fill rule q c f g s) .1 ≡ (let r = run-ocmp load-mem64 int-to-nat64 fill rule s c in choose (r .1) f′ g′ (r .0))
+      → (log-ocmp load-mem64 int-to-nat64 fill q c f g s) .1 ≡ (let r = run-ocmp load-mem64 int-to-nat64 fill s c in choose (r .1) f′ g′ (r .0))
   unfolding note-ocmp run-ocmp Log.check
   erase-ocmp q c f g f′ g′ F G s = erase-choose _ f g f′ g′ F G _
 
   erase-while : (p q : ℕ) (c : Ocmp) (body : ℕ → State → Logged) (body′ : ℕ → State → Option State)
       → ((f : ℕ) (s : State) → (body f s) .1 ≡ body′ f s) → (f : ℕ) (s : State)
-      → (log-while load-mem64 int-to-nat64 fill rule p q c body f s) .1 ≡ eval-while load-mem64 int-to-nat64 fill rule c body′ f s
+      → (log-while load-mem64 int-to-nat64 fill p q c body f s) .1 ≡ eval-while load-mem64 int-to-nat64 fill c body′ f s
   unfolding log-while eval-while
   erase-while p q c body body′ h zero s = refl
   erase-while p q c body body′ h (suc f) s =
       erase-ocmp q c _ _ _ _
       (λ t. erase-some _ _ _ _ (λ u. erase-choose (u .ok) _ _ _ _ (erase-while p q c body body′ h f) (λ v. refl) u)
-      ∙ ap (λ o. if-some o (λ u. choose (u .ok) (eval-while load-mem64 int-to-nat64 fill rule c body′ f) some u)) (h f t))
+      ∙ ap (λ o. if-some o (λ u. choose (u .ok) (eval-while load-mem64 int-to-nat64 fill c body′ f) some u)) (h f t))
       (λ v. refl) s
 
   mutual

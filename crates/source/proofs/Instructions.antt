@@ -165,19 +165,19 @@ module _ (env : Env) where
   module _ (load-mem64 : ℤ → Memory → ℕ) (loads : LoadsMem64 load-mem64) (int-to-nat64 : ℤ → ℕ) (ints : IntToNat64 int-to-nat64) where
     -- a destination is written, and flags are the fill word
     update-gate : (dst : Operand) (i : Instruction) (v w : ℕ) (s : Config) → Held env s → (Run.valid-dst-operand env dst s ≡ true → v ≡ w)
-        → Gate (update-operand load-mem64 int-to-nat64 (env .fill) (env .rule) dst i v)
+        → Gate (update-operand load-mem64 int-to-nat64 (env .fill) dst i v)
         s (with-flags (env .fill) (Run.update-operand env dst w s)) (Run.valid-dst-operand env dst s) (wild-or 32 dst (s .regs))
     unfolding update-operand Source.update-operand′
     update-gate dst i v w s h same =
         let put : ℕ → State = λ x. Source.update-operand-preserve-flags′ dst x (state-of env s) in
-        put-gate (dst-number dst) (Source.valid-dst-operand dst) (Source.update-operand′ load-mem64 int-to-nat64 (env .fill) (env .rule) dst i v) s _ _ h
+        put-gate (dst-number dst) (Source.valid-dst-operand dst) (Source.update-operand′ load-mem64 int-to-nat64 (env .fill) dst i v) s _ _ h
         (update-held env dst w s h)
         (valid-dst-is env dst s h)
         (λ g. ap (Source.with-flags (env .fill)) (ap put (same g) ∙ update-is env dst w s h g))
 
     -- the values of an operand in the source and in the run
     abbrev read : Operand → Config → ℕ
-    read o s = Source.eval-operand load-mem64 int-to-nat64 (env .fill) (env .rule) o (state-of env s)
+    read o s = Source.eval-operand load-mem64 int-to-nat64 (env .fill) o (state-of env s)
 
     abbrev value : Operand → Config → ℕ
     value = Run.eval-operand env
@@ -217,13 +217,13 @@ module _ (env : Env) where
 
       -- a destination is written and flags are the fill word
       says-write : (dst : Operand) (i : Instruction) (v w : ℕ) → (Run.valid-dst-operand env dst s ≡ true → v ≡ w)
-          → Says p s (update-operand load-mem64 int-to-nat64 (env .fill) (env .rule) dst i v) s (write env p dst w (env .fill) s)
+          → Says p s (update-operand load-mem64 int-to-nat64 (env .fill) dst i v) s (write env p dst w (env .fill) s)
       says-write dst i v w same = says-last p s _ s _ _ _ (update-gate dst i v w s h same)
 
       -- a destination is written, and then flags by m
       says-flags : (dst : Operand) (i : Instruction) (v w : ℕ) (m : St (Unit {0})) (flags : ℕ) → (Run.valid-dst-operand env dst s ≡ true → v ≡ w)
           → (Run.valid-dst-operand env dst s ≡ true → (t : Config) → m (state-of env (with-flags (env .fill) t)) .1 ≡ state-of env (with-flags flags t))
-          → Says p s (update-operand load-mem64 int-to-nat64 (env .fill) (env .rule) dst i v >> quiet m) s (write env p dst w flags s)
+          → Says p s (update-operand load-mem64 int-to-nat64 (env .fill) dst i v >> quiet m) s (write env p dst w flags s)
       says-flags dst i v w m flags same sets =
           let t = Run.update-operand env dst w s in
           says-then p s _ _ s (with-flags (env .fill) t) _ _ _ (update-gate dst i v w s h same)
@@ -233,7 +233,7 @@ module _ (env : Env) where
       says-two : (dst src : Operand) → WfTwo dst src → (i : Instruction) (f g : ℕ → ℕ → ℕ)
           → Says p s (do
             check (source-number src) (Source.valid-operand src)
-            update-operand load-mem64 int-to-nat64 (env .fill) (env .rule) dst i (f (read dst s) (read src s))
+            update-operand load-mem64 int-to-nat64 (env .fill) dst i (f (read dst s) (read src s))
             quiet (Source.update-flags (g (read dst s) (read src s)))) s
           (read-check env p src s (write env p dst (f (value dst s) (value src s)) (g (value dst s) (value src s)) s))
       unfolding Source.update-flags Source._>>=_
@@ -247,7 +247,7 @@ module _ (env : Env) where
       says-cleared : (dst src : Operand) → WfTwo dst src → (i : Instruction) (f : ℕ → ℕ → ℕ)
           → Says p s (do
             check (source-number src) (Source.valid-operand src)
-            update-operand load-mem64 int-to-nat64 (env .fill) (env .rule) dst i (f (read dst s) (read src s))
+            update-operand load-mem64 int-to-nat64 (env .fill) dst i (f (read dst s) (read src s))
             quiet (Source.update-cf-of false false)) s
           (read-check env p src s (write env p dst (f (value dst s) (value src s)) (update-cf (update-of (env .fill) false) false) s))
       unfolding Source.update-cf-of Source._>>=_
@@ -258,19 +258,19 @@ module _ (env : Env) where
       says-binary : (dst src : Operand) → WfTwo dst src → (i : Instruction) (f : ℕ → ℕ → ℕ)
           → Says p s (do
             check (source-number src) (Source.valid-operand src)
-            update-operand load-mem64 int-to-nat64 (env .fill) (env .rule) dst i (f (read dst s) (read src s))) s
+            update-operand load-mem64 int-to-nat64 (env .fill) dst i (f (read dst s) (read src s))) s
           (read-check env p src s (write env p dst (f (value dst s) (value src s)) (env .fill) s))
       says-binary dst src fits i f =
           says-source src _ _ (λ e. says-write dst i _ _ (λ d. two-are f dst src fits d e))
 
       -- a shift amount: one check of the source; in the run that of what is read, and then 33
       says-amount : (o : Operand) → WfOperand o → (k : Noted (Unit {0})) (r : End) → (Run.valid-operand env o s ≡ true → Says p s k s r)
-          → Says p s (check (amount o) (Source.valid-shift-operand load-mem64 int-to-nat64 (env .fill) (env .rule) o) >> k) s (amount-check env p o s r)
+          → Says p s (check (amount o) (Source.valid-shift-operand load-mem64 int-to-nat64 (env .fill) o) >> k) s (amount-check env p o s r)
       unfolding Config.check Source.valid-shift-operand
       says-amount o fits k r f = go (Run.valid-operand env o s) refl
         where
           valid : State → Bool
-          valid = Source.valid-shift-operand load-mem64 int-to-nat64 (env .fill) (env .rule) o
+          valid = Source.valid-shift-operand load-mem64 int-to-nat64 (env .fill) o
 
           n : ℕ
           n = wild-or 31 o (s .regs)
@@ -289,8 +289,8 @@ module _ (env : Env) where
       -- f of a destination that is read and a shift amount
       says-shift : (dst amt : Operand) → WfTwo dst amt → (i : Instruction) (f : ℕ → ℕ → ℕ)
           → Says p s (do
-            check (amount amt) (Source.valid-shift-operand load-mem64 int-to-nat64 (env .fill) (env .rule) amt)
-            update-operand load-mem64 int-to-nat64 (env .fill) (env .rule) dst i (f (read dst s) (read amt s))) s
+            check (amount amt) (Source.valid-shift-operand load-mem64 int-to-nat64 (env .fill) amt)
+            update-operand load-mem64 int-to-nat64 (env .fill) dst i (f (read dst s) (read amt s))) s
           (amount-check env p amt s (write env p dst (f (value dst s) (value amt s)) (env .fill) s))
       says-shift dst amt fits i f =
           says-amount amt (fits .1) _ _ (λ e. says-write dst i _ _ (λ d. two-are f dst amt fits d e))

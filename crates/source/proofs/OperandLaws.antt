@@ -81,7 +81,7 @@ module _ (env : Env) where
   module _ (load-mem64 : ℤ → Memory → ℕ) (loads : LoadsMem64 load-mem64) (int-to-nat64 : ℤ → ℕ) (ints : IntToNat64 int-to-nat64) where
     -- an operand that can be read has one value in both
     pub eval-operand-is : (o : Operand) (s : Config) → WfOperand o → Held env s → Run.valid-operand env o s ≡ true
-        → Source.eval-operand load-mem64 int-to-nat64 (env .fill) (env .rule) o (state-of env s) ≡ Run.eval-operand env o s
+        → Source.eval-operand load-mem64 int-to-nat64 (env .fill) o (state-of env s) ≡ Run.eval-operand env o s
     unfolding Source.eval-operand Run.eval-operand Run.valid-operand Run.cell-of
     eval-operand-is (OConst n) s fits h e = ints n fits
     eval-operand-is (OReg r) s fits h e = refl
@@ -114,14 +114,14 @@ module _ (env : Env) where
 
     -- the values of two operands that can be read
     module _ (a b : Operand) (s : Config) (fits : WfTwo a b) (h : Held env s) (e : Run.valid-operand env a s && Run.valid-operand env b s ≡ true) where
-      fst-is : Source.eval-operand load-mem64 int-to-nat64 (env .fill) (env .rule) a (state-of env s) ≡ Run.eval-operand env a s
+      fst-is : Source.eval-operand load-mem64 int-to-nat64 (env .fill) a (state-of env s) ≡ Run.eval-operand env a s
       fst-is = eval-operand-is a s (fits .0) h (both (Run.valid-operand env a s) (Run.valid-operand env b s) e .0)
 
-      snd-is : Source.eval-operand load-mem64 int-to-nat64 (env .fill) (env .rule) b (state-of env s) ≡ Run.eval-operand env b s
+      snd-is : Source.eval-operand load-mem64 int-to-nat64 (env .fill) b (state-of env s) ≡ Run.eval-operand env b s
       snd-is = eval-operand-is b s (fits .1) h (both (Run.valid-operand env a s) (Run.valid-operand env b s) e .1)
 
     pub eval-ocmp-is : (c : Ocmp) (s : Config) → WfOcmp c → Held env s → Run.valid-ocmp env c s ≡ true
-        → Source.eval-ocmp load-mem64 int-to-nat64 (env .fill) (env .rule) (state-of env s) c ≡ Run.eval-ocmp env c s
+        → Source.eval-ocmp load-mem64 int-to-nat64 (env .fill) (state-of env s) c ≡ Run.eval-ocmp env c s
     unfolding WfOcmp Source.eval-ocmp Run.eval-ocmp Run.valid-ocmp
     eval-ocmp-is (OEq a b) s fits h e = rw (fst-is a b s fits h e, snd-is a b s fits h e)
     eval-ocmp-is (ONe a b) s fits h e = rw (fst-is a b s fits h e, snd-is a b s fits h e)

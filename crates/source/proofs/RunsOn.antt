@@ -9,7 +9,6 @@ use Rattle.machine.specs.Memory.{Memory}
 use Rattle.machine.specs.declared.Operand.{Operand}
 use Rattle.machine.specs.declared.Operand.the-variants.{OConst, OReg, OMem}
 use Rattle.code.specs.declared.tree.Instruction.{Instruction}
-use Rattle.eval.specs.FlagRule.{FlagRule}
 use Rattle.source.specs.Source.{State, with-ok, with-flags, St, return, _>>=_, _>>_, get, fail, check, eval-maddr, update-reg′, update-mem, valid-operand, valid-dst-operand, update-operand-preserve-flags′, update-flags, update-cf-of, update-operand′, update-operand}
 
 -- ---- `let?` ands ok of three states, each as clear as the one before: what is left behind a checked write, one to a constant, a check and a
@@ -76,9 +75,9 @@ behind-get : (f : State → St (Unit {0})) (s : State) (b c : Bool) (u : State)
 unfolding _>>=_
 behind-get f s b c u e = rw (e, ok-got)
 
-module _ (load-mem64 : ℤ → Memory → ℕ) (int-to-nat64 : ℤ → ℕ) (fill : ℕ) (rule : FlagRule) where
+module _ (load-mem64 : ℤ → Memory → ℕ) (int-to-nat64 : ℤ → ℕ) (fill : ℕ) where
   update-leaves : (dst : Operand) (i : Instruction) (v : ℕ) (s : State)
-      → update-operand load-mem64 int-to-nat64 fill rule dst i v s
+      → update-operand load-mem64 int-to-nat64 fill dst i v s
       ≡ (tt, with-flags fill (with-ok (s .ok && valid-dst-operand dst s) (update-operand-preserve-flags′ dst v s)))
   unfolding update-operand update-operand′ update-operand-preserve-flags′ valid-dst-operand valid-operand valid-dst _>>=_
   update-leaves (OConst n) i v s = rw check-leaves (ap (λ ok. (tt, with-ok ok (with-flags fill s))) (ok-constant (s .ok) _))
@@ -90,7 +89,7 @@ module _ (load-mem64 : ℤ → Memory → ℕ) (int-to-nat64 : ℤ → ℕ) (fil
   -- a source is checked, a destination checked and written, and then flags are set by m
   one-write : (i : Instruction) (dst src : Operand) (v flags : ℕ) (m : St (Unit {0})) (s : State)
       → ((t : State) → m (with-flags fill t) ≡ (tt, with-flags flags t))
-      → (check (valid-operand src) >> (update-operand load-mem64 int-to-nat64 fill rule dst i v >> m)) s .1
+      → (check (valid-operand src) >> (update-operand load-mem64 int-to-nat64 fill dst i v >> m)) s .1
       ≡ with-ok (s .ok && valid-operand src s && valid-dst-operand dst s) (with-flags flags (update-operand-preserve-flags′ dst v s))
   unfolding _>>=_
   one-write i dst src v flags m s sets =
@@ -99,7 +98,7 @@ module _ (load-mem64 : ℤ → Memory → ℕ) (int-to-nat64 : ℤ → ℕ) (fil
   -- the same behind `get`, of the state that it got
   pub runs-on : (i : Instruction) (dst src : Operand) (v : State → ℕ) (flags : ℕ) (m : State → St (Unit {0})) (s : State)
       → ((t : State) → m s (with-flags fill t) ≡ (tt, with-flags flags t))
-      → (get >>= (λ s. check (valid-operand src) >> (update-operand load-mem64 int-to-nat64 fill rule dst i (v s) >> m s))) s .1
+      → (get >>= (λ s. check (valid-operand src) >> (update-operand load-mem64 int-to-nat64 fill dst i (v s) >> m s))) s .1
       ≡ with-ok (s .ok && valid-operand src s && valid-dst-operand dst s) (with-flags flags (update-operand-preserve-flags′ dst (v s) s))
   runs-on i dst src v flags m s sets =
       behind-get _ s (valid-operand src s) (valid-dst-operand dst s) (with-flags flags (update-operand-preserve-flags′ dst (v s) s))

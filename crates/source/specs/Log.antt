@@ -126,163 +126,164 @@ if-some log (some s) k = after log (k s)
 abbrev pub returned : State → Logged
 returned s = ([], some s)
 
-module _ (load-mem64 : ℤ → Memory → ℕ) (int-to-nat64 : ℤ → ℕ) (fill : ℕ) (rule : FlagRule) where
-  -- what the text names, over the open places and the flag rule
+module _ (load-mem64 : ℤ → Memory → ℕ) (int-to-nat64 : ℤ → ℕ) (fill : ℕ) where
+  -- what the text names, over the open places
   abbrev havoc : {A : Type 0} → State → A → ℕ
-  havoc = Source.havoc load-mem64 int-to-nat64 fill rule
+  havoc = Source.havoc load-mem64 int-to-nat64 fill
 
   -- `eval_operand`
   abbrev eval-operand : Operand → State → ℕ
-  eval-operand = Source.eval-operand load-mem64 int-to-nat64 fill rule
+  eval-operand = Source.eval-operand load-mem64 int-to-nat64 fill
 
   -- `valid_shift_operand`
   abbrev valid-shift-operand : Operand → State → Bool
-  valid-shift-operand = Source.valid-shift-operand load-mem64 int-to-nat64 fill rule
+  valid-shift-operand = Source.valid-shift-operand load-mem64 int-to-nat64 fill
 
   -- `update_operand`
   unfoldable pub update-operand : Operand → Instruction → ℕ → Noted (Unit {0})
   update-operand dst ins v = do
     check (dst-number dst) (valid-dst-operand dst)
     s ← get
-    quiet (put (Source.update-operand′ load-mem64 int-to-nat64 fill rule dst ins v s))
+    quiet (put (Source.update-operand′ load-mem64 int-to-nat64 fill dst ins v s))
 
-  -- `eval_ins`
-  unfoldable pub note-ins : Instruction → Noted (Unit {0})
-  note-ins (Mov64 dst src) = do
-    s ← get
-    check (source-number src) (valid-operand src)
-    update-operand-preserve-flags dst (eval-operand src s)
-  note-ins (Add64 dst src) = do
-    s ← get
-    check (source-number src) (valid-operand src)
-    update-operand dst (Add64 dst src) ((eval-operand dst s + eval-operand src s) % pow2-64)
-    quiet (update-flags (rule fill (s .flags) (eval-operand dst s) (eval-operand src s) 0))
-  note-ins (AddLea64 dst src1 src2) = do
-    s ← get
-    check (source-number src1) (valid-operand src1)
-    check (source-number src2) (valid-operand src2)
-    update-operand-preserve-flags dst ((eval-operand src1 s + eval-operand src2 s) % pow2-64)
-  note-ins (AddCarry64 dst src) = do
-    s ← get
-    check (source-number src) (valid-operand src)
-    let old-carry = bit (cf (s .flags))
-    let sum = eval-operand dst s + eval-operand src s + old-carry
-    update-operand dst (AddCarry64 dst src) (sum % pow2-64)
-    quiet (update-flags (havoc s (AddCarry64 dst src)))
-    quiet (update-flags (rule fill (s .flags) (eval-operand dst s) (eval-operand src s) old-carry))
-  note-ins (Adcx64 dst src) = do
-    s ← get
-    check (source-number src) (valid-operand src)
-    let old-carry = bit (cf (s .flags))
-    let sum = eval-operand dst s + eval-operand src s + old-carry
-    let new-carry = leb pow2-64 sum
-    update-operand dst (Adcx64 dst src) (sum % pow2-64)
-    quiet (update-flags (update-cf (s .flags) new-carry))
-  note-ins (Adox64 dst src) = do
-    s ← get
-    check (source-number src) (valid-operand src)
-    let old-carry = bit (overflow (s .flags))
-    let sum = eval-operand dst s + eval-operand src s + old-carry
-    let new-carry = leb pow2-64 sum
-    update-operand dst (Adox64 dst src) (sum % pow2-64)
-    quiet (update-flags (update-of (s .flags) new-carry))
-  note-ins (Sub64 dst src) = do
-    s ← get
-    check (source-number src) (valid-operand src)
-    update-operand dst (Sub64 dst src) (sub-mod 64 (eval-operand dst s) (eval-operand src s))
-  note-ins (Mul64 src) = do
-    s ← get
-    check (source-number src) (valid-operand src)
-    let hi = mul-div 64 (eval-reg Rax s) (eval-operand src s)
-    let lo = mul-mod 64 (eval-reg Rax s) (eval-operand src s)
-    quiet (update-reg Rax lo)
-    quiet (update-reg Rdx hi)
-    quiet (update-flags (havoc s (Mul64 src)))
-  note-ins (Mulx64 dst-hi dst-lo src) = do
-    s ← get
-    check (source-number src) (valid-operand src)
-    let hi = mul-div 64 (eval-reg Rdx s) (eval-operand src s)
-    let lo = mul-mod 64 (eval-reg Rdx s) (eval-operand src s)
-    update-operand-preserve-flags dst-lo lo
-    update-operand-preserve-flags dst-hi hi
-  note-ins (IMul64 dst src) = do
-    s ← get
-    check (source-number src) (valid-operand src)
-    update-operand dst (IMul64 dst src) ((eval-operand dst s * eval-operand src s) % 0x10000000000000000)
-  note-ins (Xor64 dst src) = do
-    s ← get
-    check (source-number src) (valid-operand src)
-    update-operand dst (Xor64 dst src) (ixor 64 (eval-operand dst s) (eval-operand src s))
-    quiet (update-cf-of false false)
-  note-ins (And64 dst src) = do
-    s ← get
-    check (source-number src) (valid-operand src)
-    update-operand dst (And64 dst src) (iand 64 (eval-operand dst s) (eval-operand src s))
-  note-ins (Shr64 dst amt) = do
-    s ← get
-    check (amount amt) (valid-shift-operand amt)
-    update-operand dst (Shr64 dst amt) (ishr (eval-operand dst s) (eval-operand amt s))
-  note-ins (Shl64 dst amt) = do
-    s ← get
-    check (amount amt) (valid-shift-operand amt)
-    update-operand dst (Shl64 dst amt) (ishl 64 (eval-operand dst s) (eval-operand amt s))
-  note-ins (Paddd dst src) = quiet (Source.eval-ins load-mem64 int-to-nat64 fill rule (Paddd dst src))
-  note-ins (Pxor dst src) = quiet (Source.eval-ins load-mem64 int-to-nat64 fill rule (Pxor dst src))
-  note-ins (Pslld dst amt) = do
-    s ← get
-    check-imm 34 (ltb amt 32)
-    quiet (update-xmm-preserve-flags dst (four-map (λ i. ishl 32 i amt) (eval-xmm dst s)))
-  note-ins (Psrld dst amt) = do
-    s ← get
-    check-imm 34 (ltb amt 32)
-    quiet (update-xmm-preserve-flags dst (four-map (λ i. ishr i amt) (eval-xmm dst s)))
-  note-ins (Pshufd dst src permutation) =
-      quiet (Source.eval-ins load-mem64 int-to-nat64 fill rule (Pshufd dst src permutation))
-  note-ins (Pcmpeqd dst src) = quiet (Source.eval-ins load-mem64 int-to-nat64 fill rule (Pcmpeqd dst src))
-  note-ins (Pextrq dst src index) = do
-    s ← get
-    let src-q = eval-xmm src s
-    let src-two = four-to-two-two src-q
-    let extracted-nat64 = two-to-nat 32 (two-select src-two (index % 2))
-    update-operand-preserve-flags dst extracted-nat64
-  note-ins (Pinsrd dst src index) = do
-    s ← get
-    check (source-number src) (valid-operand src)
-    let dst-q = eval-xmm dst s
-    quiet (update-xmm-preserve-flags dst (insert-nat32 dst-q (eval-operand src s % pow2-32) (index % 4)))
-  note-ins (Pinsrq dst src index) = do
-    s ← get
-    check (source-number src) (valid-operand src)
-    let dst-q = eval-xmm dst s
-    quiet (update-xmm-preserve-flags dst (insert-nat64 dst-q (eval-operand src s) (index % 2)))
-  note-ins (VPSLLDQ dst src count) = do
-    s ← get
-    check (λ s. 35) (λ s. eqb count 4)
-    let src-q = eval-xmm src s
-    let shifted-xmm = mkfour 0 (src-q .lo0) (src-q .lo1) (src-q .hi2)
-    quiet (update-xmm-preserve-flags dst shifted-xmm)
-  note-ins (Popcnt64 dst src) = do
-    s ← get
-    check (source-number src) (valid-operand src)
-    update-operand dst (Popcnt64 dst src) (popcnt 64 (eval-operand src s))
-    quiet (update-cf-of false false)
-  note-ins (Lzcnt64 dst src) = do
-    s ← get
-    check (source-number src) (valid-operand src)
-    update-operand dst (Lzcnt64 dst src) (lzcnt 64 (eval-operand src s))
-    quiet (update-flags (update-cf (havoc s (Lzcnt64 dst src)) (eqb (eval-operand src s) 0)))
-  note-ins (Tzcnt64 dst src) = do
-    s ← get
-    check (source-number src) (valid-operand src)
-    update-operand dst (Tzcnt64 dst src) (tzcnt 64 (eval-operand src s))
-    quiet (update-flags (update-cf (havoc s (Tzcnt64 dst src)) (eqb (eval-operand src s) 0)))
+  module _ (rule : FlagRule) where
+    -- `eval_ins`
+    unfoldable pub note-ins : Instruction → Noted (Unit {0})
+    note-ins (Mov64 dst src) = do
+      s ← get
+      check (source-number src) (valid-operand src)
+      update-operand-preserve-flags dst (eval-operand src s)
+    note-ins (Add64 dst src) = do
+      s ← get
+      check (source-number src) (valid-operand src)
+      update-operand dst (Add64 dst src) ((eval-operand dst s + eval-operand src s) % pow2-64)
+      quiet (update-flags (rule fill (s .flags) (eval-operand dst s) (eval-operand src s) 0))
+    note-ins (AddLea64 dst src1 src2) = do
+      s ← get
+      check (source-number src1) (valid-operand src1)
+      check (source-number src2) (valid-operand src2)
+      update-operand-preserve-flags dst ((eval-operand src1 s + eval-operand src2 s) % pow2-64)
+    note-ins (AddCarry64 dst src) = do
+      s ← get
+      check (source-number src) (valid-operand src)
+      let old-carry = bit (cf (s .flags))
+      let sum = eval-operand dst s + eval-operand src s + old-carry
+      update-operand dst (AddCarry64 dst src) (sum % pow2-64)
+      quiet (update-flags (havoc s (AddCarry64 dst src)))
+      quiet (update-flags (rule fill (s .flags) (eval-operand dst s) (eval-operand src s) old-carry))
+    note-ins (Adcx64 dst src) = do
+      s ← get
+      check (source-number src) (valid-operand src)
+      let old-carry = bit (cf (s .flags))
+      let sum = eval-operand dst s + eval-operand src s + old-carry
+      let new-carry = leb pow2-64 sum
+      update-operand dst (Adcx64 dst src) (sum % pow2-64)
+      quiet (update-flags (update-cf (s .flags) new-carry))
+    note-ins (Adox64 dst src) = do
+      s ← get
+      check (source-number src) (valid-operand src)
+      let old-carry = bit (overflow (s .flags))
+      let sum = eval-operand dst s + eval-operand src s + old-carry
+      let new-carry = leb pow2-64 sum
+      update-operand dst (Adox64 dst src) (sum % pow2-64)
+      quiet (update-flags (update-of (s .flags) new-carry))
+    note-ins (Sub64 dst src) = do
+      s ← get
+      check (source-number src) (valid-operand src)
+      update-operand dst (Sub64 dst src) (sub-mod 64 (eval-operand dst s) (eval-operand src s))
+    note-ins (Mul64 src) = do
+      s ← get
+      check (source-number src) (valid-operand src)
+      let hi = mul-div 64 (eval-reg Rax s) (eval-operand src s)
+      let lo = mul-mod 64 (eval-reg Rax s) (eval-operand src s)
+      quiet (update-reg Rax lo)
+      quiet (update-reg Rdx hi)
+      quiet (update-flags (havoc s (Mul64 src)))
+    note-ins (Mulx64 dst-hi dst-lo src) = do
+      s ← get
+      check (source-number src) (valid-operand src)
+      let hi = mul-div 64 (eval-reg Rdx s) (eval-operand src s)
+      let lo = mul-mod 64 (eval-reg Rdx s) (eval-operand src s)
+      update-operand-preserve-flags dst-lo lo
+      update-operand-preserve-flags dst-hi hi
+    note-ins (IMul64 dst src) = do
+      s ← get
+      check (source-number src) (valid-operand src)
+      update-operand dst (IMul64 dst src) ((eval-operand dst s * eval-operand src s) % 0x10000000000000000)
+    note-ins (Xor64 dst src) = do
+      s ← get
+      check (source-number src) (valid-operand src)
+      update-operand dst (Xor64 dst src) (ixor 64 (eval-operand dst s) (eval-operand src s))
+      quiet (update-cf-of false false)
+    note-ins (And64 dst src) = do
+      s ← get
+      check (source-number src) (valid-operand src)
+      update-operand dst (And64 dst src) (iand 64 (eval-operand dst s) (eval-operand src s))
+    note-ins (Shr64 dst amt) = do
+      s ← get
+      check (amount amt) (valid-shift-operand amt)
+      update-operand dst (Shr64 dst amt) (ishr (eval-operand dst s) (eval-operand amt s))
+    note-ins (Shl64 dst amt) = do
+      s ← get
+      check (amount amt) (valid-shift-operand amt)
+      update-operand dst (Shl64 dst amt) (ishl 64 (eval-operand dst s) (eval-operand amt s))
+    note-ins (Paddd dst src) = quiet (Source.eval-ins load-mem64 int-to-nat64 fill rule (Paddd dst src))
+    note-ins (Pxor dst src) = quiet (Source.eval-ins load-mem64 int-to-nat64 fill rule (Pxor dst src))
+    note-ins (Pslld dst amt) = do
+      s ← get
+      check-imm 34 (ltb amt 32)
+      quiet (update-xmm-preserve-flags dst (four-map (λ i. ishl 32 i amt) (eval-xmm dst s)))
+    note-ins (Psrld dst amt) = do
+      s ← get
+      check-imm 34 (ltb amt 32)
+      quiet (update-xmm-preserve-flags dst (four-map (λ i. ishr i amt) (eval-xmm dst s)))
+    note-ins (Pshufd dst src permutation) =
+        quiet (Source.eval-ins load-mem64 int-to-nat64 fill rule (Pshufd dst src permutation))
+    note-ins (Pcmpeqd dst src) = quiet (Source.eval-ins load-mem64 int-to-nat64 fill rule (Pcmpeqd dst src))
+    note-ins (Pextrq dst src index) = do
+      s ← get
+      let src-q = eval-xmm src s
+      let src-two = four-to-two-two src-q
+      let extracted-nat64 = two-to-nat 32 (two-select src-two (index % 2))
+      update-operand-preserve-flags dst extracted-nat64
+    note-ins (Pinsrd dst src index) = do
+      s ← get
+      check (source-number src) (valid-operand src)
+      let dst-q = eval-xmm dst s
+      quiet (update-xmm-preserve-flags dst (insert-nat32 dst-q (eval-operand src s % pow2-32) (index % 4)))
+    note-ins (Pinsrq dst src index) = do
+      s ← get
+      check (source-number src) (valid-operand src)
+      let dst-q = eval-xmm dst s
+      quiet (update-xmm-preserve-flags dst (insert-nat64 dst-q (eval-operand src s) (index % 2)))
+    note-ins (VPSLLDQ dst src count) = do
+      s ← get
+      check (λ s. 35) (λ s. eqb count 4)
+      let src-q = eval-xmm src s
+      let shifted-xmm = mkfour 0 (src-q .lo0) (src-q .lo1) (src-q .hi2)
+      quiet (update-xmm-preserve-flags dst shifted-xmm)
+    note-ins (Popcnt64 dst src) = do
+      s ← get
+      check (source-number src) (valid-operand src)
+      update-operand dst (Popcnt64 dst src) (popcnt 64 (eval-operand src s))
+      quiet (update-cf-of false false)
+    note-ins (Lzcnt64 dst src) = do
+      s ← get
+      check (source-number src) (valid-operand src)
+      update-operand dst (Lzcnt64 dst src) (lzcnt 64 (eval-operand src s))
+      quiet (update-flags (update-cf (havoc s (Lzcnt64 dst src)) (eqb (eval-operand src s) 0)))
+    note-ins (Tzcnt64 dst src) = do
+      s ← get
+      check (source-number src) (valid-operand src)
+      update-operand dst (Tzcnt64 dst src) (tzcnt 64 (eval-operand src s))
+      quiet (update-flags (update-cf (havoc s (Tzcnt64 dst src)) (eqb (eval-operand src s) 0)))
 
   -- `run_ocmp`
   unfoldable pub note-ocmp : State → Ocmp → (State × Bool) × List Note
   note-ocmp s c =
       let r = check (ocmp-number c) (valid-ocmp c) s in
       let s1 = r .0 .1 in
-      ((with-flags (havoc s1 c) s1, Source.eval-ocmp load-mem64 int-to-nat64 fill rule s1 c), r .1)
+      ((with-flags (havoc s1 c) s1, Source.eval-ocmp load-mem64 int-to-nat64 fill s1 c), r .1)
 
   -- a comparison at its place, and the way that it takes
   abbrev pub log-ocmp : ℕ → Ocmp → (State → Logged) → (State → Logged) → State → Logged
@@ -297,15 +298,16 @@ module _ (load-mem64 : ℤ → Memory → ℕ) (int-to-nat64 : ℤ → ℕ) (fil
       (λ s. let m = body fuel s in if-some (m .0) (m .1) (λ s1. choose (s1 .ok) (log-while p q c body fuel) returned s1))
       returned s0
 
-  unfoldable mutual
-    -- `eval_code`
-    pub log-code : Code → ℕ → State → Logged
-    log-code (Ins p ins) fuel s = let r = note-ins ins s in (events p s (r .1), some (r .0 .1))
-    log-code (Block p l) fuel s = log-codes l fuel s
-    log-code (IfElse p q c ifTrue ifFalse) fuel s = log-ocmp q c (log-code ifTrue fuel) (log-code ifFalse fuel) s
-    log-code (While p q b c) fuel s = log-while p q b (log-code c) fuel s
+  module _ (rule : FlagRule) where
+    unfoldable mutual
+      -- `eval_code`
+      pub log-code : Code → ℕ → State → Logged
+      log-code (Ins p ins) fuel s = let r = note-ins rule ins s in (events p s (r .1), some (r .0 .1))
+      log-code (Block p l) fuel s = log-codes l fuel s
+      log-code (IfElse p q c ifTrue ifFalse) fuel s = log-ocmp q c (log-code ifTrue fuel) (log-code ifFalse fuel) s
+      log-code (While p q b c) fuel s = log-while p q b (log-code c) fuel s
 
-    -- `eval_codes`
-    pub log-codes : Codes → ℕ → State → Logged
-    log-codes ⟨⟩ fuel s = returned s
-    log-codes (c ∷ᶜ tl) fuel s = let m = log-code c fuel s in if-some (m .0) (m .1) (log-codes tl fuel)
+      -- `eval_codes`
+      pub log-codes : Codes → ℕ → State → Logged
+      log-codes ⟨⟩ fuel s = returned s
+      log-codes (c ∷ᶜ tl) fuel s = let m = log-code c fuel s in if-some (m .0) (m .1) (log-codes tl fuel)

@@ -207,7 +207,7 @@ update-cf-of new-cf new-of = do
   s ← get
   put (with-flags (update-cf (update-of (s .flags) new-of) new-cf) s)
 
-module _ (load-mem64 : ℤ → Memory → ℕ) (int-to-nat64 : ℤ → ℕ) (fill : ℕ) (rule : FlagRule) where
+module _ (load-mem64 : ℤ → Memory → ℕ) (int-to-nat64 : ℤ → ℕ) (fill : ℕ) where
   -- `havoc`, of a state and an instruction or comparison
   abbrev pub havoc : {A : Type 0} → State → A → ℕ
   havoc s a = fill
@@ -252,164 +252,165 @@ module _ (load-mem64 : ℤ → Memory → ℕ) (int-to-nat64 : ℤ → ℕ) (fil
     s ← get
     put (with-flags (havoc s ins) (update-xmm′ x v s))
 
-  -- `eval_ins`
-  unfoldable pub eval-ins : Instruction → St (Unit {0})
-  eval-ins (Mov64 dst src) = do
-    s ← get
-    check (valid-operand src)
-    update-operand-preserve-flags dst (eval-operand src s)
-  eval-ins (Add64 dst src) = do
-    s ← get
-    check (valid-operand src)
-    update-operand dst (Add64 dst src) ((eval-operand dst s + eval-operand src s) % pow2-64)
-    update-flags (rule fill (s .flags) (eval-operand dst s) (eval-operand src s) 0)
-  eval-ins (AddLea64 dst src1 src2) = do
-    s ← get
-    check (valid-operand src1)
-    check (valid-operand src2)
-    update-operand-preserve-flags dst ((eval-operand src1 s + eval-operand src2 s) % pow2-64)
-  eval-ins (AddCarry64 dst src) = do
-    s ← get
-    check (valid-operand src)
-    let old-carry = bit (cf (s .flags))
-    let sum = eval-operand dst s + eval-operand src s + old-carry
-    update-operand dst (AddCarry64 dst src) (sum % pow2-64)
-    update-flags (havoc s (AddCarry64 dst src))
-    update-flags (rule fill (s .flags) (eval-operand dst s) (eval-operand src s) old-carry)
-  eval-ins (Adcx64 dst src) = do
-    s ← get
-    check (valid-operand src)
-    let old-carry = bit (cf (s .flags))
-    let sum = eval-operand dst s + eval-operand src s + old-carry
-    let new-carry = leb pow2-64 sum
-    update-operand dst (Adcx64 dst src) (sum % pow2-64)
-    update-flags (update-cf (s .flags) new-carry)
-  eval-ins (Adox64 dst src) = do
-    s ← get
-    check (valid-operand src)
-    let old-carry = bit (overflow (s .flags))
-    let sum = eval-operand dst s + eval-operand src s + old-carry
-    let new-carry = leb pow2-64 sum
-    update-operand dst (Adox64 dst src) (sum % pow2-64)
-    update-flags (update-of (s .flags) new-carry)
-  eval-ins (Sub64 dst src) = do
-    s ← get
-    check (valid-operand src)
-    update-operand dst (Sub64 dst src) (sub-mod 64 (eval-operand dst s) (eval-operand src s))
-  eval-ins (Mul64 src) = do
-    s ← get
-    check (valid-operand src)
-    let hi = mul-div 64 (eval-reg Rax s) (eval-operand src s)
-    let lo = mul-mod 64 (eval-reg Rax s) (eval-operand src s)
-    update-reg Rax lo
-    update-reg Rdx hi
-    update-flags (havoc s (Mul64 src))
-  eval-ins (Mulx64 dst-hi dst-lo src) = do
-    s ← get
-    check (valid-operand src)
-    let hi = mul-div 64 (eval-reg Rdx s) (eval-operand src s)
-    let lo = mul-mod 64 (eval-reg Rdx s) (eval-operand src s)
-    update-operand-preserve-flags dst-lo lo
-    update-operand-preserve-flags dst-hi hi
-  eval-ins (IMul64 dst src) = do
-    s ← get
-    check (valid-operand src)
-    update-operand dst (IMul64 dst src) ((eval-operand dst s * eval-operand src s) % 0x10000000000000000)
-  eval-ins (Xor64 dst src) = do
-    s ← get
-    check (valid-operand src)
-    update-operand dst (Xor64 dst src) (ixor 64 (eval-operand dst s) (eval-operand src s))
-    update-cf-of false false
-  eval-ins (And64 dst src) = do
-    s ← get
-    check (valid-operand src)
-    update-operand dst (And64 dst src) (iand 64 (eval-operand dst s) (eval-operand src s))
-  eval-ins (Shr64 dst amt) = do
-    s ← get
-    check (valid-shift-operand amt)
-    update-operand dst (Shr64 dst amt) (ishr (eval-operand dst s) (eval-operand amt s))
-  eval-ins (Shl64 dst amt) = do
-    s ← get
-    check (valid-shift-operand amt)
-    update-operand dst (Shl64 dst amt) (ishl 64 (eval-operand dst s) (eval-operand amt s))
-  eval-ins (Paddd dst src) = do
-    s ← get
-    let src-q = eval-xmm src s
-    let dst-q = eval-xmm dst s
-    update-xmm dst (Paddd dst src) (mkfour
-        ((dst-q .lo0 + src-q .lo0) % pow2-32)
-        ((dst-q .lo1 + src-q .lo1) % pow2-32)
-        ((dst-q .hi2 + src-q .hi2) % pow2-32)
-        ((dst-q .hi3 + src-q .hi3) % pow2-32))
-  eval-ins (Pxor dst src) = do
-    s ← get
-    update-xmm-preserve-flags dst (quad32-xor (eval-xmm dst s) (eval-xmm src s))
-  eval-ins (Pslld dst amt) = do
-    s ← get
-    check-imm (ltb amt 32)
-    update-xmm-preserve-flags dst (four-map (λ i. ishl 32 i amt) (eval-xmm dst s))
-  eval-ins (Psrld dst amt) = do
-    s ← get
-    check-imm (ltb amt 32)
-    update-xmm-preserve-flags dst (four-map (λ i. ishr i amt) (eval-xmm dst s))
-  eval-ins (Pshufd dst src permutation) = do
-    s ← get
-    let bits = byte-to-twobits permutation
-    let src-val = eval-xmm src s
-    let permuted-xmm = mkfour
-        (select-word src-val (bits .lo0))
-        (select-word src-val (bits .lo1))
-        (select-word src-val (bits .hi2))
-        (select-word src-val (bits .hi3))
-    update-xmm-preserve-flags dst permuted-xmm
-  eval-ins (Pcmpeqd dst src) = do
-    s ← get
-    let src-q = eval-xmm src s
-    let dst-q = eval-xmm dst s
-    let eq-val = mkfour
-        (cond (eqb (src-q .lo0) (dst-q .lo0)) 0xFFFFFFFF 0)
-        (cond (eqb (src-q .lo1) (dst-q .lo1)) 0xFFFFFFFF 0)
-        (cond (eqb (src-q .hi2) (dst-q .hi2)) 0xFFFFFFFF 0)
-        (cond (eqb (src-q .hi3) (dst-q .hi3)) 0xFFFFFFFF 0)
-    update-xmm-preserve-flags dst eq-val
-  eval-ins (Pextrq dst src index) = do
-    s ← get
-    let src-q = eval-xmm src s
-    let src-two = four-to-two-two src-q
-    let extracted-nat64 = two-to-nat 32 (two-select src-two (index % 2))
-    update-operand-preserve-flags dst extracted-nat64
-  eval-ins (Pinsrd dst src index) = do
-    s ← get
-    check (valid-operand src)
-    let dst-q = eval-xmm dst s
-    update-xmm-preserve-flags dst (insert-nat32 dst-q (eval-operand src s % pow2-32) (index % 4))
-  eval-ins (Pinsrq dst src index) = do
-    s ← get
-    check (valid-operand src)
-    let dst-q = eval-xmm dst s
-    update-xmm-preserve-flags dst (insert-nat64 dst-q (eval-operand src s) (index % 2))
-  eval-ins (VPSLLDQ dst src count) = do
-    s ← get
-    check (λ s. eqb count 4)
-    let src-q = eval-xmm src s
-    let shifted-xmm = mkfour 0 (src-q .lo0) (src-q .lo1) (src-q .hi2)
-    update-xmm-preserve-flags dst shifted-xmm
-  -- by request 2026-02
-  eval-ins (Popcnt64 dst src) = do
-    s ← get
-    check (valid-operand src)
-    update-operand dst (Popcnt64 dst src) (popcnt 64 (eval-operand src s))
-    update-cf-of false false
-  eval-ins (Lzcnt64 dst src) = do
-    s ← get
-    check (valid-operand src)
-    update-operand dst (Lzcnt64 dst src) (lzcnt 64 (eval-operand src s))
-    update-flags (update-cf (havoc s (Lzcnt64 dst src)) (eqb (eval-operand src s) 0))
-  eval-ins (Tzcnt64 dst src) = do
-    s ← get
-    check (valid-operand src)
-    update-operand dst (Tzcnt64 dst src) (tzcnt 64 (eval-operand src s))
-    update-flags (update-cf (havoc s (Tzcnt64 dst src)) (eqb (eval-operand src s) 0))
+  module _ (rule : FlagRule) where
+    -- `eval_ins`
+    unfoldable pub eval-ins : Instruction → St (Unit {0})
+    eval-ins (Mov64 dst src) = do
+      s ← get
+      check (valid-operand src)
+      update-operand-preserve-flags dst (eval-operand src s)
+    eval-ins (Add64 dst src) = do
+      s ← get
+      check (valid-operand src)
+      update-operand dst (Add64 dst src) ((eval-operand dst s + eval-operand src s) % pow2-64)
+      update-flags (rule fill (s .flags) (eval-operand dst s) (eval-operand src s) 0)
+    eval-ins (AddLea64 dst src1 src2) = do
+      s ← get
+      check (valid-operand src1)
+      check (valid-operand src2)
+      update-operand-preserve-flags dst ((eval-operand src1 s + eval-operand src2 s) % pow2-64)
+    eval-ins (AddCarry64 dst src) = do
+      s ← get
+      check (valid-operand src)
+      let old-carry = bit (cf (s .flags))
+      let sum = eval-operand dst s + eval-operand src s + old-carry
+      update-operand dst (AddCarry64 dst src) (sum % pow2-64)
+      update-flags (havoc s (AddCarry64 dst src))
+      update-flags (rule fill (s .flags) (eval-operand dst s) (eval-operand src s) old-carry)
+    eval-ins (Adcx64 dst src) = do
+      s ← get
+      check (valid-operand src)
+      let old-carry = bit (cf (s .flags))
+      let sum = eval-operand dst s + eval-operand src s + old-carry
+      let new-carry = leb pow2-64 sum
+      update-operand dst (Adcx64 dst src) (sum % pow2-64)
+      update-flags (update-cf (s .flags) new-carry)
+    eval-ins (Adox64 dst src) = do
+      s ← get
+      check (valid-operand src)
+      let old-carry = bit (overflow (s .flags))
+      let sum = eval-operand dst s + eval-operand src s + old-carry
+      let new-carry = leb pow2-64 sum
+      update-operand dst (Adox64 dst src) (sum % pow2-64)
+      update-flags (update-of (s .flags) new-carry)
+    eval-ins (Sub64 dst src) = do
+      s ← get
+      check (valid-operand src)
+      update-operand dst (Sub64 dst src) (sub-mod 64 (eval-operand dst s) (eval-operand src s))
+    eval-ins (Mul64 src) = do
+      s ← get
+      check (valid-operand src)
+      let hi = mul-div 64 (eval-reg Rax s) (eval-operand src s)
+      let lo = mul-mod 64 (eval-reg Rax s) (eval-operand src s)
+      update-reg Rax lo
+      update-reg Rdx hi
+      update-flags (havoc s (Mul64 src))
+    eval-ins (Mulx64 dst-hi dst-lo src) = do
+      s ← get
+      check (valid-operand src)
+      let hi = mul-div 64 (eval-reg Rdx s) (eval-operand src s)
+      let lo = mul-mod 64 (eval-reg Rdx s) (eval-operand src s)
+      update-operand-preserve-flags dst-lo lo
+      update-operand-preserve-flags dst-hi hi
+    eval-ins (IMul64 dst src) = do
+      s ← get
+      check (valid-operand src)
+      update-operand dst (IMul64 dst src) ((eval-operand dst s * eval-operand src s) % 0x10000000000000000)
+    eval-ins (Xor64 dst src) = do
+      s ← get
+      check (valid-operand src)
+      update-operand dst (Xor64 dst src) (ixor 64 (eval-operand dst s) (eval-operand src s))
+      update-cf-of false false
+    eval-ins (And64 dst src) = do
+      s ← get
+      check (valid-operand src)
+      update-operand dst (And64 dst src) (iand 64 (eval-operand dst s) (eval-operand src s))
+    eval-ins (Shr64 dst amt) = do
+      s ← get
+      check (valid-shift-operand amt)
+      update-operand dst (Shr64 dst amt) (ishr (eval-operand dst s) (eval-operand amt s))
+    eval-ins (Shl64 dst amt) = do
+      s ← get
+      check (valid-shift-operand amt)
+      update-operand dst (Shl64 dst amt) (ishl 64 (eval-operand dst s) (eval-operand amt s))
+    eval-ins (Paddd dst src) = do
+      s ← get
+      let src-q = eval-xmm src s
+      let dst-q = eval-xmm dst s
+      update-xmm dst (Paddd dst src) (mkfour
+          ((dst-q .lo0 + src-q .lo0) % pow2-32)
+          ((dst-q .lo1 + src-q .lo1) % pow2-32)
+          ((dst-q .hi2 + src-q .hi2) % pow2-32)
+          ((dst-q .hi3 + src-q .hi3) % pow2-32))
+    eval-ins (Pxor dst src) = do
+      s ← get
+      update-xmm-preserve-flags dst (quad32-xor (eval-xmm dst s) (eval-xmm src s))
+    eval-ins (Pslld dst amt) = do
+      s ← get
+      check-imm (ltb amt 32)
+      update-xmm-preserve-flags dst (four-map (λ i. ishl 32 i amt) (eval-xmm dst s))
+    eval-ins (Psrld dst amt) = do
+      s ← get
+      check-imm (ltb amt 32)
+      update-xmm-preserve-flags dst (four-map (λ i. ishr i amt) (eval-xmm dst s))
+    eval-ins (Pshufd dst src permutation) = do
+      s ← get
+      let bits = byte-to-twobits permutation
+      let src-val = eval-xmm src s
+      let permuted-xmm = mkfour
+          (select-word src-val (bits .lo0))
+          (select-word src-val (bits .lo1))
+          (select-word src-val (bits .hi2))
+          (select-word src-val (bits .hi3))
+      update-xmm-preserve-flags dst permuted-xmm
+    eval-ins (Pcmpeqd dst src) = do
+      s ← get
+      let src-q = eval-xmm src s
+      let dst-q = eval-xmm dst s
+      let eq-val = mkfour
+          (cond (eqb (src-q .lo0) (dst-q .lo0)) 0xFFFFFFFF 0)
+          (cond (eqb (src-q .lo1) (dst-q .lo1)) 0xFFFFFFFF 0)
+          (cond (eqb (src-q .hi2) (dst-q .hi2)) 0xFFFFFFFF 0)
+          (cond (eqb (src-q .hi3) (dst-q .hi3)) 0xFFFFFFFF 0)
+      update-xmm-preserve-flags dst eq-val
+    eval-ins (Pextrq dst src index) = do
+      s ← get
+      let src-q = eval-xmm src s
+      let src-two = four-to-two-two src-q
+      let extracted-nat64 = two-to-nat 32 (two-select src-two (index % 2))
+      update-operand-preserve-flags dst extracted-nat64
+    eval-ins (Pinsrd dst src index) = do
+      s ← get
+      check (valid-operand src)
+      let dst-q = eval-xmm dst s
+      update-xmm-preserve-flags dst (insert-nat32 dst-q (eval-operand src s % pow2-32) (index % 4))
+    eval-ins (Pinsrq dst src index) = do
+      s ← get
+      check (valid-operand src)
+      let dst-q = eval-xmm dst s
+      update-xmm-preserve-flags dst (insert-nat64 dst-q (eval-operand src s) (index % 2))
+    eval-ins (VPSLLDQ dst src count) = do
+      s ← get
+      check (λ s. eqb count 4)
+      let src-q = eval-xmm src s
+      let shifted-xmm = mkfour 0 (src-q .lo0) (src-q .lo1) (src-q .hi2)
+      update-xmm-preserve-flags dst shifted-xmm
+    -- by request 2026-02
+    eval-ins (Popcnt64 dst src) = do
+      s ← get
+      check (valid-operand src)
+      update-operand dst (Popcnt64 dst src) (popcnt 64 (eval-operand src s))
+      update-cf-of false false
+    eval-ins (Lzcnt64 dst src) = do
+      s ← get
+      check (valid-operand src)
+      update-operand dst (Lzcnt64 dst src) (lzcnt 64 (eval-operand src s))
+      update-flags (update-cf (havoc s (Lzcnt64 dst src)) (eqb (eval-operand src s) 0))
+    eval-ins (Tzcnt64 dst src) = do
+      s ← get
+      check (valid-operand src)
+      update-operand dst (Tzcnt64 dst src) (tzcnt 64 (eval-operand src s))
+      update-flags (update-cf (havoc s (Tzcnt64 dst src)) (eqb (eval-operand src s) 0))
 
   -- `run_ocmp`
   unfoldable pub run-ocmp : State → Ocmp → State × Bool
@@ -426,16 +427,17 @@ module _ (load-mem64 : ℤ → Memory → ℕ) (int-to-nat64 : ℤ → ℕ) (fil
       (λ s. if-some (body fuel s) (λ s1. choose (s1 .ok) (eval-while c body fuel) some s1))
       some (r .0)
 
-  unfoldable mutual
-    -- `eval_code`
-    pub eval-code : Code → ℕ → State → Option State
-    eval-code (Ins p ins) fuel s = some (run (eval-ins ins) s)
-    eval-code (Block p l) fuel s = eval-codes l fuel s
-    eval-code (IfElse p q c ifTrue ifFalse) fuel s =
-        let r = run-ocmp s c in choose (r .1) (eval-code ifTrue fuel) (eval-code ifFalse fuel) (r .0)
-    eval-code (While p q b c) fuel s = eval-while b (eval-code c) fuel s
+  module _ (rule : FlagRule) where
+    unfoldable mutual
+      -- `eval_code`
+      pub eval-code : Code → ℕ → State → Option State
+      eval-code (Ins p ins) fuel s = some (run (eval-ins rule ins) s)
+      eval-code (Block p l) fuel s = eval-codes l fuel s
+      eval-code (IfElse p q c ifTrue ifFalse) fuel s =
+          let r = run-ocmp s c in choose (r .1) (eval-code ifTrue fuel) (eval-code ifFalse fuel) (r .0)
+      eval-code (While p q b c) fuel s = eval-while b (eval-code c) fuel s
 
-    -- `eval_codes`
-    pub eval-codes : Codes → ℕ → State → Option State
-    eval-codes ⟨⟩ fuel s = some s
-    eval-codes (c ∷ᶜ tl) fuel s = if-some (eval-code c fuel s) (eval-codes tl fuel)
+      -- `eval_codes`
+      pub eval-codes : Codes → ℕ → State → Option State
+      eval-codes ⟨⟩ fuel s = some s
+      eval-codes (c ∷ᶜ tl) fuel s = if-some (eval-code c fuel s) (eval-codes tl fuel)

@@ -37,15 +37,15 @@ module _ (load-mem64 : ℤ → Memory → ℕ) (int-to-nat64 : ℤ → ℕ) (fil
 
   -- `eval_operand`
   abbrev eval-operand : Operand → State → ℕ
-  eval-operand = Source.eval-operand load-mem64 int-to-nat64 fill base-flags
+  eval-operand = Source.eval-operand load-mem64 int-to-nat64 fill
 
   -- `update_operand`
   abbrev update-operand : Operand → Instruction → ℕ → St (Unit {0})
-  update-operand = Source.update-operand load-mem64 int-to-nat64 fill base-flags
+  update-operand = Source.update-operand load-mem64 int-to-nat64 fill
 
   -- `havoc`
   abbrev havoc : State → Instruction → ℕ
-  havoc = Source.havoc load-mem64 int-to-nat64 fill base-flags
+  havoc = Source.havoc load-mem64 int-to-nat64 fill
 
   -- `eval_code`
   abbrev eval-code : Code → ℕ → State → Option State
@@ -57,11 +57,11 @@ module _ (load-mem64 : ℤ → Memory → ℕ) (int-to-nat64 : ℤ → ℕ) (fil
 
   -- `eval_while b c`
   abbrev eval-while : Ocmp → Code → ℕ → State → Option State
-  eval-while b c = Source.eval-while load-mem64 int-to-nat64 fill base-flags b (Source.eval-code load-mem64 int-to-nat64 fill base-flags c)
+  eval-while b c = Source.eval-while load-mem64 int-to-nat64 fill b (Source.eval-code load-mem64 int-to-nat64 fill base-flags c)
 
   -- `run_ocmp`
   abbrev run-ocmp : State → Ocmp → State × Bool
-  run-ocmp = Source.run-ocmp load-mem64 int-to-nat64 fill base-flags
+  run-ocmp = Source.run-ocmp load-mem64 int-to-nat64 fill
 
   -- `eval_ins` of Add64
   abbrev pub add64-text : Operand → Operand → St (Unit {0})

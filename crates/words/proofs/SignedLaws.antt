@@ -21,17 +21,16 @@ use Rattle.words.proofs.SumLaws.{sum-mod-lt, added-number}
 use Rattle.words.proofs.Differences.{sub-eq, pos-sub, neg-sub, sub-plus, sub-sub}
 
 module _ (n x : ℕ) where
-  pub sub-low : x < 2 ^ (n - 1) → signed-word n x ≡ subℕ x 0
-  unfolding signed-word
-  sub-low h = rw (lt-ltb x (2 ^ (n - 1)) h) (pos-sub x)
-
-  pub sub-high : 2 ^ (n - 1) ≤ x → signed-word n x ≡ subℕ x (2 ^ n)
-  unfolding signed-word
-  sub-high h = rw (le-ltb x (2 ^ (n - 1)) h) (neg-sub x (2 ^ n))
-
   pub not-negative : x < 2 ^ (n - 1) → signed-word n x ≡ pos x
   unfolding signed-word
   not-negative h = rw (lt-ltb x (2 ^ (n - 1)) h)
+
+  sub-low : x < 2 ^ (n - 1) → signed-word n x ≡ subℕ x 0
+  sub-low h = not-negative h ∙ pos-sub x
+
+  sub-high : 2 ^ (n - 1) ≤ x → signed-word n x ≡ subℕ x (2 ^ n)
+  unfolding signed-word
+  sub-high h = rw (le-ltb x (2 ^ (n - 1)) h) (neg-sub x (2 ^ n))
 
   pub is-negative : 2 ^ (n - 1) ≤ x → x < 2 ^ n → signed-word n x ≡ negsuc (2 ^ n - 1 - x)
   is-negative h k = sub-high h ∙ rw (lt-ltb x (2 ^ n) k) (ap negsuc (omega arith))
@@ -60,7 +59,7 @@ module _ (w : Width) (n : ℕ) (full : 2 ^ n ≡ 2 ^ bits w) (half : 2 ^ (n - 1)
 
 -- ---- sums
 -- two words that are x and y too large as signed numbers
-pub sum-sub : (n a b c x y : ℕ) → signed-word n a ≡ subℕ a x → signed-word n b ≡ subℕ b y → signed-sum n a b c ≡ subℕ (a + b + c) (x + y)
+sum-sub : (n a b c x y : ℕ) → signed-word n a ≡ subℕ a x → signed-word n b ≡ subℕ b y → signed-sum n a b c ≡ subℕ (a + b + c) (x + y)
 unfolding signed-sum
 sum-sub n a b c x y p q = rw (p, q) (ap (λ (z : ℤ). z +ℤ pos c) (sub-sub a x b y) ∙ sub-plus (a + b) (x + y) c)
 
@@ -90,13 +89,13 @@ module _ (n s t : ℕ) where
       let positive : 2 ^ (n - 1) ≡ suc (2 ^ (n - 1) - 1) = omega (arith, pow-pos (n - 1)) in
       ap (λ (h : ℕ). ltZ (subℕ s t) (negℤ (pos h)) || leZ (pos h) (subℕ s t)) positive
 
-  pub leaves-below : s + 2 ^ (n - 1) < t → leaves n (subℕ s t) ≡ true
+  leaves-below : s + 2 ^ (n - 1) < t → leaves n (subℕ s t) ≡ true
   leaves-below h = is-outside ∙ below (2 ^ (n - 1) - 1) s t (omega (arith, pow-pos (n - 1)))
 
-  pub leaves-above : t + 2 ^ (n - 1) ≤ s → leaves n (subℕ s t) ≡ true
+  leaves-above : t + 2 ^ (n - 1) ≤ s → leaves n (subℕ s t) ≡ true
   leaves-above h = is-outside ∙ above (2 ^ (n - 1) - 1) s t (omega (arith, pow-pos (n - 1)))
 
-  pub leaves-not : t ≤ s + 2 ^ (n - 1) → s < t + 2 ^ (n - 1) → leaves n (subℕ s t) ≡ false
+  leaves-not : t ≤ s + 2 ^ (n - 1) → s < t + 2 ^ (n - 1) → leaves n (subℕ s t) ≡ false
   leaves-not h k = is-outside ∙ within (2 ^ (n - 1) - 1) s t (omega (arith, pow-pos (n - 1))) (omega (arith, pow-pos (n - 1)))
 
 -- the number of a word is in the range
@@ -203,8 +202,8 @@ module _ (n a b word : ℕ) (carry out : Bool) (twice : 2 ^ n ≡ 2 ^ (n - 1) + 
       go true true p q =
           let h = leb-true _ a p in
           let k = leb-true _ b q in
-          let positive : negative word ≡ true = not-false _ (sym (both-high h k) ∙ stays) in
-          high-word (2 ^ n) (2 ^ n) (sub-high n a h) (sub-high n b k) (leb-true _ word positive) (omega (arith, wrapped h k))
+          let stays-negative : negative word ≡ true = not-false _ (sym (both-high h k) ∙ stays) in
+          high-word (2 ^ n) (2 ^ n) (sub-high n a h) (sub-high n b k) (leb-true _ word stays-negative) (omega (arith, wrapped h k))
       go true false p q =
           let h = leb-true _ a p in
           let k = leb-false _ b q in

@@ -5,7 +5,7 @@ ghost use Rattle.words.specs.Signed.{signed-word, signed-sum, leaves};
 use crate::sums::add64;
 
 // The lowest word that is a negative number.
-const SIGN: u64 = 9223372036854775808;
+const SIGN: u64 = 0x8000_0000_0000_0000;
 
 // Two's complement without a cast that loses bits.
 pub fn signed16(n: u16) -> i16

@@ -160,12 +160,40 @@ fn half(x: u64) -> u16 {
     (x % 0x1_0000) as u16
 }
 
-// Signed numbers are told by which of two is the lesser.
-fn signed(op: u8, x: u64, y: u64, carry: bool) -> bool {
+// Whether a number is below the one that is picked, and whether it is above.
+fn beside16(n: i16, pick: u8) -> Pair {
+    let m = match pick {
+        0 => -32768,
+        1 => -1,
+        2 => 0,
+        3 => 1,
+        _ => 32767,
+    };
+    Pair {
+        lo: (n < m) as u64,
+        hi: (m < n) as u64,
+    }
+}
+
+fn beside64(n: i64, pick: u8) -> Pair {
+    let m = match pick {
+        0 => -9223372036854775808,
+        1 => -1,
+        2 => 0,
+        3 => 1,
+        _ => 9223372036854775807,
+    };
+    Pair {
+        lo: (n < m) as u64,
+        hi: (m < n) as u64,
+    }
+}
+
+fn signed(op: u8, x: u64, y: u64, s: u64) -> Pair {
     match op {
-        42 => words::signed16(half(x)) < words::signed16(half(y)),
-        43 => words::signed64(x) < words::signed64(y),
-        _ => words::add_overflows(x, y, carry),
+        42 => beside16(words::signed16(half(x)), byte(s)),
+        43 => beside64(words::signed64(x), byte(s)),
+        _ => one(words::add_overflows(x, y, s == 1) as u64),
     }
 }
 
@@ -182,6 +210,6 @@ pub fn apply(op: u8, x: Pair, y: Pair, s: u64) -> Pair {
         37 => one(words::select_word(quad(x), byte(s)) as u64),
         38 => one(words::extract_nat64(quad(x), byte(s))),
         39..=41 => one(counts(op, x.lo)),
-        _ => one(signed(op, x.lo, y.lo, s == 1) as u64),
+        _ => signed(op, x.lo, y.lo, s),
     }
 }
