@@ -52,11 +52,9 @@ static sum add_with_carry(uint64_t a, uint64_t b, uint8_t carry)
     return s;
 }
 
-static void differ(uint8_t kind, uint64_t a, uint64_t b, uint64_t flags, uint64_t fill, uint64_t word, uint64_t left)
+static void print_sum(const char *name, uint64_t word, uint64_t flags)
 {
-    printf("kind %02x of %#" PRIx64 " and %#" PRIx64 ", flags %#" PRIx64 ", fill %#" PRIx64 ": the board leaves %#" PRIx64
-           " and flags %#" PRIx64 "\n", kind, a, b, flags, fill, word, left);
-    exit(1);
+    printf("%s: %#" PRIx64 ", flags %#" PRIx64 "\n", name, word, flags);
 }
 
 /* Rbx is added to Rax by an instruction of this kind; there are no cells. */
@@ -75,8 +73,13 @@ static void compare(uint8_t kind, uint64_t a, uint64_t b, uint64_t flags, uint64
                                POKCHREI_BOARD, &number, &place, &steps);
     sum s = kind == POKCHREI_ADD64 ? add(a, b) : add_with_carry(a, b, flags & CARRY);
     uint64_t expected = (fill & ~(uint64_t)(CARRY | OVERFLOW)) | (s.carry ? CARRY : 0) | (s.overflow ? OVERFLOW : 0);
-    if (end != POKCHREI_DONE || steps != 1 || regs[POKCHREI_RAX] != s.word || left != expected)
-        differ(kind, a, b, flags, fill, regs[POKCHREI_RAX], left);
+    if (end != POKCHREI_DONE || steps != 1 || regs[POKCHREI_RAX] != s.word || left != expected) {
+        printf("kind %02x of %#" PRIx64 " and %#" PRIx64 ", flags %#" PRIx64 ", fill %#" PRIx64 "\n", kind, a, b, flags, fill);
+        print_sum("expected by the processor", s.word, expected);
+        print_sum("left on the board", regs[POKCHREI_RAX], left);
+        printf("end %u after %" PRIu64 " steps\n", end, steps);
+        exit(1);
+    }
     done++;
     carried += s.carry;
     overflowed += s.overflow;
@@ -107,8 +110,10 @@ int main(int count, char **words)
             compare_all(edge(i), edge(j), 0, UINT64_MAX);
             compare_all(edge(i), edge(j), UINT64_MAX, 0);
         }
-    for (uint64_t i = 0; i < pairs; i++)
-        compare_all(draw(), draw(), draw(), draw());
+    for (uint64_t i = 0; i < pairs; i++) {
+        uint64_t a = draw(), b = draw(), flags = draw(), fill = draw();
+        compare_all(a, b, flags, fill);
+    }
     printf("%" PRIu64 " additions, seed %" PRIu64 ", %" PRIu64 " with carry and %" PRIu64
            " with overflow: the board leaves sum, carry and overflow as ADD and ADC do\n", done, seed, carried, overflowed);
     return 0;

@@ -1,5 +1,5 @@
 #!/bin/sh
-# Builds the C examples over the proved static library, runs each, and holds what it prints to what the scope shows.
+# Builds the C examples over the proved static library, runs each, and holds what it prints to what it has to print.
 set -eu
 cd "$(dirname "$0")/.."
 rt staticlib capi
@@ -8,7 +8,8 @@ mkdir -p target
 # Compares what example $1 prints with standard input.
 example() {
     ${CC:-cc} -std=c11 -Wall -Wextra -Werror -Iinclude "examples/$1.c" target/staticlib/libcapi.a -o "target/$1"
-    "target/$1" | tee "target/$1.out"
+    "target/$1" >"target/$1.out"
+    cat "target/$1.out"
     cmp - "target/$1.out"
 }
 

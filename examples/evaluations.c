@@ -25,7 +25,7 @@ static void print_end(uint8_t evaluation, uint64_t rax, uint64_t flags)
     if (kind == POKCHREI_DONE)
         printf("Rax %" PRIu64 ", flags %" PRIu64 "\n", regs[POKCHREI_RAX], flags);
     else
-        printf("refused %u at %zu\n", number, place);
+        printf("%s %u at %zu\n", kind == POKCHREI_REFUSED ? "refused" : "not done", number, place);
 }
 
 int main(void)

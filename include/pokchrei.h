@@ -40,8 +40,9 @@ enum pokchrei_stop {
  */
 enum pokchrei_evaluation {
     POKCHREI_BASE = 0, /* the old flags but for the carry, as F* has it; the job program's */
-    POKCHREI_BOARD = 1 /* as on the board: overflow is set exactly where the sum of the operands as signed numbers, with
-                          the old carry in AddCarry64, leaves -2^63 to 2^63 - 1; the other bits are the fill word's */
+    POKCHREI_BOARD = 1 /* the fill word but for the carry and for overflow, which tells whether destination + source, each
+                          read as two's complement, and in AddCarry64 + the old carry, is outside the signed range of 64
+                          bits */
 };
 
 /* The largest limit: at a step a nanosecond it lasts for 584 years. */
@@ -98,7 +99,7 @@ uint8_t pokchrei_check_cells(const uint64_t *addresses, size_t address_count, co
  * Runs code over lent cells. The start is read from regs, xmms (word j of xmm i at 4 * i + j), flags and values, and
  * the end is written there: for a fault, a stopped and a spent run as it was just before that instruction, comparison
  * or loop test; for a refusal as lent. Answers a pokchrei_kind; *number and *place belong to it, and are 0 where it
- * has none. The evaluation is a pokchrei_evaluation; any other number is refused ahead of all else.
+ * has none. The evaluation is a pokchrei_evaluation; any other byte is refused ahead of all else.
  *
  * *steps is the number of steps made: of instructions completed and of comparisons that passed their check; 0 for a
  * refusal. With as many as limit made, the run is stopped where an instruction or a comparison comes next, ahead of its

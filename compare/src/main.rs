@@ -1,6 +1,6 @@
 //! An evaluator and a builder written apart from the port, from document 01,
-//! requests 2026-01 to 2026-06 and the F* text alone, and their comparison
-//! with it.
+//! requests 2026-01 to 2026-06 and the F* text (the README says what else was
+//! seen), and their comparison with it.
 
 // Calls of the linked port are the only ones that Rust cannot check.
 #![cfg_attr(not(feature = "c_target"), forbid(unsafe_code))]

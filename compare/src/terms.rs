@@ -8,7 +8,7 @@ use std::fmt;
 pub enum Evaluation {
     /// F*'s, which the job program has.
     Base,
-    /// Overflow as the board sets it, in Add64 and AddCarry64.
+    /// Add64 and AddCarry64 tell by overflow whether their signed sum fits.
     Board,
 }
 

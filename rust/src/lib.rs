@@ -77,8 +77,8 @@ pub enum Evaluation {
     /// The old flags but for the carry, as F* has it. The job program has this one.
     #[default]
     Base,
-    /// As on the board: overflow set exactly where the sum of the operands as signed numbers, with the old carry in
-    /// AddCarry64, leaves -2^63 to 2^63 - 1; all other bits but the carry are the fill word's.
+    /// As on the board: the fill word but for the carry and for overflow, which tells whether destination + source, each
+    /// read as two's complement, and in AddCarry64 + the old carry, is outside the range of an `i64`.
     Board,
 }
 

@@ -20,6 +20,7 @@ pub record Refusal : Type 0 where
   pub number : ℕ
   pub place : ℕ
 
+-- that of a number and a place
 abbrev pub refusal : ℕ → ℕ → Refusal
 refusal n p = record { number = n; place = p }
 
@@ -34,6 +35,7 @@ pub record Told : Type 0 where
   pub number : ℕ
   pub place : ℕ
 
+-- that of a kind, a number and a place
 abbrev pub told : ℕ → ℕ → ℕ → Told
 told kind n p = record { kind = kind; number = n; place = p }
 
@@ -51,6 +53,7 @@ pub record Ending : Type 0 where
   pub config : Config
   pub steps : ℕ
 
+-- that of what is told, what is left, and steps
 abbrev pub ending : Told → Config → ℕ → Ending
 ending t s steps = record { how = t; config = s; steps = steps }
 
