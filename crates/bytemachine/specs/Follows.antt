@@ -21,7 +21,8 @@ pub record IsStart (s : Config) : Type 0 where
 abbrev pub over-bytes : Config → ByteMemory → BState
 over-bytes s m = record { regs = s .regs; xmms = s .xmms; flags = s .flags; bytes = m }
 
--- the machine, from the start s over the memory m, beside a run from s that is done with t: that it is, the third demand asks before this
+-- the machine, with the run's flag rule, from the start s over the memory m, beside a run from s that is done with t: that it is, the third demand asks
+-- before this
 pub record Follows (env : Env) (limit : Option ℕ) (c : Code) (fuel : ℕ) (s t : Config) (m : ByteMemory) : Type 0 where
   -- the machine ends
   pub end : BState

@@ -1,4 +1,4 @@
--- What the C interface says of an answer, in numbers.
+-- What the C interface says of an answer, and how it is told an evaluation, in numbers.
 use Prim.Native.Nat.{ℕ}
 use mathlib.Core.Bool.{cond}
 use mathlib.Core.List.{List}
@@ -20,7 +20,7 @@ pub record Refusal : Type 0 where
   pub number : ℕ
   pub place : ℕ
 
--- that of a number and a place
+-- a number and a place as a Refusal
 abbrev pub refusal : ℕ → ℕ → Refusal
 refusal n p = record { number = n; place = p }
 
@@ -35,7 +35,7 @@ pub record Told : Type 0 where
   pub number : ℕ
   pub place : ℕ
 
--- that of a kind, a number and a place
+-- a kind, a number and a place as a Told
 abbrev pub told : ℕ → ℕ → ℕ → Told
 told kind n p = record { kind = kind; number = n; place = p }
 
@@ -53,7 +53,7 @@ pub record Ending : Type 0 where
   pub config : Config
   pub steps : ℕ
 
--- that of what is told, what is left, and steps
+-- what is told, what is left, and steps as an Ending
 abbrev pub ending : Told → Config → ℕ → Ending
 ending t s steps = record { how = t; config = s; steps = steps }
 
@@ -61,7 +61,7 @@ ending t s steps = record { how = t; config = s; steps = steps }
 abbrev pub ending-of : Ended → Ending
 ending-of e = ending (told-of (e .end .how)) (e .end .config) (e .counted .steps)
 
--- the evaluation that a number names: 0 is the base's and 1 the board's
+-- the evaluation that a number names: 0 is the base's and 1 the board's; no other names one
 abbrev pub evaluation-given : ℕ → GivenEvaluation
 evaluation-given n = cond (eqb n 0) (Value Base) (cond (eqb n 1) (Value Board) Nothing)
 

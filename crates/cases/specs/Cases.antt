@@ -1,4 +1,4 @@
--- The kernels tried of document 01, P1 to P14, as one table from inputs to outcomes, and one claim: Running gives these ends.
+-- The kernels tried of document 01, P1 to P14, and P2 on the board, as one table from inputs to outcomes, and one claim: Running gives these ends.
 -- Its examples of code, of cells and of a job stand behind it.
 use Prim.Native.Nat.{ℕ}
 use mathlib.Core.Path.{_≡_, refl}

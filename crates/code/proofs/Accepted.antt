@@ -1,15 +1,17 @@
 -- Every tree that bytes spell is well formed: its fields are bytes, numbers of eight bytes, and registers that were checked.
 -- Assumes nothing.
 use Prim.Native.Nat.{ℕ, zero, suc, _+_, _-_, _*_, _^_, _≤_, _<_}
-use mathlib.Core.Path.{_≡_, refl, ap, _∙_}
-use mathlib.Core.Bool.{Bool, true, false}
+use mathlib.Core.Path.{_≡_, refl, sym, ap, _∙_}
+use mathlib.Core.Bool.{Bool, true, false, _||_}
 use mathlib.Core.List.{List, [], _∷_}
 use native.Mathlib.Omega.{arith}
-use borrow.Author.Tests.{ltb-true, ltb-false}
+use borrow.Author.Tests.{ltb-false, leb-false, le-ltb, lt-leb}
 use lib.Dec.{ltb}
+use lib.IntN.{ℤ, pos, negsuc}
 use lib.ListN.{length, getD}
-use Rattle.words.specs.Signed.{signed-word}
-use Rattle.words.proofs.SignedLaws.{not-negative, is-negative}
+use lib.Pow.{pow-pos}
+use Rattle.words.specs.Signed.{signed-word, leaves}
+use Rattle.words.proofs.SignedLaws.{is-outside, word-within}
 use Rattle.machine.specs.declared.Operand.{Operand}
 use Rattle.code.specs.Layout.{Byte, number, amount, numbers-from, shape}
 use Rattle.code.specs.Tree.{Code, Ins, Block, IfElse, While, Codes, ⟨⟩, _∷ᶜ_}
@@ -17,7 +19,7 @@ use Rattle.code.specs.Records.{is-ins, is-ocmp, is-operand, body-length,
 use Rattle.code.specs.Reader.{got, parse}
 use Rattle.code.specs.Spells.{Fields, IsRecord, Operands, Stands, Spells, SpellsAll}
 use Rattle.code.specs.WellFormed.{Bytes, Signed, WfOperand, WfIns, WfOcmp, WfCode, WfCodes}
-use Rattle.code.proofs.Passing.{between-true}
+use Rattle.code.proofs.Passing.{never, between-true}
 use Rattle.code.proofs.NumberLaws.{number-lt}
 use Rattle.code.proofs.KindLaws.{each, _▹_}
 use Rattle.code.proofs.Layouts.{ins-body, ins-fields, like, firsts, ins-laid, ocmp-laid, WfBytes, WfOperands, bounded}
@@ -27,22 +29,35 @@ use Rattle.code.proofs.Sound.{parse-sound}
 abbrev pub WfTwo : Operand → Operand → Type 0
 WfTwo a b = WfOperand a × WfOperand b
 
+-- a whole number is one of n bits exactly where it does not leave their range
+pub stays-signed : (n : ℕ) (z : ℤ) → leaves n z ≡ false → Signed n z
+stays-signed n (pos k) h = omega (arith, leb-false (suc (2 ^ (n - 1) - 1)) k (sym (is-outside n (pos k)) ∙ h), pow-pos (n - 1))
+stays-signed n (negsuc k) h = go (ltb (2 ^ (n - 1) - 1) k) refl (sym (is-outside n (negsuc k)) ∙ h)
+  where
+    go : (t : Bool) → ltb (2 ^ (n - 1) - 1) k ≡ t → (t || false) ≡ false → k < 2 ^ (n - 1)
+    go true p e = absurd (never e)
+    go false p e = omega (arith, ltb-false (2 ^ (n - 1) - 1) k p, pow-pos (n - 1))
+
+pub signed-stays : (n : ℕ) (z : ℤ) → Signed n z → leaves n z ≡ false
+signed-stays n (pos k) h = is-outside n (pos k) ∙ lt-leb (suc (2 ^ (n - 1) - 1)) k (omega arith)
+signed-stays n (negsuc k) h = is-outside n (negsuc k) ∙ rw (le-ltb (2 ^ (n - 1) - 1) k (omega arith))
+
+-- a word as a signed number is one
+pub signed-of : (n x : ℕ) → 2 ^ n ≡ 2 ^ (n - 1) + 2 ^ (n - 1) → x < 2 ^ n → Signed n (signed-word n x)
+signed-of n x twice fits = stays-signed n _ (word-within n x twice fits)
+
 -- numbers of bytes
 module _ (bs : List ℕ) (bytes : Bytes bs) where
   pub word-lt : (at : ℕ) → number-at 8 bs at < 2 ^ 64
   word-lt at = number-lt bs bytes 8 at
 
-  signed-of : (n x : ℕ) (t : Bool) → ltb x (2 ^ (n - 1)) ≡ t → x < 2 ^ n → 2 ^ n ≡ 2 * 2 ^ (n - 1) → Signed n (signed-word n x)
-  signed-of n x true h l e = rw (not-negative n x (ltb-true _ _ h)) (ltb-true _ _ h)
-  signed-of n x false h l e = let m : 2 ^ (n - 1) ≤ x = ltb-false _ _ h in rw (is-negative n x m l) (omega arith)
-
   pub signed2 : (at : ℕ) → Signed 16 (signed-at 2 bs at)
   unfolding signed-at
-  signed2 at = signed-of 16 (number-at 2 bs at) _ refl (number-lt bs bytes 2 at) refl
+  signed2 at = signed-of 16 (number-at 2 bs at) refl (number-lt bs bytes 2 at)
 
   pub signed8 : (at : ℕ) → Signed 64 (signed-at 8 bs at)
   unfolding signed-at
-  signed8 at = signed-of 64 (number-at 8 bs at) _ refl (number-lt bs bytes 8 at) refl
+  signed8 at = signed-of 64 (number-at 8 bs at) refl (number-lt bs bytes 8 at)
 
   -- an operand, by its kind
   operand-forms-wf :

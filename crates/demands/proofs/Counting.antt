@@ -25,10 +25,10 @@ use Rattle.eval.specs.Instructions.{two-word, two-flags, act, run-ins}
 use Rattle.source.specs.Source.{eval-ins}
 use Rattle.source.proofs.RunsOn.{put-flags, clear-flags, runs-on}
 use Rattle.bytemachine.specs.ByteMachine.{exec-ins}
-use Rattle.demands.specs.Counting.{IsFill, Counting}
+use Rattle.demands.specs.Counting.{BitsOf, Counting}
 
 -- ---- flags
-pub filled : (fill : ℕ) (carry over : Bool) → IsFill fill carry over (update-cf (update-of fill over) carry)
+pub filled : (fill : ℕ) (carry over : Bool) → BitsOf fill carry over (update-cf (update-of fill over) carry)
 filled fill carry over =
     let f = update-of fill over in
     let rest = update-cf-rest f carry in
@@ -39,7 +39,7 @@ filled fill carry over =
       above = omega (arith, update-of-high fill over);
     }
 
-pub carried : (flags : ℕ) (carry : Bool) → IsFill flags carry (overflow flags) (update-cf flags carry)
+pub carried : (flags : ℕ) (carry : Bool) → BitsOf flags carry (overflow flags) (update-cf flags carry)
 carried flags carry =
     let rest = update-cf-rest flags carry in
     record { carry-is = cf-update-cf flags carry; overflow-is = overflow-update-cf flags carry; between = omega arith; above = omega arith }

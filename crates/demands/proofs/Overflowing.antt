@@ -24,6 +24,7 @@ use Rattle.code.specs.declared.tree.Instruction.{Instruction}
 use Rattle.code.specs.declared.tree.Instruction.the-variants.{Add64, AddCarry64}
 use Rattle.code.specs.declared.tree.Ocmp.{Ocmp}
 use Rattle.code.specs.Layout.{layout}
+use Rattle.code.proofs.Accepted.{stays-signed, signed-stays, signed-of}
 use Rattle.code.proofs.Layouts.{of-each, every-ins}
 use Rattle.eval.specs.declared.answer.Evaluation.{Evaluation}
 use Rattle.eval.specs.declared.answer.Evaluation.the-variants.{Base, Board}
@@ -36,17 +37,17 @@ use Rattle.source.specs.Source.{State, eval-ins}
 use Rattle.source.specs.Source as Source
 use Rattle.source.proofs.RunsOn.{put-flags, put-twice, runs-on}
 use Rattle.bytemachine.specs.ByteMachine.{BState, exec-ins}
-use Rattle.demands.specs.Counting.{IsFill}
+use Rattle.demands.specs.Counting.{BitsOf}
 use Rattle.demands.specs.Overflowing.{Adds, NotByRule, GivesFlags, Overflowing}
 use Rattle.demands.proofs.Counting.{filled, carried}
 use Rattle.demands.proofs.Demands.{demands}
 
 -- ---- flags
-board-is : (fill flags a b c : ℕ) → IsFill fill (sum-carry 64 (a + b + c)) (leaves 64 (signed-sum 64 a b c)) (board-flags fill flags a b c)
+board-is : (fill flags a b c : ℕ) → BitsOf fill (sum-carry 64 (a + b + c)) (leaves 64 (signed-sum 64 a b c)) (board-flags fill flags a b c)
 unfolding board-flags
 board-is fill flags a b c = filled fill _ _
 
-base-is : (fill flags a b c : ℕ) → IsFill flags (sum-carry 64 (a + b + c)) (overflow flags) (base-flags fill flags a b c)
+base-is : (fill flags a b c : ℕ) → BitsOf flags (sum-carry 64 (a + b + c)) (overflow flags) (base-flags fill flags a b c)
 unfolding base-flags
 base-is fill flags a b c = carried flags _
 
@@ -153,10 +154,12 @@ overflowing = record {
   base = base-is;
   as-before = carry-as-before;
   board = board-is;
-  in-range = λ x h. word-within 64 x refl h;
+  stays = stays-signed 64;
+  in-range = signed-stays 64;
+  is-signed = λ x h. signed-of 64 x refl h;
   same-word = wraps-back;
   clear = clear-so;
   set = set-so;
-  words = gives-flags;
+  gives-flags = gives-flags;
   each = λ e code addresses tags fill fuel limit start values. demands code _ fuel limit start values;
 }

@@ -24,12 +24,12 @@ use Rattle.eval.specs.Instructions.{valid-operand, eval-operand, valid-dst-oper
 use Rattle.source.specs.Source as Source
 use Rattle.bytemachine.specs.ByteMachine as Machine
 
--- a flags word that is the fill word but for carry and overflow: bit 0 and bit 11 as told, bits 1 to 10 and those from 12 on the fill word's
-pub record IsFill (fill : ℕ) (carry over : Bool) (flags : ℕ) : Type 0 where
+-- a flags word that has the bits of a word, but for carry and overflow: bit 0 and bit 11 as told, bits 1 to 10 and those from 12 on the word's
+pub record BitsOf (word : ℕ) (carry over : Bool) (flags : ℕ) : Type 0 where
   pub carry-is : cf flags ≡ carry
   pub overflow-is : overflow flags ≡ over
-  pub between : flags / 2 % 2 ^ 10 ≡ fill / 2 % 2 ^ 10
-  pub above : flags / 2 ^ 12 ≡ fill / 2 ^ 12
+  pub between : flags / 2 % 2 ^ 10 ≡ word / 2 % 2 ^ 10
+  pub above : flags / 2 ^ 12 ≡ word / 2 ^ 12
 
 -- an instruction of this kind writes the count of its source's word b, and makes its flags of the fill word and b
 pub record Counts (kind : ℕ) (ins : Operand → Operand → Instruction) (count : ℕ → ℕ) (flags : ℕ → ℕ → ℕ) : Type 0 where
@@ -78,5 +78,5 @@ pub record Counting : Type 0 where
   pub leading : (b : ℕ) → 0 < b → b < 2 ^ 64 → (2 ^ (63 - lzcnt 64 b) ≤ b) × (b < 2 ^ (64 - lzcnt 64 b))
   pub trailing : (b : ℕ) → 0 < b → b < 2 ^ 64 → (k : ℕ) × (b ≡ (2 * k + 1) * 2 ^ tzcnt 64 b)
   -- the flags of each are the fill word but for what is named
-  pub popcnt-flags : (fill b : ℕ) → IsFill fill false false (cleared fill b)
-  pub zeros-flags : (fill b : ℕ) → IsFill fill (eqb b 0) (overflow fill) (carry-for-zero fill b)
+  pub popcnt-flags : (fill b : ℕ) → BitsOf fill false false (cleared fill b)
+  pub zeros-flags : (fill b : ℕ) → BitsOf fill (eqb b 0) (overflow fill) (carry-for-zero fill b)

@@ -71,7 +71,7 @@ module _ (code : List ℕ) (env : Env) (fuel : ℕ) (limit : Option ℕ) (s : Co
     pub demand2 : Demand2
     pub demand3 : Demand3
 
--- they hold of every run, with any limit and with none: code is bytes and a start is a state, which every value of the parameters' types is
+-- they hold of every run, by any flag rule, with any limit and with none: code is bytes and a start is a state, which every value of the parameters' types is
 abbrev pub Claim : Type 0
 Claim =
     (code : List ℕ) (env : Env) (fuel : ℕ) (limit : Option ℕ) (start : State) (values : List ℕ) → Bytes code → IsState start

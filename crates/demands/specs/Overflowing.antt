@@ -21,7 +21,7 @@ use Rattle.code.specs.declared.tree.Instruction.{Instruction}
 use Rattle.code.specs.declared.tree.Instruction.the-variants.{Add64, AddCarry64}
 use Rattle.code.specs.declared.tree.Ocmp.{Ocmp}
 use Rattle.code.specs.Layout.{layout}
-use Rattle.code.specs.WellFormed.{Bytes}
+use Rattle.code.specs.WellFormed.{Bytes, Signed}
 use Rattle.eval.specs.declared.answer.Evaluation.{Evaluation}
 use Rattle.eval.specs.FlagRule.{FlagRule, base-flags, board-flags, flag-rule}
 use Rattle.eval.specs.Config.{Env, with-rule, Config, config, with-flags, ends, done, check}
@@ -31,7 +31,7 @@ use Rattle.eval.specs.Running.{decide}
 use Rattle.eval.specs.Promises.{environment}
 use Rattle.source.specs.Source as Source
 use Rattle.bytemachine.specs.ByteMachine as Machine
-use Rattle.demands.specs.Counting.{IsFill}
+use Rattle.demands.specs.Counting.{BitsOf}
 use Rattle.demands.specs.Demands.{Demands}
 
 -- an instruction that adds to its destination its source and a carry, which it makes of the old flags, and whose flags are the rule's
@@ -83,12 +83,15 @@ pub record Overflowing : Type 0 where
   pub run-comparisons : (env : Env) (rule : FlagRule) (limit : Option ℕ) (q : ℕ) (c : Ocmp) (yes-way no-way : Part) (s : Config) (k : Counted)
       → decide (with-rule rule env) limit q c yes-way no-way s k ≡ decide env limit q c yes-way no-way s k
   -- F*'s rule sets carry, and all other bits are those of the old flags
-  pub base : (fill flags a b c : ℕ) → IsFill flags (sum-carry 64 (a + b + c)) (overflow flags) (base-flags fill flags a b c)
+  pub base : (fill flags a b c : ℕ) → BitsOf flags (sum-carry 64 (a + b + c)) (overflow flags) (base-flags fill flags a b c)
   -- on the board carry is as before; overflow is set exactly where the signed sum leaves its range; all other bits are the fill word's
   pub as-before : (fill flags a b c : ℕ) → cf (board-flags fill flags a b c) ≡ cf (base-flags fill flags a b c)
-  pub board : (fill flags a b c : ℕ) → IsFill fill (sum-carry 64 (a + b + c)) (leaves 64 (signed-sum 64 a b c)) (board-flags fill flags a b c)
-  -- a word as a signed number is the one in the range that is the word modulo 2^64
-  pub in-range : (x : ℕ) → x < 2 ^ 64 → leaves 64 (signed-word 64 x) ≡ false
+  pub board : (fill flags a b c : ℕ) → BitsOf fill (sum-carry 64 (a + b + c)) (leaves 64 (signed-sum 64 a b c)) (board-flags fill flags a b c)
+  -- what does not leave it are the numbers from -2^63 to 2^63 - 1, which the offsets in code are too
+  pub stays : (z : ℤ) → leaves 64 z ≡ false → Signed 64 z
+  pub in-range : (z : ℤ) → Signed 64 z → leaves 64 z ≡ false
+  -- a word as a signed number is the one of 64 bits that is the word modulo 2^64
+  pub is-signed : (x : ℕ) → x < 2 ^ 64 → Signed 64 (signed-word 64 x)
   pub same-word : (x : ℕ) → x < 2 ^ 64 → wrap (signed-word 64 x) ≡ x
   -- so overflow is clear exactly where the word that is written is, as a signed number, the sum
   pub clear : (a b : ℕ) (carry : Bool) → a < 2 ^ 64 → b < 2 ^ 64 → leaves 64 (signed-sum 64 a b (bit carry)) ≡ false
@@ -96,6 +99,6 @@ pub record Overflowing : Type 0 where
   pub set : (a b : ℕ) (carry : Bool) → leaves 64 (signed-sum 64 a b (bit carry)) ≡ true
       → signed-word 64 (sum-mod 64 (a + b + bit carry)) ≡ signed-sum 64 a b (bit carry) → ⊥
   -- each evaluation's rule gives a flags word, and of each the demands hold, as `run` is given it
-  pub words : (e : Evaluation) → GivesFlags (flag-rule e)
+  pub gives-flags : (e : Evaluation) → GivesFlags (flag-rule e)
   pub each : (e : Evaluation) (code addresses tags : List ℕ) (fill fuel : ℕ) (limit : Option ℕ) (start : State) (values : List ℕ)
       → Bytes code → IsState start → Demands code (environment addresses tags fill (flag-rule e)) fuel limit (config start values)

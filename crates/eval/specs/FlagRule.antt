@@ -1,4 +1,5 @@
--- The flag rule: the new flags of Add64 and AddCarry64, in which the two evaluations differ. It is a parameter of the run, the source and the byte machine.
+-- The flag rule: the new flags of Add64 and AddCarry64, in which the two evaluations differ. It is a parameter of
+-- the run, the source, its log and the byte machine.
 use Prim.Native.Nat.{ℕ, _+_}
 use Rattle.words.specs.Flags.{update-cf, update-of}
 use Rattle.words.specs.Signed.{signed-sum, leaves}

@@ -33,7 +33,7 @@ pub struct Effect {
     pub flags: u64,
 }
 
-// The sum, and the flags but for its carry: Adcx64, and Add64 and AddCarry64 as F* has them.
+// The sum, and the flags with its carry in them: Adcx64, and Add64 and AddCarry64 as F* has them.
 fn carry_addition(flags: u64, a: u64, b: u64, carry: bool) -> Effect
     ensures { λ r. ⌜ IsEffect (sum-mod 64 (a + b + bit carry)) (Flags.update-cf flags (sum-carry 64 (a + b + bit carry))) r ⌝ }
 {

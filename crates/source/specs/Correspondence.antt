@@ -27,7 +27,7 @@ state-of env s =
     record { ok = true; regs = s .regs; xmms = s .xmms; flags = s .flags; mem = memory-of (env .addresses) (env .tags) (s .values) }
 
 module _ (load-mem64 : ℤ → Memory → ℕ) (int-to-nat64 : ℤ → ℕ) (env : Env) (c : Code) (s : Config) where
-  -- what the source returns of code c from s, with fuel f
+  -- what the source, with the run's flag rule, returns of code c from s, with fuel f
   abbrev pub source : ℕ → Option State
   source f = eval-code load-mem64 int-to-nat64 (env .fill) (env .rule) c f (state-of env s)
 

@@ -64,7 +64,7 @@ unfolding signed-sum
 sum-sub n a b c x y p q = rw (p, q) (ap (λ (z : ℤ). z +ℤ pos c) (sub-sub a x b y) ∙ sub-plus (a + b) (x + y) c)
 
 -- ---- when a difference leaves -(m + 1) to m
-abbrev outside : ℕ → ℤ → Bool
+abbrev pub outside : ℕ → ℤ → Bool
 outside m z = ltZ z (negsuc m) || leZ (pos (suc m)) z
 
 module _ (m s t : ℕ) where
@@ -82,21 +82,21 @@ module _ (m s t : ℕ) where
       go false p = let l : t ≤ s = ltb-false s t p in rw (p, lt-leb (suc m) (s - t) (omega arith))
 
 -- the same of n bits
-module _ (n s t : ℕ) where
-  is-outside : leaves n (subℕ s t) ≡ outside (2 ^ (n - 1) - 1) (subℕ s t)
-  unfolding leaves
-  is-outside =
-      let positive : 2 ^ (n - 1) ≡ suc (2 ^ (n - 1) - 1) = omega (arith, pow-pos (n - 1)) in
-      ap (λ (h : ℕ). ltZ (subℕ s t) (negℤ (pos h)) || leZ (pos h) (subℕ s t)) positive
+pub is-outside : (n : ℕ) (z : ℤ) → leaves n z ≡ outside (2 ^ (n - 1) - 1) z
+unfolding leaves
+is-outside n z =
+    let positive : 2 ^ (n - 1) ≡ suc (2 ^ (n - 1) - 1) = omega (arith, pow-pos (n - 1)) in
+    ap (λ (h : ℕ). ltZ z (negℤ (pos h)) || leZ (pos h) z) positive
 
+module _ (n s t : ℕ) where
   leaves-below : s + 2 ^ (n - 1) < t → leaves n (subℕ s t) ≡ true
-  leaves-below h = is-outside ∙ below (2 ^ (n - 1) - 1) s t (omega (arith, pow-pos (n - 1)))
+  leaves-below h = is-outside n _ ∙ below (2 ^ (n - 1) - 1) s t (omega (arith, pow-pos (n - 1)))
 
   leaves-above : t + 2 ^ (n - 1) ≤ s → leaves n (subℕ s t) ≡ true
-  leaves-above h = is-outside ∙ above (2 ^ (n - 1) - 1) s t (omega (arith, pow-pos (n - 1)))
+  leaves-above h = is-outside n _ ∙ above (2 ^ (n - 1) - 1) s t (omega (arith, pow-pos (n - 1)))
 
   leaves-not : t ≤ s + 2 ^ (n - 1) → s < t + 2 ^ (n - 1) → leaves n (subℕ s t) ≡ false
-  leaves-not h k = is-outside ∙ within (2 ^ (n - 1) - 1) s t (omega (arith, pow-pos (n - 1))) (omega (arith, pow-pos (n - 1)))
+  leaves-not h k = is-outside n _ ∙ within (2 ^ (n - 1) - 1) s t (omega (arith, pow-pos (n - 1))) (omega (arith, pow-pos (n - 1)))
 
 -- the number of a word is in the range
 pub word-within : (n x : ℕ) → 2 ^ n ≡ 2 ^ (n - 1) + 2 ^ (n - 1) → x < 2 ^ n → leaves n (signed-word n x) ≡ false
@@ -147,11 +147,25 @@ module _ (n a b word : ℕ) (carry out : Bool) (twice : 2 ^ n ≡ 2 ^ (n - 1) + 
           leaves-not n (a + b + bit carry) (2 ^ n + 2 ^ n) (omega (arith, leb-true (2 ^ (n - 1)) word p)) (omega (arith, word-fits)) ∙ rw p
       go false p s = leaves-below n (a + b + bit carry) (2 ^ n + 2 ^ n) (omega (arith, leb-false (2 ^ (n - 1)) word p)) ∙ rw p
 
-  -- x and y are 0 and 2 ^ n, or the reverse
-  apart : (x y : ℕ) → x + y ≡ 2 ^ n → signed-word n a ≡ subℕ a x → signed-word n b ≡ subℕ b y → 2 ^ (n - 1) ≤ a + b → a + b + 1 < 2 ^ n + 2 ^ (n - 1)
-      → leaves n (signed-sum n a b (bit carry)) ≡ false
-  apart x y e p q h k =
-      ap (leaves n) (sum-sub n a b (bit carry) x y p q) ∙ leaves-not n (a + b + bit carry) (x + y) (omega arith) (omega (arith, bit-lt carry))
+  -- the one operand is x too large as a signed number, and the other y
+  module _ (x y : ℕ) (p : signed-word n a ≡ subℕ a x) (q : signed-word n b ≡ subℕ b y) where
+    is-sub : signed-sum n a b (bit carry) ≡ subℕ (a + b + bit carry) (x + y)
+    is-sub = sum-sub n a b (bit carry) x y p q
+
+    -- the word of the sum is the sum
+    low-word : word < 2 ^ (n - 1) → word + (x + y) ≡ a + b + bit carry → signed-word n word ≡ signed-sum n a b (bit carry)
+    low-word h e = sub-low n word h ∙ sub-eq word 0 (a + b + bit carry) (x + y) (omega arith) ∙ sym is-sub
+
+    high-word : 2 ^ (n - 1) ≤ word → word + (x + y) ≡ a + b + bit carry + 2 ^ n → signed-word n word ≡ signed-sum n a b (bit carry)
+    high-word h e = sub-high n word h ∙ sub-eq word (2 ^ n) (a + b + bit carry) (x + y) e ∙ sym is-sub
+
+    -- of two signs: x and y are 0 and 2 ^ n, or the reverse
+    module _ (e : x + y ≡ 2 ^ n) (h : 2 ^ (n - 1) ≤ a + b) (k : a + b + 1 < 2 ^ n + 2 ^ (n - 1)) where
+      apart : leaves n (signed-sum n a b (bit carry)) ≡ false
+      apart = ap (leaves n) is-sub ∙ leaves-not n (a + b + bit carry) (x + y) (omega arith) (omega (arith, bit-lt carry))
+
+      word-apart : signed-word n word ≡ signed-sum n a b (bit carry)
+      word-apart = ⊎-elim (λ s. high-word (omega arith) (omega arith)) (λ s. low-word (omega (arith, bit-lt carry)) (omega arith)) parted
 
   pub overflows : leaves n (signed-sum n a b (bit carry)) ≡ (Bool·beq (negative a) (negative b) && not (Bool·beq (negative a) (negative word)))
   overflows = go (negative a) (negative b) refl refl
@@ -170,30 +184,12 @@ module _ (n a b word : ℕ) (carry out : Bool) (twice : 2 ^ n ≡ 2 ^ (n - 1) + 
       go true false p q =
           let h = leb-true _ a p in
           let k = leb-false _ b q in
-          apart (2 ^ n) 0 (omega arith) (sub-high n a h) (sub-low n b k) (omega arith) (omega arith)
+          apart (2 ^ n) 0 (sub-high n a h) (sub-low n b k) (omega arith) (omega arith) (omega arith)
       go false true p q =
           let h = leb-false _ a p in
           let k = leb-true _ b q in
-          apart 0 (2 ^ n) (omega arith) (sub-low n a h) (sub-high n b k) (omega arith) (omega arith)
+          apart 0 (2 ^ n) (sub-low n a h) (sub-high n b k) (omega arith) (omega arith) (omega arith)
       go false false p q = both-low (leb-false _ a p) (leb-false _ b q) ∙ low (negative word)
-
-  -- where the sum does not leave the range, the word of the sum is the sum. One operand is x and the other y too large
-  low-word : (x y : ℕ) → signed-word n a ≡ subℕ a x → signed-word n b ≡ subℕ b y → word < 2 ^ (n - 1) → word + (x + y) ≡ a + b + bit carry
-      → signed-word n word ≡ signed-sum n a b (bit carry)
-  low-word x y p q h e = sub-low n word h ∙ sub-eq word 0 (a + b + bit carry) (x + y) (omega arith) ∙ sym (sum-sub n a b (bit carry) x y p q)
-
-  high-word : (x y : ℕ) → signed-word n a ≡ subℕ a x → signed-word n b ≡ subℕ b y → 2 ^ (n - 1) ≤ word → word + (x + y) ≡ a + b + bit carry + 2 ^ n
-      → signed-word n word ≡ signed-sum n a b (bit carry)
-  high-word x y p q h e = sub-high n word h ∙ sub-eq word (2 ^ n) (a + b + bit carry) (x + y) e ∙ sym (sum-sub n a b (bit carry) x y p q)
-
-  -- of two signs it never leaves the range
-  word-apart : (x y : ℕ) → x + y ≡ 2 ^ n → signed-word n a ≡ subℕ a x → signed-word n b ≡ subℕ b y
-      → 2 ^ (n - 1) ≤ a + b → a + b + 1 < 2 ^ n + 2 ^ (n - 1) → signed-word n word ≡ signed-sum n a b (bit carry)
-  word-apart x y e p q h k =
-      ⊎-elim
-      (λ s. high-word x y p q (omega arith) (omega arith))
-      (λ s. low-word x y p q (omega (arith, bit-lt carry)) (omega arith))
-      parted
 
   pub word-is-sum : leaves n (signed-sum n a b (bit carry)) ≡ false → signed-word n word ≡ signed-sum n a b (bit carry)
   word-is-sum stays = go (negative a) (negative b) refl refl
@@ -207,11 +203,11 @@ module _ (n a b word : ℕ) (carry out : Bool) (twice : 2 ^ n ≡ 2 ^ (n - 1) + 
       go true false p q =
           let h = leb-true _ a p in
           let k = leb-false _ b q in
-          word-apart (2 ^ n) 0 (omega arith) (sub-high n a h) (sub-low n b k) (omega arith) (omega arith)
+          word-apart (2 ^ n) 0 (sub-high n a h) (sub-low n b k) (omega arith) (omega arith) (omega arith)
       go false true p q =
           let h = leb-false _ a p in
           let k = leb-true _ b q in
-          word-apart 0 (2 ^ n) (omega arith) (sub-low n a h) (sub-high n b k) (omega arith) (omega arith)
+          word-apart 0 (2 ^ n) (sub-low n a h) (sub-high n b k) (omega arith) (omega arith) (omega arith)
       go false false p q =
           let h = leb-false _ a p in
           let k = leb-false _ b q in

@@ -156,7 +156,7 @@ fn counts(op: u8, x: u64) -> u64 {
     }
 }
 
-fn half(x: u64) -> u16 {
+fn low16(x: u64) -> u16 {
     (x % 0x1_0000) as u16
 }
 
@@ -191,7 +191,7 @@ fn beside64(n: i64, pick: u8) -> Pair {
 
 fn signed(op: u8, x: u64, y: u64, s: u64) -> Pair {
     match op {
-        42 => beside16(words::signed16(half(x)), byte(s)),
+        42 => beside16(words::signed16(low16(x)), byte(s)),
         43 => beside64(words::signed64(x), byte(s)),
         _ => one(words::add_overflows(x, y, s == 1) as u64),
     }
