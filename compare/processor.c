@@ -3,11 +3,12 @@
  * compares the sum, carry and overflow. The library's other flags have to be the fill word's. The processor's are not
  * compared: those that it sets by the result the board takes from the fill word.
  *
- *     processor [N [SEED]]     every pair of the words at the edges, then N random pairs (2,000,000)
+ *     processor [SEED [N]]     every pair of the words at the edges, then N random pairs (2,000,000); SEED may be `new`
  */
 #include <inttypes.h>
 #include <stdio.h>
 #include <stdlib.h>
+#include <string.h>
 #include <time.h>
 
 #include "pokchrei.h"
@@ -102,8 +103,9 @@ static uint64_t edge(unsigned i)
 
 int main(int count, char **words)
 {
-    uint64_t pairs = count > 1 ? strtoull(words[1], NULL, 10) : 2000000;
-    uint64_t seed = count > 2 ? strtoull(words[2], NULL, 10) : (uint64_t)time(NULL);
+    int named = count > 1 && strcmp(words[1], "new") != 0;
+    uint64_t seed = named ? strtoull(words[1], NULL, 10) : (uint64_t)time(NULL);
+    uint64_t pairs = count > 2 ? strtoull(words[2], NULL, 10) : 2000000;
     state = seed * 2 + 1;
     for (unsigned i = 0; i < EDGES; i++)
         for (unsigned j = 0; j < EDGES; j++) {

@@ -16,7 +16,7 @@ target/compare/release/compare sums c
 ${CC:-cc} -std=c11 -O2 -Wall -Wextra -Werror -Iinclude compare/processor.c target/staticlib/libcapi.a -o target/processor
 jobs="${1:-100000}"
 seed="${2:-new}"
-if [ "$seed" = new ]; then target/processor; else target/processor 2000000 "$seed"; fi
+target/processor "$seed"
 target/compare/release/compare batch "$jobs" "$seed" c
 lists=$((jobs / 10))
 [ "$lists" -ge 1000 ] || lists=1000

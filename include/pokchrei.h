@@ -35,8 +35,8 @@ enum pokchrei_stop {
 };
 
 /*
- * Which flags Add64 and AddCarry64 leave. Both evaluations set carry by the sum, and all else is the same in both:
- * Adcx64 and Adox64 too.
+ * Which flags Add64 and AddCarry64 leave. Both evaluations set carry by the sum. Every other instruction and every
+ * comparison does the same by both, Adcx64 and Adox64 too, but a run may end otherwise by what reads these flags.
  */
 enum pokchrei_evaluation {
     POKCHREI_BASE = 0, /* the old flags but for the carry, as F* has it; the job program's */
@@ -99,7 +99,8 @@ uint8_t pokchrei_check_cells(const uint64_t *addresses, size_t address_count, co
  * Runs code over lent cells. The start is read from regs, xmms (word j of xmm i at 4 * i + j), flags and values, and
  * the end is written there: for a fault, a stopped and a spent run as it was just before that instruction, comparison
  * or loop test; for a refusal as lent. Answers a pokchrei_kind; *number and *place belong to it, and are 0 where it
- * has none. The evaluation is a pokchrei_evaluation; any other byte is refused ahead of all else.
+ * has none. The evaluation is a pokchrei_evaluation; any other byte is refused ahead of all else. (C itself cuts a number
+ * above 255 to its lowest byte.)
  *
  * *steps is the number of steps made: of instructions completed and of comparisons that passed their check; 0 for a
  * refusal. With as many as limit made, the run is stopped where an instruction or a comparison comes next, ahead of its

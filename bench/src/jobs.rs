@@ -145,5 +145,5 @@ pub fn agree(path: &str) {
         }
     }
     println!("{path}: {compared} jobs end alike, {refused} are refused; {runs} runs under a limit end alike");
-    println!("    and as many on the board, where {other} end otherwise than by the base");
+    println!("    on the board the {compared} jobs end alike too, {other} of them otherwise than by the base");
 }

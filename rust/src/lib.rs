@@ -71,7 +71,8 @@ pub struct Cells<'a> {
     pub values: &'a mut [u64],
 }
 
-/// Which flags Add64 and AddCarry64 leave. Both set carry by the sum, and all else is the same in both.
+/// Which flags Add64 and AddCarry64 leave. Both set carry by the sum. Every other instruction and every comparison does the
+/// same by both, Adcx64 and Adox64 too, but a run may end otherwise by what reads these flags.
 #[derive(Clone, Copy, Debug, Default, PartialEq, Eq)]
 pub enum Evaluation {
     /// The old flags but for the carry, as F* has it. The job program has this one.
