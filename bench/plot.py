@@ -29,7 +29,7 @@ stored job that is not refused:
 - plain (`bench/src/plain.rs`): safe Rust that reads the bytes as it goes and checks nothing beforehand. It is the
   yardstick: but for what a request adds it stays as it is, so that the ratios of two landings can be held side by side.
   Request 2026-04 added the count of steps and its limit to each step, so that ratios from before it are of another one;
-  2026-06 the choice between two evaluations to Add64 and AddCarry64.
+  2026-06 the choice between two evaluations to Add64 and AddCarry64, with which it takes 5 to 12 hundredths longer.
 - decoded (`bench/src/decoded.rs`): safe Rust that first decodes the code into an array, with operands as values and
   structures as indexes, and runs from that. It checks nothing beforehand either.
 
