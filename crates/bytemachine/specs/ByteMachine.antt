@@ -1,4 +1,4 @@
--- The byte machine: it knows no cells and counts every check as passed. Fill word and flag rule are parameters.
+-- The byte machine: a kernel over bytes alone, so that no cell can be missing and no check fails. Fill word and flag rule are parameters.
 use Prim.Native.Nat.{ℕ, zero, suc, _+_, _%_, _^_}
 use mathlib.Core.Bool.{Bool, true, false, not}
 use mathlib.Core.List.{List}
