@@ -36,13 +36,15 @@ use Rattle.code.proofs.Frames.{operand-frame}
 use Rattle.code.proofs.CodeFrames.{ocmp-frame}
 use Rattle.code.proofs.Families.{Stood, ins-inside, lane-kinds, two-stood, lea-stood, mul-stood, mulx-stood, quads-stood, shifts-stood, shuffle-stood, word-shift-stood, extract-stood, inserts-stood}
 use Rattle.code.proofs.Forms.{constant-is, register-is, register-below}
-use Rattle.eval.specs.FlagRule.{FlagRule, base-flags}
+use Rattle.eval.specs.FlagRule.{FlagRule, base-rule}
 use Rattle.eval.specs.Config.{Env, Config, with-flags}
 use Rattle.eval.specs.Config as Config
-use Rattle.eval.specs.Counted.{Counted, nothing-counted, ended}
+use Rattle.eval.specs.Watch.{nothing-open}
+use Rattle.eval.specs.Counted.{Counted, counted, ended}
 use Rattle.eval.specs.Running.{run-of}
 use Rattle.eval.specs.Instructions.{checks-amount, two-word, two-flags, inserts-word, run-ins}
 use Rattle.eval.specs.Promises.{environment, held, Cells, CodeAt, CodesAt, InsAt, OcmpAt, codes-from, Loads, Seeks, Resolves, no-slot, put-regs, put-values, comparison, Compares, how, Ran, StepsIns, DecidesAt, TestedAt, test-at, BehindTest, part-fuel, way-from, Runs, RunsIns, RunsAll}
+use Rattle.eval.specs.declared.answer.Watch.{Watch}
 use Rattle.eval.specs.declared.exit.Exit.{Exit}
 use Rattle.eval.specs.declared.operand.Sought.{Sought}
 use Rattle.eval.specs.declared.operand.Loaded.{Loaded}
@@ -134,7 +136,7 @@ module _ (bs : List ℕ) (at : ℕ) (form : Form) (is : form ≡ form-of (operan
   module _ (addresses tags values : List ℕ) (cells : Cells addresses tags values) (memory : form ≡ Memory) (f : Sought)
       (w : IsFound addresses tags bs at f) (e : f .number ≡ 0) where
     pub found-inside : f .index < length values
-    found-inside = cell-inside addresses tags (w .regs) values _ 0 0 base-flags 0 [] form is memory (w .absent) f (w .found) (w .above) e cells
+    found-inside = cell-inside addresses tags (w .regs) values _ 0 0 base-rule 0 [] form is memory (w .absent) f (w .found) (w .above) e cells
 
     pub found-fits : length values * 8 < 2 ^ 63 → Fits w64 (f .index * 8)
     found-fits room = omega (arith, found-inside)
@@ -880,11 +882,15 @@ is-accepted v w is e = sym is ∙ ap verdict e
 module _ (bs addresses tags : List ℕ) (fill : ℕ) (rule : FlagRule) (fuel : ℕ) (limit : Option ℕ) (s : Config) (v : Checked)
     (is-code : verdict v ≡ check-code bs) where
   pub refused-code :
-      (n p : ℕ) → v ≡ Refused n p → ended (Config.refused n p) s nothing-counted ≡ run-of bs (environment addresses tags fill rule) fuel limit s
-  refused-code n p e = code-refused bs _ fuel limit s n p (sym is-code ∙ ap verdict e)
+      (n p : ℕ) → v ≡ Refused n p → (w : Watch) → w ≡ nothing-open →
+      ended (Config.refused n p) s (counted 0 w) ≡ run-of bs (environment addresses tags fill rule) fuel limit s
+  refused-code n p e w none =
+      ap (λ (w : Watch). ended (Config.refused n p) s (counted 0 w)) none ∙ code-refused bs _ fuel limit s n p (sym is-code ∙ ap verdict e)
 
   pub refused-cells :
       v ≡ Accepted → (u : Checked) → verdict u ≡ check-cells addresses tags (s .values) → (n i : ℕ) → u ≡ Refused n i →
-      ended (Config.refused n i) s nothing-counted ≡ run-of bs (environment addresses tags fill rule) fuel limit s
-  refused-cells e u is n i f =
-      cells-refused bs _ fuel limit s (is-accepted v _ is-code e) n i (sym is ∙ ap verdict f)
+      (w : Watch) → w ≡ nothing-open →
+      ended (Config.refused n i) s (counted 0 w) ≡ run-of bs (environment addresses tags fill rule) fuel limit s
+  refused-cells e u is n i f w none =
+      ap (λ (w : Watch). ended (Config.refused n i) s (counted 0 w)) none
+      ∙ cells-refused bs _ fuel limit s (is-accepted v _ is-code e) n i (sym is ∙ ap verdict f)

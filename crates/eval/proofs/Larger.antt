@@ -12,6 +12,7 @@ use Rattle.eval.specs.Config.{Env, Config, Outcome, done, fault, stopped
 use Rattle.eval.specs.Instructions.{eval-ocmp}
 use Rattle.eval.specs.Counted.{Counted, Ended, ended, Part, continue, and-then, used-up, step}
 use Rattle.eval.specs.Running.{run-ocmp, decide, rounds, run-code, run-codes}
+use Rattle.eval.specs.declared.answer.Watch.{Watch}
 use Rattle.eval.proofs.StepLaws.{step-stopped, step-tried}
 
 -- a limit that leaves a step wherever another does
@@ -58,19 +59,20 @@ module _ (SameFuel SameLimit : Type 0) where
   keeps-cond false f g f′ g′ F G = G
 
   module _ (limit limit′ : Option ℕ) (looser : Looser limit limit′) (same-limit : SameLimit → limit ≡ limit′) where
-    keeps-step : (p : ℕ) (act : Config → End) → EachKeeps (step limit p act) (step limit′ p act)
+    keeps-step : (p : ℕ) (sees : Watch → Watch) (act : Config → End) → EachKeeps (step limit p sees act) (step limit′ p sees act)
     unfolding Kept
-    keeps-step p act s k = go (used-up limit k) refl
+    keeps-step p sees act s k = go (used-up limit k) refl
       where
-        go : (b : Bool) → used-up limit k ≡ b → Keeps (step limit p act s k) (step limit′ p act s k)
+        go : (b : Bool) → used-up limit k ≡ b → Keeps (step limit p sees act s k) (step limit′ p sees act s k)
         go true e =
-            subst⁻¹ (λ x. Keeps x (step limit′ p act s k)) (step-stopped limit p act s k e)
-            (λ same. ap (λ l. step l p act s k) (sym (same-limit same)) ∙ step-stopped limit p act s k e)
+            subst⁻¹ (λ x. Keeps x (step limit′ p sees act s k)) (step-stopped limit p sees act s k e)
+            (λ same. ap (λ l. step l p sees act s k) (sym (same-limit same)) ∙ step-stopped limit p sees act s k e)
         go false e =
             let x = act s in
-            let r = step limit p act s k in
+            let r = step limit p sees act s k in
             subst⁻¹ (λ y. Keeps r y)
-            (step-tried limit′ p act s k (looser k e) (x .how) (x .config) refl ∙ sym (step-tried limit p act s k e (x .how) (x .config) refl))
+            (step-tried limit′ p sees act s k (looser k e) (x .how) (x .config) refl
+            ∙ sym (step-tried limit p sees act s k e (x .how) (x .config) refl))
             (keeps-same (r .end .how) (r .end .config) (r .counted))
 
     module _ (env : Env) where
@@ -79,7 +81,7 @@ module _ (SameFuel SameLimit : Type 0) where
           EachKeeps f f′ → EachKeeps g g′ → EachKeeps (decide env limit q c f g) (decide env limit′ q c f′ g′)
       unfolding decide
       keeps-decide q c f g f′ g′ F G s k =
-          keeps-then _ _ _ _ _ _ (keeps-step q (run-ocmp env q c) s k) (keeps-cond (eval-ocmp env c s) f g f′ g′ F G)
+          keeps-then _ _ _ _ _ _ (keeps-step q _ (run-ocmp env q c) s k) (keeps-cond (eval-ocmp env c s) f g f′ g′ F G)
 
       keeps-rounds :
           (body body′ : ℕ → Part) → ((f g : ℕ) → f ≤ g → (SameFuel → f ≡ g) → EachKeeps (body f) (body′ g)) →
@@ -97,7 +99,7 @@ module _ (SameFuel SameLimit : Type 0) where
         unfolding run-code run-codes
 
         keeps-code : (c : Code) (f g : ℕ) → f ≤ g → (SameFuel → f ≡ g) → EachKeeps (run-code env limit c f) (run-code env limit′ c g)
-        keeps-code (Ins p i) f g le is s k = keeps-step p _ s k
+        keeps-code (Ins p i) f g le is s k = keeps-step p _ _ s k
         keeps-code (Block p cs) f g le is s k = keeps-codes cs f g le is s k
         keeps-code (IfElse p q c a b) f g le is s k = keeps-decide q c _ _ _ _ (keeps-code a f g le is) (keeps-code b f g le is) s k
         keeps-code (While p q c b) f g le is s k = keeps-rounds _ _ (keeps-code b) p q c f g le is s k

@@ -5,6 +5,7 @@ pub mod InstructionLaws
 pub mod LaneLaws
 pub mod ComparisonLaws
 pub mod CycleLaws
+pub mod CountedLaws
 pub mod StepLaws
 pub mod RunLaws
 pub mod Asked

@@ -5,19 +5,22 @@ use mathlib.Core.List.{List}
 use mathlib.Core.Option.{Option, none, some}
 use lib.Dec.{leb}
 use Rattle.eval.specs.Config.{Config, config, Outcome, done, fault, stopped, spent, refused, outcome, End, ends}
+use Rattle.eval.specs.Watch.{nothing-open}
 use Rattle.eval.specs.declared.answer.Run.{Run}
+use Rattle.eval.specs.declared.answer.Watch.{Watch}
 
--- what is counted: the steps made
+-- what is counted: the steps made, and the watch over them
 pub record Counted : Type 0 where
   pub steps : ℕ
+  pub watch : Watch
 
--- so many steps
-abbrev pub counted : ℕ → Counted
-counted n = record { steps = n }
+-- so many steps, and a watch
+abbrev pub counted : ℕ → Watch → Counted
+counted n w = record { steps = n; watch = w }
 
 -- what is counted where a run begins
 abbrev pub nothing-counted : Counted
-nothing-counted = counted 0
+nothing-counted = counted 0 nothing-open
 
 -- the end of a run, with what it has counted
 pub record Ended : Type 0 where
@@ -30,7 +33,7 @@ ended o s k = record { end = ends o s; counted = k }
 
 -- what a Run and the cells' values at its end say
 abbrev pub ended-of : Run → List ℕ → Ended
-ended-of r values = ended (outcome (r .answer)) (config (r .state) values) (counted (r .steps))
+ended-of r values = ended (outcome (r .answer)) (config (r .state) values) (counted (r .steps) (r .watch))
 
 -- a part of a run: from a configuration, and from what was counted before it
 abbrev pub Part : Type 0
@@ -53,14 +56,14 @@ unfoldable pub used-up : Option ℕ → Counted → Bool
 used-up none k = false
 used-up (some limit) k = leb limit (k .steps)
 
--- what is counted behind an instruction or a comparison: one step more where it is done
-unfoldable pub count : Outcome → Counted → Counted
-count done k = counted (suc (k .steps))
-count (fault n p) k = k
-count (stopped n p) k = k
-count (spent p) k = k
-count (refused n p) k = k
+-- what is counted behind an instruction or a comparison: where it is done one step more, and the watch as it sees to it
+unfoldable pub count : Outcome → (Watch → Watch) → Counted → Counted
+count done sees k = counted (suc (k .steps)) (sees (k .watch))
+count (fault n p) sees k = k
+count (stopped n p) sees k = k
+count (spent p) sees k = k
+count (refused n p) sees k = k
 
 -- an instruction or a comparison at a place, as a step of a run. 37: the limit is used up, so that it is not tried
-unfoldable pub step : Option ℕ → ℕ → (Config → End) → Part
-step limit p act s k = cond (used-up limit k) (ended (stopped 37 p) s k) (record { end = act s; counted = count (act s .how) k })
+unfoldable pub step : Option ℕ → ℕ → (Watch → Watch) → (Config → End) → Part
+step limit p sees act s k = cond (used-up limit k) (ended (stopped 37 p) s k) (record { end = act s; counted = count (act s .how) sees k })

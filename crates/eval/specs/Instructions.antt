@@ -51,8 +51,8 @@ two-word k flags a b =
 unfoldable pub two-flags : (k : ℕ) → FlagRule → (fill flags a b : ℕ) → ℕ
 two-flags k rule fill flags a b =
     at-kind k 0x01 flags
-    (at-kind k 0x02 (rule fill flags a b 0)
-    (at-kind k 0x04 (rule fill flags a b (bit (cf flags)))
+    (at-kind k 0x02 (rule .flags fill flags a b 0)
+    (at-kind k 0x04 (rule .flags fill flags a b (bit (cf flags)))
     (at-kind k 0x05 (update-cf flags (sum-carry 64 (a + b + bit (cf flags))))
     (at-kind k 0x06 (update-of flags (sum-carry 64 (a + b + bit (overflow flags))))
     (at-kind k 0x0b (update-cf (update-of fill false) false)

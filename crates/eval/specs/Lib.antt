@@ -1,6 +1,7 @@
 pub mod FlagRule
 pub mod Config
 pub mod Instructions
+pub mod Watch
 pub mod Counted
 pub mod Running
 pub mod Promises

@@ -1,6 +1,6 @@
 -- What the functions of the evaluator promise: the contracts below `run`, of an operand, a comparison, an instruction, a step, a code and a list of codes.
 -- They are said of the parts that are lent: addresses and tags, code bytes, registers, xmm words, flags, values, and what is counted.
-use Prim.Native.Nat.{ℕ, _+_, _-_, _≤_, _<_}
+use Prim.Native.Nat.{ℕ, _+_, _-_, _/_, _%_, _≤_, _<_}
 use mathlib.Core.Path.{_≡_}
 use mathlib.Core.Bool.{Bool, true, false, not, cond}
 use mathlib.Core.List.{List, [], _∷_}
@@ -22,8 +22,12 @@ use Rattle.eval.specs.FlagRule.{FlagRule}
 use Rattle.eval.specs.Config.{Env, Config, with-regs, with-flags, with-values, Outcome, done, fault, stopped, spent, End}
 use Rattle.eval.specs.Config as Config
 use Rattle.eval.specs.Instructions.{valid-operand, eval-operand, valid-dst-operand, update-operand, valid-ocmp, ocmp-number, eval-ocmp, run-ins}
-use Rattle.eval.specs.Counted.{Counted, counted, Ended, ended, step}
-use Rattle.eval.specs.Running.{run-ocmp, run-code, run-codes}
+use Rattle.eval.specs.Watch.{watch}
+use Rattle.eval.specs.Counted.{Counted, counted, Ended, ended}
+use Rattle.eval.specs.Running.{step-ins, step-ocmp, run-code, run-codes}
+use Rattle.eval.specs.declared.answer.Watch.{Watch}
+use Rattle.eval.specs.declared.answer.Mark.{Mark}
+use Rattle.eval.specs.declared.answer.Mark.the-variants.{Unmarked, Marked}
 use Rattle.eval.specs.declared.exit.Exit.{Exit}
 use Rattle.eval.specs.declared.operand.Sought.{Sought}
 use Rattle.eval.specs.declared.operand.Loaded.{Loaded}
@@ -137,9 +141,17 @@ abbrev pub ComparesAt : Env → List ℕ → ℕ → Config → Compared → Typ
 ComparesAt env bs at s r = (e : ℕ) → Stands is-ocmp bs at e → Compares env s (ocmp-at bs at) e r
 
 -- ---- steps
--- what is counted, in a lent array of words: the steps made are at place 0
+-- a mark as a word: 0 for none, or the place and one more
+abbrev pub mark-of : ℕ → Mark
+mark-of word = cond (eqb word 0) Unmarked (Marked (word - 1))
+
+-- a watch as two words: what is open, carry in bit 0 and overflow in bit 1, and the mark
+abbrev pub watch-of : ℕ → ℕ → Watch
+watch-of bits mark = watch (eqb (bits % 2) 1) (eqb (bits / 2 % 2) 1) (mark-of mark)
+
+-- what is counted, in a lent array of words: at place 0 the steps made, at 1 what is open, at 2 the mark
 abbrev pub tally : List ℕ → Counted
-tally words = counted (getD words 0 0)
+tally words = counted (getD words 0 0) (watch-of (getD words 1 0) (getD words 2 0))
 
 -- an exit that leaves t, with l counted, ends as a part of a run does, and goes on at the place behind
 pub record Reached (end : Ended) (behind : ℕ) (r : Exit) (t : Config) (l : Counted) : Type 0 where
@@ -149,13 +161,13 @@ pub record Reached (end : Ended) (behind : ℕ) (r : Exit) (t : Config) (l : Cou
 -- an exit from s and k to t and l is that of the instruction that stands at a place, as a step
 abbrev pub StepsIns : Env → Option ℕ → List ℕ → ℕ → Config → Counted → Exit → Config → Counted → Type 0
 StepsIns env limit bs at s k r t l =
-    (e : ℕ) → Stands is-ins bs at e → Reached (step limit at (run-ins env at (ins-at bs at)) s k) e r t l
+    (e : ℕ) → Stands is-ins bs at e → Reached (step-ins env limit at (ins-at bs at) s k) e r t l
 
 -- what a Compared says of a comparison at q, as a step from s and k that leaves l counted: 1 where it holds, 0 where it does not, or the number with which
 -- the run ends there; where it goes on, with the flags that it sets, the place behind
 pub record Decides (env : Env) (limit : Option ℕ) (s : Config) (k : Counted) (c : Ocmp) (q end : ℕ) (r : Compared) (l : Counted) : Type 0 where
-  pub stops : 1 < r .how → step limit q (run-ocmp env q c) s k ≡ ended (how (record { number = r .how; place = q })) s l
-  pub goes : r .how ≤ 1 → step limit q (run-ocmp env q c) s k ≡ ended done (with-flags (env .fill) s) l
+  pub stops : 1 < r .how → step-ocmp env limit q c s k ≡ ended (how (record { number = r .how; place = q })) s l
+  pub goes : r .how ≤ 1 → step-ocmp env limit q c s k ≡ ended done (with-flags (env .fill) s) l
   pub holds : r .how ≤ 1 → r .how ≡ cond (eval-ocmp env c s) 1 0
   pub next : r .how ≤ 1 → r .next ≡ end
 

@@ -9,11 +9,25 @@ pub enum Answer {
     Refused(u8, usize),
 }
 
+// The place of the first instruction that has read an open flag, if one has.
+pub enum Mark {
+    Unmarked,
+    Marked(usize),
+}
+
+// Whether an end hangs on the fill word: the mark, and whether carry and overflow are open, which is to say the fill word's.
+pub struct Watch {
+    pub mark: Mark,
+    pub carry: bool,
+    pub overflow: bool,
+}
+
 // What a run hands back, beside the lent cells.
 pub struct Run {
     pub answer: Answer,
     pub state: State,
     pub steps: u64,
+    pub watch: Watch,
 }
 
 // Which flags Add64 and AddCarry64 leave: F*'s, or those of the board.

@@ -59,7 +59,7 @@ fn board_addition(fill: u64, a: u64, b: u64, carry: bool) -> Effect
 // Each computes the sum by itself: with the sum ahead of the choice, the compiler keeps both operands for the board, and all
 // other instructions pay for that.
 fn addition(evaluation: Evaluation, fill: u64, flags: u64, a: u64, b: u64, carry: bool) -> Effect
-    ensures { λ r. ⌜ IsEffect (sum-mod 64 (a + b + bit carry)) (flag-rule evaluation fill flags a b (bit carry)) r ⌝ }
+    ensures { λ r. ⌜ IsEffect (sum-mod 64 (a + b + bit carry)) (flag-rule evaluation .flags fill flags a b (bit carry)) r ⌝ }
 {
     match evaluation {
         Evaluation::Base => carry_addition(flags, a, b, carry),

@@ -3,6 +3,7 @@
 mod answer;
 mod arithmetic;
 mod comparison;
+mod counted;
 mod cycle;
 mod exit;
 mod instruction;
@@ -15,7 +16,9 @@ mod twos;
 
 pub use answer::Answer;
 pub use answer::Evaluation;
+pub use answer::Mark;
 pub use answer::Run;
 pub use answer::Setting;
+pub use answer::Watch;
 pub use running::evaluate;
 pub use running::run;

@@ -12,10 +12,12 @@ ghost use Rattle.eval.specs.Inputs.{IsInput};
 use crate::answer::Answer;
 use crate::answer::Run;
 use crate::answer::Setting;
+use crate::counted::COUNTED;
+use crate::counted::STEPS;
+use crate::counted::nothing_open;
+use crate::counted::told_watch;
 use crate::cycle::eval_codes;
 use crate::exit::Exit;
-use crate::step::COUNTED;
-use crate::step::STEPS;
 use code::check_code;
 use machine::Checked;
 use machine::State;
@@ -84,10 +86,12 @@ pub fn evaluate(
     let answer = answer_of(exit);
     let state = State { regs, xmms, flags };
     let steps = counted[STEPS];
+    let watch = told_watch(&counted);
     Run {
         answer,
         state,
         steps,
+        watch,
     }
 }
 
@@ -114,6 +118,7 @@ pub fn run(
             answer,
             state: start,
             steps: 0,
+            watch: nothing_open(),
         };
     }
     let cells = check_cells(addresses, tags, values);
@@ -123,6 +128,7 @@ pub fn run(
             answer,
             state: start,
             steps: 0,
+            watch: nothing_open(),
         };
     }
     evaluate(code, addresses, tags, values, start, setting)

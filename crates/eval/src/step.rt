@@ -11,18 +11,17 @@ ghost use Rattle.eval.specs.Promises.{environment, held, tally, Cells, I
 use crate::answer::Evaluation;
 use crate::comparison::Compared;
 use crate::comparison::compare;
+use crate::counted::COUNTED;
+use crate::counted::STEPS;
+use crate::counted::count_comparison;
+use crate::counted::count_instruction;
 use crate::exit::Exit;
 use crate::instruction::instruction;
-
-// What is counted in a run stands in one lent array of words, each at its place.
-pub const COUNTED: usize = 1;
-
-pub const STEPS: usize = 0;
 
 // Read as a slice: a contract knows the length of a slice, and not that of an array.
 fn used_up(counted: &[u64; COUNTED], limit: u64) -> bool
     ensures { λ r. ⌜ r ≡ used-up (some limit) (tally (now (counted .entry))) ⌝ }
-    ensures { λ _. ⌜ 0 < length (now (counted .entry)) ⌝ }
+    ensures { λ _. ⌜ 2 < length (now (counted .entry)) ⌝ }
 {
     let words: &[u64] = counted;
     limit <= words[STEPS]
@@ -67,7 +66,7 @@ pub fn step_instruction(
     if ran.number != 0 {
         return ran;
     }
-    counted[STEPS] += 1;
+    count_instruction(code[at], at, evaluation, counted);
     ran
 }
 
@@ -98,6 +97,6 @@ pub fn step_comparison(
     if 1 < compared.how {
         return compared;
     }
-    counted[STEPS] += 1;
+    count_comparison(counted);
     compared
 }

@@ -2,7 +2,7 @@
 use mathlib.Core.List.{[]}
 use native.Mathlib.Omega.{arith}
 use borrow.Author.Needs.{needs}
-use Rattle.eval.specs.FlagRule.{base-flags}
+use Rattle.eval.specs.FlagRule.{base-rule}
 use Rattle.eval.proofs.Asked.{operand-starts, extracts-nowhere, extracts}
 use Rattle.eval.proofs.lanes.extract.Statement.{statement}
 use Rattle.eval.proofs.lanes.extract.Tie as tie
@@ -15,5 +15,5 @@ extract-spec =
     (λ c. search needs) (λ c. search extracts-nowhere)
     (λ c. omega (arith, operand-starts)) (λ c. omega (arith, operand-starts)) (λ c κs. search needs)
     (λ c. omega (arith, operand-starts)) (λ c. omega (arith, operand-starts)) (λ c κs. search needs)
-    (λ c κs. search (c .before .before .before .before .before .before .before .before .resolve .ensures 0 base-flags 0 [] .bounds))
+    (λ c κs. search (c .before .before .before .before .before .before .before .before .resolve .ensures 0 base-rule 0 [] .bounds))
     (λ c. search needs) (λ c. search extracts))

@@ -3,7 +3,7 @@
 use mathlib.Core.List.{[]}
 use native.Mathlib.Omega.{arith}
 use borrow.Author.Needs.{needs}
-use Rattle.eval.specs.FlagRule.{base-flags}
+use Rattle.eval.specs.FlagRule.{base-rule}
 use Rattle.eval.proofs.Asked.{operand-starts, second-there, third-there, OperandsX, Halves, product-unread, product-unwritten, product-unresolved, product-done}
 use Rattle.eval.proofs.products.multiply_into.Statement.{statement}
 use Rattle.eval.proofs.products.multiply_into.Tie as tie
@@ -56,21 +56,21 @@ multiply-into-spec =
     let low = c .before .before in
     let second = low .before .before .before in
     let asked = second .before .before .before .before .before .pre in
-    (third-there _ _ _ _ (second .operand-behind .ensures) (low .resolve .ensures 0 base-flags 0 [] .next) (asked .0 .1 .1 .0), asked .1))
+    (third-there _ _ _ _ (second .operand-behind .ensures) (low .resolve .ensures 0 base-rule 0 [] .next) (asked .0 .1 .1 .0), asked .1))
     (λ c. search needs) (λ c. let w = operands (c .before .before) in search product-unread)
     (λ c. search needs) (λ c. let w = operands (c .before .before .before .before) in search product-unwritten)
     (λ c. search needs)
     (λ c. search needs) (λ c. search needs) (λ c κs. search needs)
     (λ c κs.
     let tested = c .before .before .before .before in
-    operands (tested .before .before .before .before) .low 0 base-flags 0 [] .bounds (tested .if2 .left) .register)
+    operands (tested .before .before .before .before) .low 0 base-rule 0 [] .bounds (tested .if2 .left) .register)
     (λ c. let asked = start (c .before .before .before .before .before .before .before .before .before) in omega (arith, operand-starts))
     (λ c κs. let asked = start (c .before .before .before .before .before .before .before .before .before .before .before) in search needs)
     (λ c. search needs) (λ c. let w = halves (c .before .before) in search product-unresolved)
-    (λ c κs. let w = halves (c .before .before .before .before) in w .operands .low 0 base-flags 0 [] .bounds (w .valid))
+    (λ c κs. let w = halves (c .before .before .before .before) in w .operands .low 0 base-rule 0 [] .bounds (w .valid))
     (λ c κs.
     let wrote = c .before .before .before .before .put in
     let tested = c .before .before .before .before .before .before .before in
-    rw (wrote .kept .1 .1 .1 .0) (halves (tested .before .before) .high 0 base-flags 0 [] .bounds (tested .if3 .left)))
+    rw (wrote .kept .1 .1 .1 .0) (halves (tested .before .before) .high 0 base-rule 0 [] .bounds (tested .if3 .left)))
     (λ c. search needs)
     (λ c. let w = halves (c .before .before .before .before .before .before .before .before .before .before .before .before) in search product-done))

@@ -3,7 +3,7 @@
 use mathlib.Core.List.{[]}
 use native.Mathlib.Omega.{arith}
 use borrow.Author.Needs.{needs}
-use Rattle.eval.specs.FlagRule.{base-flags}
+use Rattle.eval.specs.FlagRule.{base-rule}
 use Rattle.eval.proofs.Asked.{operand-starts, second-there, Operands2, reads-nothing, shifts-too-far, writes-nowhere, writes}
 use Rattle.eval.proofs.twos.two_operands.Statement.{statement}
 use Rattle.eval.proofs.twos.two_operands.Tie as tie
@@ -24,11 +24,11 @@ two-operands-spec =
     (tie.spec
     (λ c. omega (arith, operand-starts))
     (λ c. omega (arith, operand-starts)) (λ c κs. search needs)
-    (λ c κs. let next = c .before .before .resolve .ensures 0 base-flags 0 [] .next in search second-there)
+    (λ c κs. let next = c .before .before .resolve .ensures 0 base-rule 0 [] .next in search second-there)
     (λ c. search needs) (λ c. let w = operands (c .before .before) in search reads-nothing)
     (λ c κs. search needs) (λ c. search needs) (λ c. let w = operands (c .before .before .before .before) in search shifts-too-far)
     (λ c. search needs) (λ c. let w = operands (c .before .before .before .before .before .before) in search writes-nowhere)
     (λ c κs. let w = operands (c .before .before .before .before .before .before .before) in search)
-    (λ c κs. search (operands (c .before .before .before .before .before .before .before .before .before .before) .dst 0 base-flags 0 [] .bounds))
+    (λ c κs. search (operands (c .before .before .before .before .before .before .before .before .before .before) .dst 0 base-rule 0 [] .bounds))
     (λ c. search needs)
     (λ c. let w = operands (c .before .before .before .before .before .before .before .before .before .before .before .before .before) in search writes))

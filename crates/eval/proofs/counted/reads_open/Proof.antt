@@ -1,0 +1,15 @@
+-- `reads_open` meets its contract: the bits of each kind say what it reads. Assumes nothing.
+use mathlib.Core.Path.{refl}
+use native.Mathlib.Omega.{arith}
+use borrow.Author.Needs.{needs}
+use Rattle.eval.specs.Watch.{reads-open}
+use Rattle.eval.proofs.CountedLaws.{reads-so}
+use Rattle.eval.proofs.counted.reads_open.Statement.{statement}
+use Rattle.eval.proofs.counted.reads_open.Tie as tie
+
+returns : tie.Need-returns
+unfolding reads-open
+returns c = reads-so _ (c .args .kind) (c .args .was) (c .pre .0) (c .pre .1) refl
+
+pub reads-open-spec : {M : Type 1} → statement M
+reads-open-spec = tie.close (tie.spec (λ c. omega (arith, c .pre .0)) (λ c. omega (arith, c .pre .0)) (λ c. omega (arith, c .pre .0)) returns)
