@@ -138,11 +138,11 @@ module _ (env : Env) (memory : ByteMemory) where
     unfolding WfIns run-ins act exec-ins two-word two-flags quads-word quads-flags shifts-word inserts-word
     follows-ins p (Mov64 dst src) fits e = unflagged dst _ (combined p dst src (λ a b. b) (λ a b. s .flags) fits (λ a b h k. k) e)
     follows-ins p (Add64 dst src) fits e =
-        combined p dst src (λ a b. sum-mod 64 (a + b)) (λ a b. env .rule (env .fill) (s .flags) a b 0) fits (λ a b h k. sum-mod-lt 64 _) e
+        combined p dst src (λ a b. sum-mod 64 (a + b)) (λ a b. env .rule .flags (env .fill) (s .flags) a b 0) fits (λ a b h k. sum-mod-lt 64 _) e
     follows-ins p (AddLea64 dst src1 src2) fits e = summed p dst src1 src2 e
     follows-ins p (AddCarry64 dst src) fits e =
         let c = bit (cf (s .flags)) in
-        combined p dst src (λ a b. sum-mod 64 (a + b + c)) (λ a b. env .rule (env .fill) (s .flags) a b c) fits (λ a b h k. sum-mod-lt 64 _) e
+        combined p dst src (λ a b. sum-mod 64 (a + b + c)) (λ a b. env .rule .flags (env .fill) (s .flags) a b c) fits (λ a b h k. sum-mod-lt 64 _) e
     follows-ins p (Adcx64 dst src) fits e =
         let c = bit (cf (s .flags)) in
         combined p dst src (λ a b. sum-mod 64 (a + b + c)) (λ a b. update-cf (s .flags) (sum-carry 64 (a + b + c))) fits (λ a b h k. sum-mod-lt 64 _) e

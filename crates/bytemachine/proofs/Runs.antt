@@ -10,10 +10,12 @@ use Rattle.machine.specs.Bytes.{ByteMemory}
 use Rattle.machine.specs.declared.Operand.{Operand}
 use Rattle.code.specs.declared.tree.Ocmp.{Ocmp}
 use Rattle.code.specs.declared.tree.Ocmp.the-variants.{OEq, ONe, OLe, OGe, OLt, OGt}
+use Rattle.code.specs.Layout.{ocmp-layout}
 use Rattle.code.specs.Tree.{Code, Ins, Block, IfElse, While, Codes, ⟨⟩, _∷ᶜ_}
 use Rattle.code.specs.WellFormed.{WfCode, WfCodes}
 use Rattle.eval.specs.Config.{Env, Config, with-flags, End, ends, Outcome, done, fault, stopped, spent, refused, check}
 use Rattle.eval.specs.Instructions.{valid-operand, eval-operand, valid-ocmp, ocmp-number, eval-ocmp}
+use Rattle.eval.specs.Watch.{watched}
 use Rattle.eval.specs.Counted.{Counted, ended, Part, continue, used-up, count, step}
 use Rattle.eval.specs.Running.{run-ocmp, decide, rounds, run-code, run-codes}
 use Rattle.bytemachine.specs.ByteMachine.{BState, read, test, branch, go-on, loop, exec, execs}
@@ -83,13 +85,16 @@ module _ (env : Env) (memory : ByteMemory) where
       after : Config
       after = with-flags (env .fill) s
 
-      taken : (b : Bool) → cond b f g after (count done j) .end ≡ ends done t → Reaches (branch (env .fill) b l m (at s)) s t
-      taken true h = let r = F after t (count done j) (with-flags-kept (env .fill) k) h in record { same = r .same; kept = r .kept; rsp = r .rsp }
-      taken false h = let r = G after t (count done j) (with-flags-kept (env .fill) k) h in record { same = r .same; kept = r .kept; rsp = r .rsp }
+      counts : Outcome → Counted
+      counts o = count o (watched (env .rule) (ocmp-layout c .kind) q) j
+
+      taken : (b : Bool) → cond b f g after (counts done) .end ≡ ends done t → Reaches (branch (env .fill) b l m (at s)) s t
+      taken true h = let r = F after t (counts done) (with-flags-kept (env .fill) k) h in record { same = r .same; kept = r .kept; rsp = r .rsp }
+      taken false h = let r = G after t (counts done) (with-flags-kept (env .fill) k) h in record { same = r .same; kept = r .kept; rsp = r .rsp }
 
       checked : (v : Bool) → valid-ocmp env c s ≡ v
           → (let x = check v (ocmp-number env c s) q s (ends done after) in
-          continue (x .how) (x .config) (count (x .how) j) (cond (eval-ocmp env c s) f g) .end ≡ ends done t)
+          continue (x .how) (x .config) (counts (x .how)) (cond (eval-ocmp env c s) f g) .end ≡ ends done t)
           → Reaches (branch (env .fill) (test (env .fill) c (at s)) l m (at s)) s t
       checked true v e = rw (tests c s v k) (taken (eval-ocmp env c s) e)
       checked false v e = absurd (not-done (fault (ocmp-number env c s) q) s t (λ z. let y : _≡_ {A = ℕ} 0 1 = cc in omega arith) e)

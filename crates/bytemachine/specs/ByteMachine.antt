@@ -69,13 +69,13 @@ module _ (fill : ℕ) where
     exec-ins (Add64 dst src) s =
         let a = read dst s in
         let b = read src s in
-        with-flags (rule fill (s .flags) a b 0) (write dst (sum-mod 64 (a + b)) s)
+        with-flags (rule .flags fill (s .flags) a b 0) (write dst (sum-mod 64 (a + b)) s)
     exec-ins (AddLea64 dst src1 src2) s = write dst (sum-mod 64 (read src1 s + read src2 s)) s
     exec-ins (AddCarry64 dst src) s =
         let a = read dst s in
         let b = read src s in
         let c = bit (cf (s .flags)) in
-        with-flags (rule fill (s .flags) a b c) (write dst (sum-mod 64 (a + b + c)) s)
+        with-flags (rule .flags fill (s .flags) a b c) (write dst (sum-mod 64 (a + b + c)) s)
     exec-ins (Adcx64 dst src) s =
         let sum = read dst s + read src s + bit (cf (s .flags)) in
         with-flags (update-cf (s .flags) (sum-carry 64 sum)) (write dst (sum-mod 64 sum) s)

@@ -15,7 +15,7 @@ use Rattle.machine.specs.declared.Operand.the-variants.{OConst, OReg, OMem}
 use Rattle.code.specs.declared.tree.Instruction.the-variants.{Mov64, Shl64, Pslld, VPSLLDQ}
 use Rattle.code.specs.declared.tree.Ocmp.the-variants.{OEq, ONe}
 use Rattle.code.specs.Tree.{Code, Ins, Block, While, ⟨⟩}
-use Rattle.eval.specs.FlagRule.{base-flags}
+use Rattle.eval.specs.FlagRule.{base-rule}
 use Rattle.bytemachine.specs.ByteMachine.{BState, read, write, exec-ins, test, branch, go-on, loop, exec, execs}
 
 -- code, fuel, and what is seen at the end; none where the machine halts out of fuel
@@ -67,7 +67,7 @@ unfoldable pub shown-of : List Example → List (Option (List ℕ))
 unfolding exec execs exec-ins test branch go-on loop read write seen eval-maddr byte wrap spelled read-bytes distance write-bytes
     xmm-at set-xmm ishl shl-lanes shift-quad
 shown-of [] = []
-shown-of (e ∷ es) = seen (exec 0 base-flags (e .code) (e .fuel) start) ∷ shown-of es
+shown-of (e ∷ es) = seen (exec 0 base-rule (e .code) (e .fuel) start) ∷ shown-of es
 
 -- what is named for each row
 unfoldable pub named : List Example → List (Option (List ℕ))

@@ -10,12 +10,15 @@ use native.Mathlib.Omega.{arith}
 use Rattle.machine.specs.Cells.{Verdict, accepted, check-cells}
 use Rattle.machine.specs.Cells.{refused as cells-refused}
 use Rattle.code.specs.declared.tree.Ocmp.{Ocmp}
+use Rattle.code.specs.Layout.{layout}
 use Rattle.code.specs.Tree.{Code, Ins, Block, IfElse, While, Codes, ⟨⟩, _∷ᶜ_}
 use Rattle.code.specs.Reader.{got, parse}
 use Rattle.eval.specs.Config.{Env, Config, Outcome, done, fault, stopped, spent, refused, End}
+use Rattle.eval.specs.declared.answer.Watch.{Watch}
+use Rattle.eval.specs.Watch.{watched}
 use Rattle.eval.specs.Counted.{Counted, nothing-counted, Ended, ended, Part, continue, and-then, used-up, count, step}
 use Rattle.eval.specs.Instructions.{run-ins, eval-ocmp}
-use Rattle.eval.specs.Running.{run-ocmp, decide, rounds, run-code, run-codes, run-checked, run-read, run-of}
+use Rattle.eval.specs.Running.{run-ocmp, step-ocmp, decide, rounds, run-code, run-codes, run-checked, run-read, run-of}
 use Rattle.demands.specs.Stepping.{codes, codes-in, whiles, whiles-in}
 
 -- a part makes at most n steps
@@ -39,18 +42,18 @@ at-most-cond false n f g F G = G
 
 module _ (limit : Option ℕ) where
   -- an instruction or a comparison is one step at most
-  at-most-step : (p : ℕ) (act : Config → End) → AtMost 1 (step limit p act)
+  at-most-step : (p : ℕ) (sees : Watch → Watch) (act : Config → End) → AtMost 1 (step limit p sees act)
   unfolding step count
-  at-most-step p act s k = go (used-up limit k) (act s .how)
+  at-most-step p sees act s k = go (used-up limit k) (act s .how)
     where
-      counts : (o : Outcome) → count o k .steps ≤ k .steps + 1
+      counts : (o : Outcome) → count o sees k .steps ≤ k .steps + 1
       counts done = omega arith
       counts (fault n q) = omega arith
       counts (stopped n q) = omega arith
       counts (spent q) = omega arith
       counts (refused n q) = omega arith
 
-      go : (b : Bool) (o : Outcome) → cond b (ended (stopped 37 p) s k) (record { end = act s; counted = count o k }) .counted .steps ≤ k .steps + 1
+      go : (b : Bool) (o : Outcome) → cond b (ended (stopped 37 p) s k) (record { end = act s; counted = count o sees k }) .counted .steps ≤ k .steps + 1
       go true o = omega arith
       go false o = counts o
 
@@ -58,8 +61,8 @@ module _ (limit : Option ℕ) where
     at-most-decide : (q : ℕ) (c : Ocmp) (n : ℕ) (f g : Part) → AtMost n f → AtMost n g → AtMost (1 + n) (decide env limit q c f g)
     unfolding decide
     at-most-decide q c n f g F G s k =
-        let h = at-most-then (k .steps + 1) n (step limit q (run-ocmp env q c) s k) (cond (eval-ocmp env c s) f g)
-        (at-most-step q (run-ocmp env q c) s k) (at-most-cond (eval-ocmp env c s) n f g F G)
+        let h = at-most-then (k .steps + 1) n (step-ocmp env limit q c s k) (cond (eval-ocmp env c s) f g)
+        (at-most-step q _ (run-ocmp env q c) s k) (at-most-cond (eval-ocmp env c s) n f g F G)
         in
         omega (arith, h)
 
@@ -99,7 +102,7 @@ module _ (limit : Option ℕ) where
         unfolding codes codes-in whiles whiles-in run-code run-codes
 
         at-most-code : (c : Code) (d : ℕ) → whiles c ≤ d → (f : ℕ) → f ≤ F → AtMost (codes c * Share d) (run-code env limit c f)
-        at-most-code (Ins p i) d le f lf s k = omega (arith, at-most-step p (run-ins env p i) s k, some-share d, code-more 0 d)
+        at-most-code (Ins p i) d le f lf s k = omega (arith, at-most-step p (watched (env .rule) (layout i .kind) p) (run-ins env p i) s k, some-share d, code-more 0 d)
         at-most-code (Block p cs) d le f lf s k = omega (arith, at-most-codes cs d le f lf s k, code-more (codes-in cs) d)
         at-most-code (IfElse p q c a b) d le f lf s k =
             let m = (codes a + codes b) * Share d in

@@ -23,6 +23,7 @@ use Rattle.machine.specs.declared.Operand.{Operand}
 use Rattle.code.specs.declared.tree.Instruction.{Instruction}
 use Rattle.code.specs.declared.tree.Instruction.the-variants.{Add64, AddCarry64}
 use Rattle.code.specs.declared.tree.Ocmp.{Ocmp}
+use Rattle.code.specs.declared.tree.Ocmp.the-variants.{OEq, ONe, OLe, OGe, OLt, OGt}
 use Rattle.code.specs.Layout.{layout}
 use Rattle.code.proofs.Accepted.{stays-signed, signed-stays, signed-of}
 use Rattle.code.proofs.Layouts.{of-each, every-ins}
@@ -30,6 +31,7 @@ use Rattle.eval.specs.declared.answer.Evaluation.{Evaluation}
 use Rattle.eval.specs.declared.answer.Evaluation.the-variants.{Base, Board}
 use Rattle.eval.specs.FlagRule.{FlagRule, base-flags, board-flags, flag-rule}
 use Rattle.eval.specs.Config.{Env, with-rule, Config, ends, done}
+use Rattle.eval.specs.Watch.{touched, watched}
 use Rattle.eval.specs.Counted.{Counted, Part}
 use Rattle.eval.specs.Running.{run-ocmp, decide}
 use Rattle.eval.specs.Instructions.{two-word, two-flags, cell-of, valid-operand, eval-operand, valid-dst-operand, update-operand, act, run-ins, valid-ocmp, ocmp-number, eval-ocmp}
@@ -122,8 +124,13 @@ machine-others i n fill rule other s = others s (λ i. exec-ins fill rule i s) (
 
 run-comparisons : (env : Env) (rule : FlagRule) (limit : Option ℕ) (q : ℕ) (c : Ocmp) (yes-way no-way : Part) (s : Config) (k : Counted)
     → decide (with-rule rule env) limit q c yes-way no-way s k ≡ decide env limit q c yes-way no-way s k
-unfolding decide run-ocmp valid-ocmp ocmp-number eval-ocmp cell-of valid-operand eval-operand
-run-comparisons env rule limit q c yes-way no-way s k = refl
+unfolding decide run-ocmp valid-ocmp ocmp-number eval-ocmp cell-of valid-operand eval-operand touched watched
+run-comparisons env rule limit q (OEq a b) yes-way no-way s k = refl
+run-comparisons env rule limit q (ONe a b) yes-way no-way s k = refl
+run-comparisons env rule limit q (OLe a b) yes-way no-way s k = refl
+run-comparisons env rule limit q (OGe a b) yes-way no-way s k = refl
+run-comparisons env rule limit q (OLt a b) yes-way no-way s k = refl
+run-comparisons env rule limit q (OGt a b) yes-way no-way s k = refl
 
 -- ---- Add64 and AddCarry64
 add64-is : Adds Add64 (λ flags. 0)

@@ -12,9 +12,9 @@ use Rattle.code.specs.declared.tree.Ocmp.{Ocmp}
 use Rattle.code.specs.Tree.{Code, Ins, Block, IfElse, While, Codes, ⟨⟩, _∷ᶜ_}
 use Rattle.code.specs.Reader.{Read, got, trouble, parse}
 use Rattle.eval.specs.Config.{Env, Config, Outcome, done, fault, stopped, spent, refused}
-use Rattle.eval.specs.Counted.{Counted, nothing-counted, Ended, ended, Part, continue, and-then, step}
+use Rattle.eval.specs.Counted.{Counted, nothing-counted, Ended, ended, Part, continue, and-then}
 use Rattle.eval.specs.Instructions.{run-ins, eval-ocmp}
-use Rattle.eval.specs.Running.{run-ocmp, decide, rounds, run-code, run-codes, run-checked, run-read, run-of}
+use Rattle.eval.specs.Running.{step-ins, step-ocmp, decide, rounds, run-code, run-codes, run-checked, run-read, run-of}
 use Rattle.demands.specs.Somewhere.{Somewhere, SomewhereIn}
 
 -- ends of a kind E, and what follows of the instruction or comparison whose step so ends
@@ -22,8 +22,8 @@ module _ (env : Env) (limit : Option ℕ) (E : Ended → Type 0) (A : ℕ → In
     (not-done : (s : Config) (k : Counted) → E (ended done s k) → ⊥)
     (not-spent : (p : ℕ) (s : Config) (k : Counted) → E (ended (spent p) s k) → ⊥)
     (not-refused : (n p : ℕ) (s : Config) (k : Counted) → E (ended (refused n p) s k) → ⊥)
-    (of-ins : (q : ℕ) (i : Instruction) (s : Config) (k : Counted) → E (step limit q (run-ins env q i) s k) → A q i)
-    (of-ocmp : (q : ℕ) (c : Ocmp) (s : Config) (k : Counted) → E (step limit q (run-ocmp env q c) s k) → B q c) where
+    (of-ins : (q : ℕ) (i : Instruction) (s : Config) (k : Counted) → E (step-ins env limit q i s k) → A q i)
+    (of-ocmp : (q : ℕ) (c : Ocmp) (s : Config) (k : Counted) → E (step-ocmp env limit q c s k) → B q c) where
   -- somewhere a part of a run ends so
   abbrev EndsIn : Part → Type 0
   EndsIn f = (t : Config) × (l : Counted) × E (f t l)
@@ -45,7 +45,7 @@ module _ (env : Env) (limit : Option ℕ) (E : Ended → Type 0) (A : ℕ → In
   unfolding decide
   decide-ends q c f g s k h =
       ⊎-elim (λ x. inl (of-ocmp q c s k x)) (λ x. inr (go (eval-ocmp env c s) x))
-      (then-ends (step limit q (run-ocmp env q c) s k) (cond (eval-ocmp env c s) f g) h)
+      (then-ends (step-ocmp env limit q c s k) (cond (eval-ocmp env c s) f g) h)
     where
       go : (b : Bool) → EndsIn (cond b f g) → EndsIn f ⊎ EndsIn g
       go true x = inl x

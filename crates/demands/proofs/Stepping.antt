@@ -14,6 +14,7 @@ use Rattle.code.specs.declared.tree.Ocmp.{Ocmp}
 use Rattle.code.specs.Tree.{Code, Ins, Block, IfElse, While, Codes, ⟨⟩, _∷ᶜ_}
 use Rattle.code.specs.Reader.{Read, got, trouble, parse}
 use Rattle.eval.specs.Config.{Env, Config, Outcome, done, fault, stopped, spent, refused, End, ends, check, NotStopped}
+use Rattle.eval.specs.declared.answer.Watch.{Watch}
 use Rattle.eval.specs.Counted.{Counted, nothing-counted, Ended, ended, Part, continue, and-then, used-up, count, step}
 use Rattle.eval.specs.Instructions.{readable, ruled, written, update-operand, act, run-ins, valid-ocmp, eval-ocmp}
 use Rattle.eval.specs.Running.{run-ocmp, decide, rounds, run-code, run-codes, run-checked, run-read, run-of}
@@ -62,9 +63,9 @@ steps-tried (spent p) k = omega arith
 steps-tried (refused n p) k = omega arith
 
 -- a failed one is not counted
-fault-uncounted : (n p : ℕ) (s : Config) (k : Counted) → ended (fault n p) s (count (fault n p) k) ≡ ended (fault n p) s k
+fault-uncounted : (n p : ℕ) (sees : Watch → Watch) (s : Config) (k : Counted) → ended (fault n p) s (count (fault n p) sees k) ≡ ended (fault n p) s k
 unfolding count
-fault-uncounted n p s k = refl
+fault-uncounted n p sees s k = refl
 
 -- ---- the run e under the limit L beside the run u without one
 module _ (L : ℕ) where
@@ -134,17 +135,17 @@ module _ (L : ℕ) where
       go (refused n p) t l b = record { grows = b .grows; unstopped = b .unstopped; against = λ le. stays e _ f refl (b .against le) }
 
   -- a step that is done, or fails
-  module _ (p : ℕ) (act : Config → End) (s : Config) (k : Counted) where
+  module _ (p : ℕ) (sees : Watch → Watch) (act : Config → End) (s : Config) (k : Counted) where
     -- the limit is used up by as many steps
     full : used-up (some L) k ≡ true → k .steps ≤ L → k .steps ≡ L
     unfolding used-up
     full b le = omega (arith, le, leb-true L (k .steps) b)
 
-    tried-there : (o : Outcome) (t : Config) → act s ≡ ends o t → step none p act s k ≡ ended o t (count o k)
+    tried-there : (o : Outcome) (t : Config) → act s ≡ ends o t → step none p sees act s k ≡ ended o t (count o sees k)
     unfolding used-up
-    tried-there o t e = step-tried none p act s k refl o t (sym e)
+    tried-there o t e = step-tried none p sees act s k refl o t (sym e)
 
-    beside-made : (t : Config) → act s ≡ ends done t → Beside k (step (some L) p act s k) (ended done t (count done k))
+    beside-made : (t : Config) → act s ≡ ends done t → Beside k (step (some L) p sees act s k) (ended done t (count done sees k))
     unfolding count tried used-up
     beside-made t e = record {
       grows = omega arith;
@@ -152,13 +153,13 @@ module _ (L : ℕ) where
       against = λ le. go (used-up (some L) k) refl le;
     }
       where
-        go : (b : Bool) → used-up (some L) k ≡ b → k .steps ≤ L → Against (step (some L) p act s k) (ended done t (count done k))
+        go : (b : Bool) → used-up (some L) k ≡ b → k .steps ≤ L → Against (step (some L) p sees act s k) (ended done t (count done sees k))
         go true b le =
-            cut p s k (step-stopped (some L) p act s k b) (full b le) (omega (arith, full b le))
+            cut p s k (step-stopped (some L) p sees act s k b) (full b le) (omega (arith, full b le))
             (λ m q v y _. let x : done ≡ fault m q = ap (λ (r : End). r .how) y in absurd (let z : _≡_ {A = ℕ} 0 1 = cc in omega arith))
-        go false b le = same (step-tried (some L) p act s k b done t (sym e)) (omega (arith, leb-false L (k .steps) b))
+        go false b le = same (step-tried (some L) p sees act s k b done t (sym e)) (omega (arith, leb-false L (k .steps) b))
 
-    beside-failed : (n : ℕ) → act s ≡ ends (fault n p) s → Beside k (step (some L) p act s k) (ended (fault n p) s k)
+    beside-failed : (n : ℕ) → act s ≡ ends (fault n p) s → Beside k (step (some L) p sees act s k) (ended (fault n p) s k)
     unfolding count tried used-up
     beside-failed n e = record {
       grows = omega arith;
@@ -166,29 +167,29 @@ module _ (L : ℕ) where
       against = λ le. go (used-up (some L) k) refl le;
     }
       where
-        go : (b : Bool) → used-up (some L) k ≡ b → k .steps ≤ L → Against (step (some L) p act s k) (ended (fault n p) s k)
+        go : (b : Bool) → used-up (some L) k ≡ b → k .steps ≤ L → Against (step (some L) p sees act s k) (ended (fault n p) s k)
         go true b le =
-            cut p s k (step-stopped (some L) p act s k b) (full b le) (omega (arith, full b le))
+            cut p s k (step-stopped (some L) p sees act s k b) (full b le) (omega (arith, full b le))
             (λ m q v y _.
             let x : fault n p ≡ fault m q = ap (λ (r : End). r .how) y in
             (cc, ap (λ (r : End). r .config) y))
-        go false b le = same (step-tried (some L) p act s k b (fault n p) s (sym e)) (omega (arith, leb-false L (k .steps) b))
+        go false b le = same (step-tried (some L) p sees act s k b (fault n p) s (sym e)) (omega (arith, leb-false L (k .steps) b))
 
-  beside-step : (p : ℕ) (act : Config → End) → ((s : Config) → DoneOrFails p s (act s)) → AllBeside (step (some L) p act) (step none p act)
-  beside-step p act h s k = go (h s)
+  beside-step : (p : ℕ) (sees : Watch → Watch) (act : Config → End) → ((s : Config) → DoneOrFails p s (act s)) → AllBeside (step (some L) p sees act) (step none p sees act)
+  beside-step p sees act h s k = go (h s)
     where
-      go : DoneOrFails p s (act s) → Beside k (step (some L) p act s k) (step none p act s k)
-      go (is-done t e) = subst⁻¹ (λ (x : Ended). Beside k (step (some L) p act s k) x) (tried-there p act s k done t e) (beside-made p act s k t e)
+      go : DoneOrFails p s (act s) → Beside k (step (some L) p sees act s k) (step none p sees act s k)
+      go (is-done t e) = subst⁻¹ (λ (x : Ended). Beside k (step (some L) p sees act s k) x) (tried-there p sees act s k done t e) (beside-made p sees act s k t e)
       go (fails n e) =
-          subst⁻¹ (λ (x : Ended). Beside k (step (some L) p act s k) x) (tried-there p act s k (fault n p) s e ∙ fault-uncounted n p s k)
-          (beside-failed p act s k n e)
+          subst⁻¹ (λ (x : Ended). Beside k (step (some L) p sees act s k) x) (tried-there p sees act s k (fault n p) s e ∙ fault-uncounted n p sees s k)
+          (beside-failed p sees act s k n e)
 
   module _ (env : Env) where
     beside-decide : (q : ℕ) (c : Ocmp) (f g f′ g′ : Part) → AllBeside f f′ → AllBeside g g′
         → AllBeside (decide env (some L) q c f g) (decide env none q c f′ g′)
     unfolding decide
     beside-decide q c f g f′ g′ F G s k =
-        beside-then k _ _ _ _ (beside-step q (run-ocmp env q c) (λ t. either-ocmp q t env c) s k) (beside-cond (eval-ocmp env c s) f g f′ g′ F G)
+        beside-then k _ _ _ _ (beside-step q _ (run-ocmp env q c) (λ t. either-ocmp q t env c) s k) (beside-cond (eval-ocmp env c s) f g f′ g′ F G)
 
     beside-rounds : (body body′ : ℕ → Part) → ((f : ℕ) → AllBeside (body f) (body′ f)) → (p q : ℕ) (c : Ocmp) (f : ℕ)
         → AllBeside (rounds env (some L) body p q c f) (rounds env none body′ p q c f)
@@ -201,7 +202,7 @@ module _ (L : ℕ) where
       unfolding run-code run-codes
 
       beside-code : (c : Code) (f : ℕ) → AllBeside (run-code env (some L) c f) (run-code env none c f)
-      beside-code (Ins p i) f s k = beside-step p (run-ins env p i) (λ t. either-ins p t env i) s k
+      beside-code (Ins p i) f s k = beside-step p _ (run-ins env p i) (λ t. either-ins p t env i) s k
       beside-code (Block p cs) f s k = beside-codes cs f s k
       beside-code (IfElse p q c a b) f s k = beside-decide q c _ _ _ _ (beside-code a f) (beside-code b f) s k
       beside-code (While p q c b) f s k = beside-rounds _ _ (beside-code b) p q c f s k
@@ -316,15 +317,15 @@ module _ (limit : Option ℕ) (n p : ℕ) where
   is-stopped e = subst⁻¹ IsStopped e tt
 
   -- a step stops only at its own place, and what is tried never does
-  step-stops : (q : ℕ) (act : Config → End) (s : Config) (k : Counted) → DoneOrFails q s (act s) → Stops (step limit q act s k) → (q ≡ p) × (n ≡ 37)
+  step-stops : (q : ℕ) (sees : Watch → Watch) (act : Config → End) (s : Config) (k : Counted) → DoneOrFails q s (act s) → Stops (step limit q sees act s k) → (q ≡ p) × (n ≡ 37)
   unfolding step
-  step-stops q act s k h e = go (used-up limit k) e
+  step-stops q sees act s k h e = go (used-up limit k) e
     where
       ends-otherwise : DoneOrFails q s (act s) → IsStopped (act s .how) → ⊥
       ends-otherwise (is-done t x) w = subst (λ (y : End). IsStopped (y .how)) x w
       ends-otherwise (fails m x) w = subst (λ (y : End). IsStopped (y .how)) x w
 
-      go : (b : Bool) → Stops (cond b (ended (stopped 37 q) s k) (record { end = act s; counted = count (act s .how) k })) → (q ≡ p) × (n ≡ 37)
+      go : (b : Bool) → Stops (cond b (ended (stopped 37 q) s k) (record { end = act s; counted = count (act s .how) sees k })) → (q ≡ p) × (n ≡ 37)
       go true x = (cc, cc)
       go false x = absurd (ends-otherwise h (is-stopped x))
 
@@ -332,20 +333,20 @@ module _ (limit : Option ℕ) (n p : ℕ) where
       → (c : Code) × (next : ℕ) × (parse code ≡ got c next) × StopsAt c p n
   run-stops env =
       run-ends env limit Stops _ _ (λ s k e. is-stopped e) (λ q s k e. is-stopped e) (λ m q s k e. is-stopped e)
-      (λ q i s k e. step-stops q (run-ins env q i) s k (either-ins q s env i) e)
-      (λ q c s k e. step-stops q (run-ocmp env q c) s k (either-ocmp q s env c) e)
+      (λ q i s k e. step-stops q _ (run-ins env q i) s k (either-ins q s env i) e)
+      (λ q c s k e. step-stops q _ (run-ocmp env q c) s k (either-ocmp q s env c) e)
 
 pub stepping : Stepping
 unfolding run-code rounds count decide continue
 stepping = record {
   instruction = λ env p i s. either-ins p s env i;
   comparison = λ env q c s. either-ocmp q s env c;
-  counts = λ limit p act s t k h e. step-tried limit p act s k h done t (sym e);
-  one-more = λ k. omega arith;
-  counts-none = λ limit p act s t k n q h e. step-tried limit p act s k h (fault n q) t (sym e);
+  counts = λ limit p sees act s t k h e. step-tried limit p sees act s k h done t (sym e);
+  one-more = λ sees k. omega arith;
+  counts-none = λ limit p sees act s t k n q h e. step-tried limit p sees act s k h (fault n q) t (sym e);
   stops = step-stopped;
   decides = λ env limit q c f g s t k h e.
-      ap (λ (x : Ended). and-then x (cond (eval-ocmp env c s) f g)) (step-tried limit q (run-ocmp env q c) s k h done t (sym e));
+      ap (λ (x : Ended). and-then x (cond (eval-ocmp env c s) f g)) (step-tried limit q _ (run-ocmp env q c) s k h done t (sym e));
   spent-first = λ env limit p q c b s k. refl;
   bounded = bounded;
   within = within;

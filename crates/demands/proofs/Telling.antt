@@ -25,8 +25,9 @@ use Rattle.code.specs.Tree.{Code}
 use Rattle.code.specs.Reader.{got, parse}
 use Rattle.eval.specs.Config.{Env, Config, with-flags, Outcome, done, fault, stopped, spent, refused, End, ends, check}
 use Rattle.eval.specs.Instructions.{cell-of, valid-operand, valid-dst-operand, update-operand, readable, ruled, written, act, run-ins, valid-ocmp, ocmp-number}
+use Rattle.eval.specs.declared.answer.Watch.{Watch}
 use Rattle.eval.specs.Counted.{Counted, Ended, ended, used-up, count, step}
-use Rattle.eval.specs.Running.{run-ocmp, run-of}
+use Rattle.eval.specs.Running.{run-ocmp, step-ins, step-ocmp, run-of}
 use Rattle.source.proofs.OperandLaws.{both}
 use Rattle.demands.proofs.Somewhere.{run-ends}
 use Rattle.demands.specs.Telling.{OutOfRange, Wild, Absent, Unread, wild-src, absent-src, Unwritten, wild-dst, absent-dst, constant, rsp, AllRead, FirstUnread, AllHold, FirstBroken, FirstUnwritten, Fails, FailsAt, rule-numbers, AcceptedCells, Telling}
@@ -298,20 +299,20 @@ module _ (env : Env) where
     Faults e = e .end ≡ ends (fault n p) t
 
     -- a step that faults was tried
-    step-faults : (q : ℕ) (act : Config → End) (s : Config) (k : Counted) → Faults (step limit q act s k) → act s ≡ ends (fault n p) t
+    step-faults : (q : ℕ) (sees : Watch → Watch) (act : Config → End) (s : Config) (k : Counted) → Faults (step limit q sees act s k) → act s ≡ ends (fault n p) t
     unfolding step
-    step-faults q act s k = go (used-up limit k)
+    step-faults q sees act s k = go (used-up limit k)
       where
-        go : (b : Bool) → Faults (cond b (ended (stopped 37 q) s k) (record { end = act s; counted = count (act s .how) k })) → act s ≡ ends (fault n p) t
+        go : (b : Bool) → Faults (cond b (ended (stopped 37 q) s k) (record { end = act s; counted = count (act s .how) sees k })) → act s ≡ ends (fault n p) t
         go true e = absurd (is-fault e)
         go false e = e
 
-    ins-there : (q : ℕ) (i : Instruction) (s : Config) (k : Counted) → Faults (step limit q (run-ins env q i) s k) → (q ≡ p) × Fails env i t n
+    ins-there : (q : ℕ) (i : Instruction) (s : Config) (k : Counted) → Faults (step-ins env limit q i s k) → (q ≡ p) × Fails env i t n
     ins-there q i s k e =
-        let w = ins-faults q s i (step-faults q (run-ins env q i) s k e) in
+        let w = ins-faults q s i (step-faults q _ (run-ins env q i) s k e) in
         (sym (w .0), subst⁻¹ (λ (x : Config). Fails env i x n) (w .1) (w .2))
 
-    ocmp-there : (q : ℕ) (c : Ocmp) (s : Config) (k : Counted) → Faults (step limit q (run-ocmp env q c) s k)
+    ocmp-there : (q : ℕ) (c : Ocmp) (s : Config) (k : Counted) → Faults (step-ocmp env limit q c s k)
         → (q ≡ p) × FirstUnread env t (ocmp-layout c .operands) n
     unfolding run-ocmp
     ocmp-there q c s k e =
@@ -322,7 +323,7 @@ module _ (env : Env) where
               (subst⁻¹ (λ m. FirstUnread env s (ocmp-layout c .operands) m) (w .3) (ocmp-unread s c (w .0))),
         ))
         (λ w. absurd (is-fault (w .1)))
-        (check-faults q s (valid-ocmp env c s) _ _ (step-faults q (run-ocmp env q c) s k e))
+        (check-faults q s (valid-ocmp env c s) _ _ (step-faults q _ (run-ocmp env q c) s k e))
 
     run-faults : (code : List ℕ) (fuel : ℕ) (s : Config) → Faults (run-of code env fuel limit s)
         → (c : Code) × (next : ℕ) × (parse code ≡ got c next) × FailsAt env c p t n

@@ -4,3 +4,4 @@ pub mod Somewhere
 pub mod Telling
 pub mod Stepping
 pub mod Overflowing
+pub mod Watching

@@ -44,13 +44,13 @@ pub record Adds (ins : Operand → Operand → Instruction) (carry : ℕ → ℕ
       run-ins env p (ins dst src) s
       ≡ check (valid-operand env src s) (wild-or 31 src (s .regs)) p s
       (check (valid-dst-operand env dst s) (wild-or 32 dst (s .regs)) p s
-      (ends done (with-flags (env .rule (env .fill) (s .flags) a b c) (update-operand env dst (sum-mod 64 (a + b + c)) s))))
+      (ends done (with-flags (env .rule .flags (env .fill) (s .flags) a b c) (update-operand env dst (sum-mod 64 (a + b + c)) s))))
   -- the source: it runs on where one of the two checks fails, with ok clear
   pub evaluates : (load-mem64 : ℤ → Memory → ℕ) (int-to-nat64 : ℤ → ℕ) (fill : ℕ) (rule : FlagRule) (dst src : Operand) (s : Source.State)
       → let a = Source.eval-operand load-mem64 int-to-nat64 fill dst s in
       let b = Source.eval-operand load-mem64 int-to-nat64 fill src s in
       let c = carry (s .flags) in
-      let t = Source.with-flags (rule fill (s .flags) a b c) (Source.update-operand-preserve-flags′ dst (sum-mod 64 (a + b + c)) s) in
+      let t = Source.with-flags (rule .flags fill (s .flags) a b c) (Source.update-operand-preserve-flags′ dst (sum-mod 64 (a + b + c)) s) in
       Source.run (Source.eval-ins load-mem64 int-to-nat64 fill rule (ins dst src)) s
       ≡ Source.with-ok (s .ok && Source.valid-operand src s && Source.valid-dst-operand dst s) t
   -- the byte machine
@@ -58,7 +58,7 @@ pub record Adds (ins : Operand → Operand → Instruction) (carry : ℕ → ℕ
       → let a = Machine.read dst s in
       let b = Machine.read src s in
       let c = carry (s .flags) in
-      Machine.exec-ins fill rule (ins dst src) s ≡ Machine.with-flags (rule fill (s .flags) a b c) (Machine.write dst (sum-mod 64 (a + b + c)) s)
+      Machine.exec-ins fill rule (ins dst src) s ≡ Machine.with-flags (rule .flags fill (s .flags) a b c) (Machine.write dst (sum-mod 64 (a + b + c)) s)
 
 -- an instruction that is neither Add64 nor AddCarry64
 abbrev pub NotByRule : Instruction → Type 0
@@ -66,7 +66,7 @@ NotByRule i = (layout i .kind ≡ 0x02 → ⊥) × (layout i .kind ≡ 0x04 → 
 
 -- a rule that gives a flags word
 abbrev pub GivesFlags : FlagRule → Type 0
-GivesFlags rule = (fill flags a b c : ℕ) → fill < 2 ^ 64 → flags < 2 ^ 64 → rule fill flags a b c < 2 ^ 64
+GivesFlags rule = (fill flags a b c : ℕ) → fill < 2 ^ 64 → flags < 2 ^ 64 → rule .flags fill flags a b c < 2 ^ 64
 
 -- ---- the claims
 pub record Overflowing : Type 0 where

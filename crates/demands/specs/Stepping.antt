@@ -7,9 +7,12 @@ use mathlib.Core.List.{List}
 use mathlib.Core.Option.{Option, none, some}
 use Rattle.code.specs.declared.tree.Instruction.{Instruction}
 use Rattle.code.specs.declared.tree.Ocmp.{Ocmp}
+use Rattle.code.specs.Layout.{ocmp-layout}
 use Rattle.code.specs.Tree.{Code, Ins, Block, IfElse, While, Codes, ⟨⟩, _∷ᶜ_}
 use Rattle.code.specs.Reader.{got, parse}
 use Rattle.eval.specs.Config.{Env, Config, Outcome, done, fault, stopped, spent, refused, End, ends, NotStopped}
+use Rattle.eval.specs.declared.answer.Watch.{Watch}
+use Rattle.eval.specs.Watch.{watched}
 use Rattle.eval.specs.Counted.{Counted, ended, Part, used-up, count, step}
 use Rattle.eval.specs.Instructions.{run-ins, eval-ocmp}
 use Rattle.eval.specs.Running.{run-ocmp, decide, run-code, run-of}
@@ -63,16 +66,16 @@ pub record Stepping : Type 0 where
   -- an instruction or a comparison is done, and then a step, or it fails, and then it is none; with the limit used up it is not tried
   pub instruction : (env : Env) (p : ℕ) (i : Instruction) (s : Config) → DoneOrFails p s (run-ins env p i s)
   pub comparison : (env : Env) (q : ℕ) (c : Ocmp) (s : Config) → DoneOrFails q s (run-ocmp env q c s)
-  pub counts : (limit : Option ℕ) (p : ℕ) (act : Config → End) (s t : Config) (k : Counted) → used-up limit k ≡ false → act s ≡ ends done t
-      → step limit p act s k ≡ ended done t (count done k)
-  pub one-more : (k : Counted) → count done k .steps ≡ k .steps + 1
-  pub counts-none : (limit : Option ℕ) (p : ℕ) (act : Config → End) (s t : Config) (k : Counted) (n q : ℕ) → used-up limit k ≡ false
-      → act s ≡ ends (fault n q) t → step limit p act s k ≡ ended (fault n q) t k
-  pub stops : (limit : Option ℕ) (p : ℕ) (act : Config → End) (s : Config) (k : Counted) → used-up limit k ≡ true
-      → step limit p act s k ≡ ended (stopped 37 p) s k
+  pub counts : (limit : Option ℕ) (p : ℕ) (sees : Watch → Watch) (act : Config → End) (s t : Config) (k : Counted) → used-up limit k ≡ false → act s ≡ ends done t
+      → step limit p sees act s k ≡ ended done t (count done sees k)
+  pub one-more : (sees : Watch → Watch) (k : Counted) → count done sees k .steps ≡ k .steps + 1
+  pub counts-none : (limit : Option ℕ) (p : ℕ) (sees : Watch → Watch) (act : Config → End) (s t : Config) (k : Counted) (n q : ℕ) → used-up limit k ≡ false
+      → act s ≡ ends (fault n q) t → step limit p sees act s k ≡ ended (fault n q) t k
+  pub stops : (limit : Option ℕ) (p : ℕ) (sees : Watch → Watch) (act : Config → End) (s : Config) (k : Counted) → used-up limit k ≡ true
+      → step limit p sees act s k ≡ ended (stopped 37 p) s k
   -- a comparison is a step whichever way it decides on: that of an IfElse, and that of a While, the one that ends it too
   pub decides : (env : Env) (limit : Option ℕ) (q : ℕ) (c : Ocmp) (f g : Part) (s t : Config) (k : Counted) → used-up limit k ≡ false
-      → run-ocmp env q c s ≡ ends done t → decide env limit q c f g s k ≡ cond (eval-ocmp env c s) f g t (count done k)
+      → run-ocmp env q c s ≡ ends done t → decide env limit q c f g s k ≡ cond (eval-ocmp env c s) f g t (count done (watched (env .rule) (ocmp-layout c .kind) q) k)
   -- no fuel comes before the limit
   pub spent-first : (env : Env) (limit : Option ℕ) (p q : ℕ) (c : Ocmp) (b : Code) (s : Config) (k : Counted)
       → run-code env limit (While p q c b) 0 s k ≡ ended (spent p) s k

@@ -9,13 +9,15 @@ use lib.IntN.{ℤ}
 use Rattle.machine.specs.Memory.{Memory, LoadsMem64}
 use Rattle.code.specs.declared.tree.Instruction.{Instruction}
 use Rattle.code.specs.declared.tree.Ocmp.{Ocmp}
+use Rattle.code.specs.Layout.{ocmp-layout}
 use Rattle.code.specs.Tree.{Code, Ins, Block, IfElse, While, Codes, ⟨⟩, _∷ᶜ_}
 use Rattle.code.proofs.Layouts.{every-ins}
 use Rattle.code.specs.WellFormed.{WfOcmp, WfCode, WfCodes}
 use Rattle.eval.specs.FlagRule.{FlagRule}
-use Rattle.eval.specs.Config.{Env, Config, with-flags, End, ends, done, fault, spent}
+use Rattle.eval.specs.Config.{Outcome, Env, Config, with-flags, End, ends, done, fault, spent}
 use Rattle.eval.specs.Config as Config
 use Rattle.eval.specs.Instructions as Run
+use Rattle.eval.specs.Watch.{watched}
 use Rattle.eval.specs.Counted.{Counted, Ended, ended, Part, continue, and-then, used-up, count, step}
 use Rattle.eval.specs.Running as Running
 use Rattle.source.specs.Source as Source
@@ -197,12 +199,15 @@ module _ (env : Env) where
         way : Part
         way = cond (Run.eval-ocmp env c s) f g
 
+        counts : Outcome → Counted
+        counts o = count o (watched (env .rule) (ocmp-layout c .kind) q) k
+
         go : (b : Bool) → Run.valid-ocmp env c s ≡ b
-            → let e = Config.check b n q s passed-end in Tells (continue (e .how) (e .config) (count (e .how) k) way .end) (next (noted s c))
+            → let e = Config.check b n q s passed-end in Tells (continue (e .how) (e .config) (counts (e .how)) way .end) (next (noted s c))
         go true e =
             let t = with-flags (env .fill) s in
-            subst⁻¹ (λ (r : (State × Bool) × List Note). Tells (way t (count done k) .end) (next r)) (ocmp-passes c s fits h e)
-            (tells-after (passed n q ∷ []) _ _ refl (tells-choose (Run.eval-ocmp env c s) f g f′ g′ F G t (count done k) h))
+            subst⁻¹ (λ (r : (State × Bool) × List Note). Tells (way t (counts done) .end) (next r)) (ocmp-passes c s fits h e)
+            (tells-after (passed n q ∷ []) _ _ refl (tells-choose (Run.eval-ocmp env c s) f g f′ g′ F G t (counts done) h))
         go false e =
             let r = noted s c in
             let u = state-of env s in

@@ -316,7 +316,7 @@ module _ (env : Env) where
       says-carry dst src fits =
           let c = bit (cf (s .flags)) in
           let sum : ℕ → ℕ → ℕ = λ a b. (a + b + c) % 2 ^ 64 in
-          let flags : ℕ → ℕ → ℕ = λ a b. env .rule (env .fill) (s .flags) a b c in
+          let flags : ℕ → ℕ → ℕ = λ a b. env .rule .flags (env .fill) (s .flags) a b c in
           let t = Run.update-operand env dst (sum (value dst s) (value src s)) s in
           let u = with-flags (env .fill) t in
           let g = update-held env dst (sum (value dst s) (value src s)) s h in
@@ -358,7 +358,7 @@ module _ (env : Env) where
           sum-mod sum-carry mul-mod add-lanes equal-lanes shl-lanes shr-lanes shuffle-lanes shift-quad
       says-ins (Mov64 dst src) fits = says-get _ _ (says-source src _ _ (λ e. says-keep dst _ _ (λ _. is src (fits .1) e)))
       says-ins (Add64 dst src) fits =
-          says-get _ _ (says-two dst src fits (Add64 dst src) (λ a b. (a + b) % 2 ^ 64) (λ a b. env .rule (env .fill) (s .flags) a b 0))
+          says-get _ _ (says-two dst src fits (Add64 dst src) (λ a b. (a + b) % 2 ^ 64) (λ a b. env .rule .flags (env .fill) (s .flags) a b 0))
       says-ins (AddLea64 dst src1 src2) fits =
           says-get _ _ (says-source src1 _ _ (λ e. says-source src2 _ _ (λ g.
           says-keep dst _ _ (λ _. ap₂ (λ a b. (a + b) % 2 ^ 64) (is src1 (fits .1 .0) e) (is src2 (fits .1 .1) g)))))

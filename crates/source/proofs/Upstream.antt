@@ -21,7 +21,7 @@ use Rattle.machine.specs.declared.Operand.{Operand}
 use Rattle.machine.proofs.RegisterLaws.{xmm-same, xmm-other}
 use Rattle.code.specs.declared.tree.Instruction.the-variants.{Add64, AddCarry64, Pcmpeqd}
 use Rattle.machine.specs.Memory.{Memory}
-use Rattle.eval.specs.FlagRule.{base-flags}
+use Rattle.eval.specs.FlagRule.{base-flags, base-rule}
 use Rattle.source.specs.Source.{State, eval-reg, eval-xmm, update-reg′, update-xmm′, choose, if-some, eval-ins, eval-while, eval-code, eval-codes}
 use Rattle.source.specs.Upstream.{Upstream, IntToNatN, add64-text, add-carry64-text, pcmpeqd-text}
 
@@ -95,16 +95,16 @@ unfolding two-to-nat
 pair int-to-natN meets x l h = sym (meets (2 ^ 64) (x .lo + x .hi * 2 ^ 32) (two-to-nat-lt 32 x l h))
 
 module _ (load-mem64 : ℤ → Memory → ℕ) (int-to-nat64 : ℤ → ℕ) (fill : ℕ) where
-  ins-pcmpeqd : (dst src : ℕ) → eval-ins load-mem64 int-to-nat64 fill base-flags (Pcmpeqd dst src) ≡ pcmpeqd-text load-mem64 int-to-nat64 fill dst src
+  ins-pcmpeqd : (dst src : ℕ) → eval-ins load-mem64 int-to-nat64 fill base-rule (Pcmpeqd dst src) ≡ pcmpeqd-text load-mem64 int-to-nat64 fill dst src
   unfolding eval-ins
   ins-pcmpeqd dst src = refl
 
-  ins-add : (dst src : Operand) → eval-ins load-mem64 int-to-nat64 fill base-flags (Add64 dst src) ≡ add64-text load-mem64 int-to-nat64 fill dst src
+  ins-add : (dst src : Operand) → eval-ins load-mem64 int-to-nat64 fill base-rule (Add64 dst src) ≡ add64-text load-mem64 int-to-nat64 fill dst src
   unfolding eval-ins
   ins-add dst src = simp no-carry
 
   ins-add-carry : (dst src : Operand)
-      → eval-ins load-mem64 int-to-nat64 fill base-flags (AddCarry64 dst src) ≡ add-carry64-text load-mem64 int-to-nat64 fill dst src
+      → eval-ins load-mem64 int-to-nat64 fill base-rule (AddCarry64 dst src) ≡ add-carry64-text load-mem64 int-to-nat64 fill dst src
   unfolding eval-ins base-flags sum-carry
   ins-add-carry dst src = refl
 

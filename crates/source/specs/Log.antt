@@ -157,7 +157,7 @@ module _ (load-mem64 : ℤ → Memory → ℕ) (int-to-nat64 : ℤ → ℕ) (fil
       s ← get
       check (source-number src) (valid-operand src)
       update-operand dst (Add64 dst src) ((eval-operand dst s + eval-operand src s) % pow2-64)
-      quiet (update-flags (rule fill (s .flags) (eval-operand dst s) (eval-operand src s) 0))
+      quiet (update-flags (rule .flags fill (s .flags) (eval-operand dst s) (eval-operand src s) 0))
     note-ins (AddLea64 dst src1 src2) = do
       s ← get
       check (source-number src1) (valid-operand src1)
@@ -170,7 +170,7 @@ module _ (load-mem64 : ℤ → Memory → ℕ) (int-to-nat64 : ℤ → ℕ) (fil
       let sum = eval-operand dst s + eval-operand src s + old-carry
       update-operand dst (AddCarry64 dst src) (sum % pow2-64)
       quiet (update-flags (havoc s (AddCarry64 dst src)))
-      quiet (update-flags (rule fill (s .flags) (eval-operand dst s) (eval-operand src s) old-carry))
+      quiet (update-flags (rule .flags fill (s .flags) (eval-operand dst s) (eval-operand src s) old-carry))
     note-ins (Adcx64 dst src) = do
       s ← get
       check (source-number src) (valid-operand src)

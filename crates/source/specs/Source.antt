@@ -2,7 +2,7 @@
 -- Where it is written another way than the text (Upstream names the places), Upstream says that the two are the same.
 -- F* has no Popcnt64, Lzcnt64 and Tzcnt64: their clauses of `eval-ins`, the last three, are request 2026-02's.
 -- Open places: every `load_mem64` and `int_to_nat64` that meets its clause is a parameter; `havoc` is the fill word.
--- The flags of Add64 and AddCarry64 are a parameter too, `rule`: with `base-flags` they are F*'s, with `board-flags` request 2026-06's.
+-- The flags of Add64 and AddCarry64 are a parameter too, `rule`: with `base-rule` they are F*'s, with `board-rule` request 2026-06's.
 use Prim.Native.Nat.{ℕ, zero, suc, _+_, _*_, _%_, _^_}
 use mathlib.Core.Bool.{Bool, true, false, not, _&&_, cond}
 use mathlib.Core.List.{List}
@@ -263,7 +263,7 @@ module _ (load-mem64 : ℤ → Memory → ℕ) (int-to-nat64 : ℤ → ℕ) (fil
       s ← get
       check (valid-operand src)
       update-operand dst (Add64 dst src) ((eval-operand dst s + eval-operand src s) % pow2-64)
-      update-flags (rule fill (s .flags) (eval-operand dst s) (eval-operand src s) 0)
+      update-flags (rule .flags fill (s .flags) (eval-operand dst s) (eval-operand src s) 0)
     eval-ins (AddLea64 dst src1 src2) = do
       s ← get
       check (valid-operand src1)
@@ -276,7 +276,7 @@ module _ (load-mem64 : ℤ → Memory → ℕ) (int-to-nat64 : ℤ → ℕ) (fil
       let sum = eval-operand dst s + eval-operand src s + old-carry
       update-operand dst (AddCarry64 dst src) (sum % pow2-64)
       update-flags (havoc s (AddCarry64 dst src))
-      update-flags (rule fill (s .flags) (eval-operand dst s) (eval-operand src s) old-carry)
+      update-flags (rule .flags fill (s .flags) (eval-operand dst s) (eval-operand src s) old-carry)
     eval-ins (Adcx64 dst src) = do
       s ← get
       check (valid-operand src)

@@ -22,7 +22,7 @@ use Rattle.code.specs.declared.tree.Instruction.{Instruction}
 use Rattle.code.specs.declared.tree.Instruction.the-variants.{Add64, AddCarry64, Pcmpeqd}
 use Rattle.code.specs.declared.tree.Ocmp.{Ocmp}
 use Rattle.code.specs.Tree.{Code, Ins, Block, IfElse, While, Codes, ⟨⟩, _∷ᶜ_}
-use Rattle.eval.specs.FlagRule.{base-flags}
+use Rattle.eval.specs.FlagRule.{base-rule}
 use Rattle.source.specs.Source as Source
 use Rattle.source.specs.Source.{State, St, pow2-64, _>>=_, _>>_, get, check, valid-operand, eval-reg, eval-xmm, update-reg′, update-xmm′, update-xmm-preserve-flags, update-flags, run, if-some}
 
@@ -33,7 +33,7 @@ IntToNatN int-to-natN = (n i : ℕ) → i < n → int-to-natN n (pos i) ≡ i
 module _ (load-mem64 : ℤ → Memory → ℕ) (int-to-nat64 : ℤ → ℕ) (fill : ℕ) where
   -- what the text names, over the open places and F*'s flag rule
   abbrev eval-ins : Instruction → St (Unit {0})
-  eval-ins = Source.eval-ins load-mem64 int-to-nat64 fill base-flags
+  eval-ins = Source.eval-ins load-mem64 int-to-nat64 fill base-rule
 
   -- `eval_operand`
   abbrev eval-operand : Operand → State → ℕ
@@ -49,15 +49,15 @@ module _ (load-mem64 : ℤ → Memory → ℕ) (int-to-nat64 : ℤ → ℕ) (fil
 
   -- `eval_code`
   abbrev eval-code : Code → ℕ → State → Option State
-  eval-code = Source.eval-code load-mem64 int-to-nat64 fill base-flags
+  eval-code = Source.eval-code load-mem64 int-to-nat64 fill base-rule
 
   -- `eval_codes`
   abbrev eval-codes : Codes → ℕ → State → Option State
-  eval-codes = Source.eval-codes load-mem64 int-to-nat64 fill base-flags
+  eval-codes = Source.eval-codes load-mem64 int-to-nat64 fill base-rule
 
   -- `eval_while b c`
   abbrev eval-while : Ocmp → Code → ℕ → State → Option State
-  eval-while b c = Source.eval-while load-mem64 int-to-nat64 fill b (Source.eval-code load-mem64 int-to-nat64 fill base-flags c)
+  eval-while b c = Source.eval-while load-mem64 int-to-nat64 fill b (Source.eval-code load-mem64 int-to-nat64 fill base-rule c)
 
   -- `run_ocmp`
   abbrev run-ocmp : State → Ocmp → State × Bool

@@ -14,11 +14,13 @@ use Rattle.machine.specs.declared.Operand.the-variants.{OConst, OReg, OMem}
 use Rattle.words.specs.Words.{Four}
 use Rattle.code.specs.declared.tree.Instruction.{Instruction}
 use Rattle.code.specs.declared.tree.Ocmp.{Ocmp}
+use Rattle.code.specs.Layout.{layout, ocmp-layout}
 use Rattle.code.specs.Tree.{Code, Ins, Block, IfElse, While, Codes, ⟨⟩, _∷ᶜ_}
 use Rattle.eval.specs.Config.{Env, Config, with-regs, with-xmms, with-flags, End, ends, Outcome, done, fault, stopped, spent, refused, check}
 use Rattle.eval.specs.Instructions.{cell-of, update-operand, readable, ruled, set-regs, set-xmms, written, act, run-ins, valid-ocmp, ocmp-number, eval-ocmp}
+use Rattle.eval.specs.Watch.{watched}
 use Rattle.eval.specs.Counted.{Counted, Ended, ended, Part, continue, used-up, count, step}
-use Rattle.eval.specs.Running.{run-ocmp, decide, rounds, run-code, run-codes}
+use Rattle.eval.specs.Running.{run-ocmp, step-ins, step-ocmp, decide, rounds, run-code, run-codes}
 use Rattle.stores.specs.Stores.{Store, with-stores, to-cell, store, stores-to, stores, stores-of, Completed, if-done, Completes, way, completed, completed-all, completed-rounds}
 
 pub make-append : (a b : List Store) (vs : List ℕ) → with-stores (a ++ b) vs ≡ with-stores b (with-stores a vs)
@@ -146,12 +148,12 @@ module _ (env : Env) where
 
   module _ (limit : Option ℕ) where
     traced-ins : (p : ℕ) (i : Instruction) (s : Config) (k : Counted)
-        → Traced (s .values) (completed env limit (Ins p i) 0 s k) (step limit p (run-ins env p i) s k)
+        → Traced (s .values) (completed env limit (Ins p i) 0 s k) (step-ins env limit p i s k)
     unfolding step completed if-done stores-of with-stores
     traced-ins p i s k = go (used-up limit k)
       where
         tried : Ended
-        tried = record { end = run-ins env p i s; counted = count (run-ins env p i s .how) k }
+        tried = record { end = run-ins env p i s; counted = count (run-ins env p i s .how) (watched (env .rule) (layout i .kind) p) k }
 
         d : Completed
         d = record { instruction = i; before = s }
@@ -164,7 +166,7 @@ module _ (env : Env) where
             traced-one d (s .values) (e .how) (e .config) (tried .counted) (m .judged) (m .all) (λ n. ap (λ (t : Config). t .values) (m .nothing n))
 
     -- a comparison completes no instruction
-    traced-ocmp : (q : ℕ) (c : Ocmp) (s : Config) (k : Counted) → Traced (s .values) [] (step limit q (run-ocmp env q c) s k)
+    traced-ocmp : (q : ℕ) (c : Ocmp) (s : Config) (k : Counted) → Traced (s .values) [] (step-ocmp env limit q c s k)
     unfolding step run-ocmp check stores-of with-stores
     traced-ocmp q c s k = go (used-up limit k) (valid-ocmp env c s)
       where
@@ -173,7 +175,7 @@ module _ (env : Env) where
 
         go : (a b : Bool)
             → let e = check b (ocmp-number env c s) q s passed in
-            Traced (s .values) [] (cond a (ended (stopped 37 q) s k) (record { end = e; counted = count (e .how) k }))
+            Traced (s .values) [] (cond a (ended (stopped 37 q) s k) (record { end = e; counted = count (e .how) (watched (env .rule) (ocmp-layout c .kind) q) k }))
         go true b = record { judged = tt; made = refl }
         go false true = record { judged = tt; made = refl }
         go false false = record { judged = tt; made = refl }
@@ -182,7 +184,7 @@ module _ (env : Env) where
         → AllTraced (way env limit q c l m) (decide env limit q c f g)
     unfolding decide way
     traced-way q c f g l m F G s k =
-        let e = step limit q (run-ocmp env q c) s k in
+        let e = step-ocmp env limit q c s k in
         let b = eval-ocmp env c s in
         traced-if-done (s .values) [] (e .end .how) (e .end .config) (e .counted) (cond b f g) (cond b l m) (traced-ocmp q c s k)
         (traced-cond b l m f g F G (e .end .config) (e .counted))

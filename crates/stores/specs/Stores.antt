@@ -11,8 +11,8 @@ use Rattle.code.specs.declared.tree.Ocmp.{Ocmp}
 use Rattle.code.specs.Tree.{Code, Ins, Block, IfElse, While, Codes, ⟨⟩, _∷ᶜ_}
 use Rattle.eval.specs.Config.{Env, Config, Outcome, done, fault, stopped, spent, refused}
 use Rattle.eval.specs.Instructions.{cell-of, update-operand, act, run-ins, eval-ocmp}
-use Rattle.eval.specs.Counted.{Counted, Part, step}
-use Rattle.eval.specs.Running.{run-ocmp, run-code}
+use Rattle.eval.specs.Counted.{Counted, Part}
+use Rattle.eval.specs.Running.{step-ins, step-ocmp, run-code}
 
 -- a value for the cell at an index
 pub record Store : Type 0 where
@@ -71,7 +71,7 @@ module _ (env : Env) (limit : Option ℕ) where
   -- those of the way that a comparison decides on: none where it is not done
   unfoldable pub way : ℕ → Ocmp → Completes → Completes → Completes
   way q c yes-way no-way s k =
-      let e = step limit q (run-ocmp env q c) s k in
+      let e = step-ocmp env limit q c s k in
       if-done (e .end .how) (cond (eval-ocmp env c s) yes-way no-way (e .end .config) (e .counted))
 
   -- those of the rounds of a While
@@ -87,7 +87,7 @@ module _ (env : Env) (limit : Option ℕ) where
   unfoldable mutual
     -- those of a code, in order
     pub completed : Code → ℕ → Completes
-    completed (Ins p i) fuel s k = if-done (step limit p (run-ins env p i) s k .end .how) (record { instruction = i; before = s } ∷ [])
+    completed (Ins p i) fuel s k = if-done (step-ins env limit p i s k .end .how) (record { instruction = i; before = s } ∷ [])
     completed (Block p cs) fuel s k = completed-all cs fuel s k
     completed (IfElse p q c a b) fuel s k = way q c (completed a fuel) (completed b fuel) s k
     completed (While p q c b) fuel s k = completed-rounds (run-code env limit b) (completed b) q c fuel s k
