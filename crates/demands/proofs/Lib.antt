@@ -5,3 +5,5 @@ pub mod Telling
 pub mod Bound
 pub mod Stepping
 pub mod Overflowing
+pub mod Filling
+pub mod Watching
