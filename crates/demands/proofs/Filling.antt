@@ -50,6 +50,10 @@ pub turned-fault : (h g n p : ℕ) (u : Config) → turned h g (ends (fault n p)
 unfolding turned flags-at
 turned-fault h g n p u = refl
 
+pub turned-flags : (h g : ℕ) (e : End) → e .how ≡ done → turned h g e .config .flags ≡ h
+unfolding turned flags-at
+turned-flags h g e is = rw is
+
 -- an act with other flags
 abbrev pub with-act-flags : ℕ → Act → Act
 with-act-flags h a = record { sources = a .sources; rules = a .rules; words = a .words; regs = a .regs; quads = a .quads; flags = h }

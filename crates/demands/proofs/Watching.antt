@@ -6,6 +6,7 @@ use mathlib.Core.Bool.{Bool, true, false, cond, _&&_, _||_, false≢true}
 use mathlib.Core.List.{List, [], _∷_}
 use mathlib.Core.Option.{Option}
 use native.Mathlib.Omega.{arith}
+use borrow.Author.Tests.{ne-eqb}
 use lib.Dec.{eqb}
 use Rattle.words.specs.Flags.{cf, overflow}
 use Rattle.machine.specs.Cells.{Verdict, accepted, check-cells}
@@ -22,15 +23,16 @@ use Rattle.eval.specs.declared.answer.Watch.{Watch}
 use Rattle.eval.specs.declared.answer.Mark.{Mark}
 use Rattle.eval.specs.declared.answer.Mark.the-variants.{Unmarked, Marked}
 use Rattle.eval.specs.FlagRule.{Touch, keeps, opens, closes, FlagRule, flag-rule}
-use Rattle.eval.specs.Config.{Env, Config, with-flags, Outcome, done, fault, stopped, spent, refused, End, ends}
+use Rattle.eval.specs.Config.{Env, Config, with-flags, Outcome, done, fault, stopped, spent, refused, End, ends, check}
 use Rattle.eval.specs.Watch.{nothing-open, touched, open-after, reads-open, first-mark, watched}
 use Rattle.eval.specs.Counted.{Counted, nothing-counted, Ended, ended, Part, continue, and-then, used-up, count, step}
-use Rattle.eval.specs.Instructions.{act, run-ins, eval-ocmp}
+use Rattle.eval.specs.Instructions.{act, run-ins, valid-ocmp, ocmp-number, eval-ocmp}
 use Rattle.eval.specs.Running.{run-ocmp, step-ins, step-ocmp, decide, rounds, run-code, run-codes, run-checked, run-read, run-of}
+use Rattle.stores.proofs.OnlyStores.{never-refused}
 use Rattle.demands.specs.Stepping.{DoneOrFails, is-done, fails}
 use Rattle.demands.specs.Watching.{Says, Right, SameButOpen, WatchingBy, Watching}
 use Rattle.demands.proofs.Stepping.{stepping}
-use Rattle.demands.proofs.Filling.{under, turned, turned-done, turned-fault, SameRead, Between, steady, done-flags, ins-how, ins-turned, same-ocmp, ocmp-turned}
+use Rattle.demands.proofs.Filling.{under, turned, turned-done, turned-fault, turned-flags, SameRead, Between, steady, done-flags, ins-how, ins-turned, same-ocmp, ocmp-turned}
 
 -- ---- marks
 -- what reads no open flag keeps the mark, and a mark stays
@@ -71,6 +73,11 @@ record Alike (w : Watch) (s t : Config) : Type 0 where
 reflagged : {w : Watch} (s t : Config) → Alike w s t → t ≡ with-flags (t .flags) s
 reflagged s t a = rw (sym (a .regs), sym (a .xmms), sym (a .values))
 
+-- what is open is the fill word's
+record Opened (fill : ℕ) (w : Watch) (s : Config) : Type 0 where
+  carry : w .carry ≡ true → cf (s .flags) ≡ cf fill
+  over : w .overflow ≡ true → overflow (s .flags) ≡ overflow fill
+
 -- two ends
 record Same (one two : Ended) : Type 0 where
   how : two .end .how ≡ one .end .how
@@ -81,9 +88,11 @@ record Same (one two : Ended) : Type 0 where
 abbrev Follows : Ended → Ended → Type 0
 Follows one two = one .counted .watch .mark ≡ Unmarked → Same one two
 
--- a part of the run under one fill word, and the same part under the other: a mark stays, and where there is none in the end the two follow each other
-record Beside (f g : Part) : Type 0 where
+-- a part of the run under one fill word, and the same part under the other: a mark stays, what is open is the fill word's, and where there is no mark in the
+-- end the two follow each other
+record Beside (fill : ℕ) (f g : Part) : Type 0 where
   stays : (s : Config) (k : Counted) (q : ℕ) → k .watch .mark ≡ Marked q → f s k .counted .watch .mark ≡ Marked q
+  opened : (s : Config) (k : Counted) → Opened fill (k .watch) s → Opened fill (f s k .counted .watch) (f s k .end .config)
   follows : (s t : Config) (k : Counted) → Alike (k .watch) s t → Follows (f s k) (g t k)
 
 unmarked-before : (f : Part) → ((s : Config) (k : Counted) (q : ℕ) → k .watch .mark ≡ Marked q → f s k .counted .watch .mark ≡ Marked q)
@@ -95,7 +104,7 @@ unmarked-before f stays s k e = go (k .watch .mark) refl
     go (Marked q) is = absurd (let x : Unmarked ≡ Marked q = sym e ∙ stays s k q is in let z : _≡_ {A = ℕ} 0 1 = cc in omega arith)
 
 -- ---- one after the other
-module _ (f g : Part) (B : Beside f g) where
+module _ (fill : ℕ) (f g : Part) (B : Beside fill f g) where
   then-stays : (x : Ended) (q : ℕ) → x .counted .watch .mark ≡ Marked q → and-then x f .counted .watch .mark ≡ Marked q
   unfolding continue
   then-stays x q m = go (x .end .how)
@@ -106,6 +115,18 @@ module _ (f g : Part) (B : Beside f g) where
       go (stopped n p) = m
       go (spent p) = m
       go (refused n p) = m
+
+  then-opened : (x : Ended) → Opened fill (x .counted .watch) (x .end .config)
+      → Opened fill (and-then x f .counted .watch) (and-then x f .end .config)
+  unfolding continue
+  then-opened x h = go (x .end .how)
+    where
+      go : (o : Outcome) → let y = continue o (x .end .config) (x .counted) f in Opened fill (y .counted .watch) (y .end .config)
+      go done = B .opened _ _ h
+      go (fault n p) = h
+      go (stopped n p) = h
+      go (spent p) = h
+      go (refused n p) = h
 
   then-follows : (x y : Ended) → Follows x y → Follows (and-then x f) (and-then y g)
   unfolding continue
@@ -137,14 +158,15 @@ module _ (f g : Part) (B : Beside f g) where
       go (spent p) is m = over _ is (λ v l part. refl) m
       go (refused n p) is m = over _ is (λ v l part. refl) m
 
-beside-cond : (b : Bool) (f g f′ g′ : Part) → Beside f f′ → Beside g g′ → Beside (cond b f g) (cond b f′ g′)
-beside-cond true f g f′ g′ F G = F
-beside-cond false f g f′ g′ F G = G
+beside-cond : (fill : ℕ) (b : Bool) (f g f′ g′ : Part) → Beside fill f f′ → Beside fill g g′ → Beside fill (cond b f g) (cond b f′ g′)
+beside-cond fill true f g f′ g′ F G = F
+beside-cond fill false f g f′ g′ F G = G
 
 -- a part that ends at once
-beside-end : (o : Outcome) → Beside (ended o) (ended o)
-beside-end o = record {
+beside-end : (fill : ℕ) (o : Outcome) → Beside fill (ended o) (ended o)
+beside-end fill o = record {
   stays = λ s k q m. m;
+  opened = λ s k h. h;
   follows = λ s t k a m. record { how = refl; counted = refl; alike = a };
 }
 
@@ -156,8 +178,14 @@ data Acts (p : ℕ) (sees : Watch → Watch) (w : Watch) (s t : Config) (one two
   both-done : (u : Config) → one ≡ ends done u → (sees w .mark ≡ Unmarked → (v : Config) × (two ≡ ends done v) × Alike (sees w) u v)
       → Acts p sees w s t one two
 
-module _ (limit : Option ℕ) (p : ℕ) (sees : Watch → Watch) (a b : Config → End)
+-- and alone: it fails, or what it leaves open is the fill word's
+data Opens (fill p : ℕ) (sees : Watch → Watch) (w : Watch) (s : Config) (one : End) : Type 0 where
+  none-done : (n : ℕ) → one ≡ ends (fault n p) s → Opens fill p sees w s one
+  one-done : (u : Config) → one ≡ ends done u → Opened fill (sees w) u → Opens fill p sees w s one
+
+module _ (limit : Option ℕ) (fill p : ℕ) (sees : Watch → Watch) (a b : Config → End)
     (keeps-mark : (w : Watch) (q : ℕ) → w .mark ≡ Marked q → sees w .mark ≡ Marked q)
+    (leaves : (w : Watch) (s : Config) → Opened fill w s → Opens fill p sees w s (a s))
     (acts : (w : Watch) (s t : Config) → Alike w s t → Acts p sees w s t (a s) (b t)) where
   count-stays : (o : Outcome) (k : Counted) (q : ℕ) → k .watch .mark ≡ Marked q → count o sees k .watch .mark ≡ Marked q
   unfolding count
@@ -192,8 +220,22 @@ module _ (limit : Option ℕ) (p : ℕ) (sees : Watch → Watch) (a b : Config �
       go true m = record { how = refl; counted = refl; alike = alike }
       go false m = tried (acts (k .watch) s t alike) m
 
-  beside-step : Beside (step limit p sees a) (step limit p sees b)
-  beside-step = record { stays = step-stays; follows = step-follows }
+  step-opened : (s : Config) (k : Counted) → Opened fill (k .watch) s
+      → let e = step limit p sees a s k in Opened fill (e .counted .watch) (e .end .config)
+  unfolding step count
+  step-opened s k h = go (used-up limit k)
+    where
+      tried : Opens fill p sees (k .watch) s (a s) → Opened fill (count (a s .how) sees k .watch) (a s .config)
+      tried (none-done n e) = rw e h
+      tried (one-done u e after) = rw e after
+
+      go : (c : Bool) → let e = cond c (ended (stopped 37 p) s k) (record { end = a s; counted = count (a s .how) sees k }) in
+          Opened fill (e .counted .watch) (e .end .config)
+      go true = h
+      go false = tried (leaves (k .watch) s h)
+
+  beside-step : Beside fill (step limit p sees a) (step limit p sees b)
+  beside-step = record { stays = step-stays; opened = step-opened; follows = step-follows }
 
 -- ---- an instruction, and a comparison
 watched-stays : (rule : FlagRule) (n p : ℕ) (w : Watch) (q : ℕ) → w .mark ≡ Marked q → watched rule n p w .mark ≡ Marked q
@@ -332,49 +374,291 @@ module _ (e : Evaluation) (addresses tags : List ℕ) (fill other : ℕ) where
         go (fails n d) =
             both-fail n d (compares ∙ ap (turned other (t .flags)) d ∙ turned-fault other (t .flags) n q s ∙ ap (ends (fault n q)) (sym (reflagged s t a)))
 
+  -- what is left open, of one run
+  module _ (p : ℕ) (i : Instruction) (w : Watch) (s : Config) (h : Opened fill w s) where
+    -- beside itself
+    self : SameRead e addresses tags fill fill p s (s .flags) (s .flags) (layout i .kind)
+    self = record { carry = λ _. refl; over = λ _. refl }
+
+    ins-opens : Opens fill p (watched (flag-rule e) (layout i .kind) p) w s (run-ins env p i s)
+    unfolding watched
+    ins-opens = go (stepping .instruction env p i s)
+      where
+        after : (u : Config) → run-ins env p i s ≡ ends done u → Opened fill (watched (flag-rule e) (layout i .kind) p w) u
+        after u d =
+            let left = done-flags e addresses tags fill p i s u d in
+            let row = steady e addresses tags fill fill p s (s .flags) (s .flags) i in
+            record {
+              carry = λ o. ap cf left ∙ open-fill cf fill fill (s .flags) (s .flags) _ _ _ (w .carry) (row .carries self) (h .carry) o;
+              over = λ o. ap overflow left ∙ open-fill overflow fill fill (s .flags) (s .flags) _ _ _ (w .overflow) (row .overflows self) (h .over) o;
+            }
+
+        go : DoneOrFails p s (run-ins env p i s) → Opens fill p (watched (flag-rule e) (layout i .kind) p) w s (run-ins env p i s)
+        go (is-done u d) = one-done u d (after u d)
+        go (fails n d) = none-done n d
+
+  ocmp-leaves : (q : ℕ) (c : Ocmp) (w : Watch) (s : Config) → Opened fill w s
+      → Opens fill q (watched (flag-rule e) (ocmp-layout c .kind) q) w s (run-ocmp env q c s)
+  unfolding run-ocmp check
+  ocmp-leaves q c w s h = go (valid-ocmp env c s)
+    where
+      go : (v : Bool) → Opens fill q (watched (flag-rule e) (ocmp-layout c .kind) q) w s (check v (ocmp-number env c s) q s (ends done (with-flags fill s)))
+      go true = one-done (with-flags fill s) refl (record { carry = λ _. refl; over = λ _. refl })
+      go false = none-done (ocmp-number env c s) refl
+
   -- ---- codes
   module _ (limit : Option ℕ) where
-    beside-ins : (p : ℕ) (i : Instruction) → Beside (step-ins env limit p i) (step-ins env′ limit p i)
-    beside-ins p i = beside-step limit p _ _ _ (watched-stays (flag-rule e) (layout i .kind) p) (ins-acts p i)
+    beside-ins : (p : ℕ) (i : Instruction) → Beside fill (step-ins env limit p i) (step-ins env′ limit p i)
+    beside-ins p i = beside-step limit fill p _ _ _ (watched-stays (flag-rule e) (layout i .kind) p) (ins-opens p i) (ins-acts p i)
 
-    beside-ocmp : (q : ℕ) (c : Ocmp) → Beside (step-ocmp env limit q c) (step-ocmp env′ limit q c)
-    beside-ocmp q c = beside-step limit q _ _ _ (watched-stays (flag-rule e) (ocmp-layout c .kind) q) (ocmp-acts q c)
+    beside-ocmp : (q : ℕ) (c : Ocmp) → Beside fill (step-ocmp env limit q c) (step-ocmp env′ limit q c)
+    beside-ocmp q c = beside-step limit fill q _ _ _ (watched-stays (flag-rule e) (ocmp-layout c .kind) q) (ocmp-leaves q c) (ocmp-acts q c)
 
-    beside-decide : (q : ℕ) (c : Ocmp) (f g f′ g′ : Part) → Beside f f′ → Beside g g′ → Beside (decide env limit q c f g) (decide env′ limit q c f′ g′)
+    beside-decide : (q : ℕ) (c : Ocmp) (f g f′ g′ : Part) → Beside fill f f′ → Beside fill g g′ → Beside fill (decide env limit q c f g) (decide env′ limit q c f′ g′)
     unfolding decide
     beside-decide q c f g f′ g′ F G = record {
       stays = λ s k r m.
           let b = eval-ocmp env c s in
-          then-stays (cond b f g) (cond b f′ g′) (beside-cond b f g f′ g′ F G) _ r (beside-ocmp q c .stays s k r m);
+          then-stays fill (cond b f g) (cond b f′ g′) (beside-cond fill b f g f′ g′ F G) _ r (beside-ocmp q c .stays s k r m);
+      opened = λ s k h.
+          let b = eval-ocmp env c s in
+          then-opened fill (cond b f g) (cond b f′ g′) (beside-cond fill b f g f′ g′ F G) _ (beside-ocmp q c .opened s k h);
       follows = λ s t k a.
           let b = eval-ocmp env c s in
           subst⁻¹ (λ (d : Bool). Follows (and-then (step-ocmp env limit q c s k) (cond b f g)) (and-then (step-ocmp env′ limit q c t k) (cond d f′ g′)))
           (answers-same q c (k .watch) s t a)
-          (then-follows (cond b f g) (cond b f′ g′) (beside-cond b f g f′ g′ F G) _ _ (beside-ocmp q c .follows s t k a));
+          (then-follows fill (cond b f g) (cond b f′ g′) (beside-cond fill b f g f′ g′ F G) _ _ (beside-ocmp q c .follows s t k a));
     }
 
-    beside-then : (f f′ g g′ : Part) → Beside f f′ → Beside g g′ → Beside (λ s k. and-then (f s k) g) (λ s k. and-then (f′ s k) g′)
+    beside-then : (f f′ g g′ : Part) → Beside fill f f′ → Beside fill g g′ → Beside fill (λ s k. and-then (f s k) g) (λ s k. and-then (f′ s k) g′)
     beside-then f f′ g g′ F G = record {
-      stays = λ s k r m. then-stays g g′ G _ r (F .stays s k r m);
-      follows = λ s t k a. then-follows g g′ G _ _ (F .follows s t k a);
+      stays = λ s k r m. then-stays fill g g′ G _ r (F .stays s k r m);
+      opened = λ s k h. then-opened fill g g′ G _ (F .opened s k h);
+      follows = λ s t k a. then-follows fill g g′ G _ _ (F .follows s t k a);
     }
 
-    beside-rounds : (body body′ : ℕ → Part) → ((n : ℕ) → Beside (body n) (body′ n)) → (p q : ℕ) (c : Ocmp) (n : ℕ)
-        → Beside (rounds env limit body p q c n) (rounds env′ limit body′ p q c n)
+    beside-rounds : (body body′ : ℕ → Part) → ((n : ℕ) → Beside fill (body n) (body′ n)) → (p q : ℕ) (c : Ocmp) (n : ℕ)
+        → Beside fill (rounds env limit body p q c n) (rounds env′ limit body′ p q c n)
     unfolding rounds
-    beside-rounds body body′ B p q c zero = beside-end (spent p)
+    beside-rounds body body′ B p q c zero = beside-end fill (spent p)
     beside-rounds body body′ B p q c (suc n) =
-        beside-decide q c _ _ _ _ (beside-then (body n) (body′ n) _ _ (B n) (beside-rounds body body′ B p q c n)) (beside-end done)
+        beside-decide q c _ _ _ _ (beside-then (body n) (body′ n) _ _ (B n) (beside-rounds body body′ B p q c n)) (beside-end fill done)
 
     mutual
       unfolding run-code run-codes
 
-      beside-code : (c : Code) (n : ℕ) → Beside (run-code env limit c n) (run-code env′ limit c n)
+      beside-code : (c : Code) (n : ℕ) → Beside fill (run-code env limit c n) (run-code env′ limit c n)
       beside-code (Ins p i) n = beside-ins p i
       beside-code (Block p cs) n = beside-codes cs n
       beside-code (IfElse p q c a b) n = beside-decide q c _ _ _ _ (beside-code a n) (beside-code b n)
       beside-code (While p q c b) n = beside-rounds _ _ (beside-code b) p q c n
 
-      beside-codes : (cs : Codes) (n : ℕ) → Beside (run-codes env limit cs n) (run-codes env′ limit cs n)
-      beside-codes ⟨⟩ n = beside-end done
+      beside-codes : (cs : Codes) (n : ℕ) → Beside fill (run-codes env limit cs n) (run-codes env′ limit cs n)
+      beside-codes ⟨⟩ n = beside-end fill done
       beside-codes (c ∷ᶜ cs) n = beside-then _ _ _ _ (beside-code c n) (beside-codes cs n)
+
+-- ---- runs
+module _ (e : Evaluation) (addresses tags : List ℕ) (fill other : ℕ) (limit : Option ℕ) (fuel : ℕ) (s : Config) where
+  abbrev one : Env
+  one = under e addresses tags fill
+
+  abbrev two : Env
+  two = under e addresses tags other
+
+  itself : (w : Watch) → Alike w s s
+  itself w = record { regs = refl; xmms = refl; values = refl; carry = λ _. refl; over = λ _. refl }
+
+  at-once : (o : Outcome) → Same (ended o s nothing-counted) (ended o s nothing-counted)
+  at-once o = record { how = refl; counted = refl; alike = itself nothing-open }
+
+  nothing-opened : Opened fill nothing-open s
+  nothing-opened = record { carry = λ z. absurd (false≢true z); over = λ z. absurd (false≢true z) }
+
+  checked-follows : (v : Verdict) (c : Code) → Follows (run-checked one v c fuel limit s) (run-checked two v c fuel limit s)
+  unfolding run-checked
+  checked-follows accepted c m = beside-code e addresses tags fill other limit c fuel .follows s s nothing-counted (itself nothing-open) m
+  checked-follows (cells-refused n i) c m = at-once (refused n i)
+
+  run-follows : (code : List ℕ) → Follows (run-of code one fuel limit s) (run-of code two fuel limit s)
+  unfolding run-of run-read
+  run-follows code = read (parse code)
+    where
+      read : (r : Read Code) → Follows (run-read one r fuel limit s) (run-read two r fuel limit s)
+      read (got c next) m = checked-follows (check-cells addresses tags (s .values)) c m
+      read (trouble n p) m = at-once (refused n p)
+
+  checked-opened : (v : Verdict) (c : Code) → let r = run-checked one v c fuel limit s in Opened fill (r .counted .watch) (r .end .config)
+  unfolding run-checked
+  checked-opened accepted c = beside-code e addresses tags fill other limit c fuel .opened s nothing-counted nothing-opened
+  checked-opened (cells-refused n i) c = nothing-opened
+
+  run-opened : (code : List ℕ) → let r = run-of code one fuel limit s in Opened fill (r .counted .watch) (r .end .config)
+  unfolding run-of run-read
+  run-opened code = read (parse code)
+    where
+      read : (r : Read Code) → let x = run-read one r fuel limit s in Opened fill (x .counted .watch) (x .end .config)
+      read (got c next) = checked-opened (check-cells addresses tags (s .values)) c
+      read (trouble n p) = nothing-opened
+
+same-but-open : (x y : Ended) → Same x y → SameButOpen x y
+same-but-open x y z = record {
+  how = z .how;
+  regs = z .alike .regs;
+  xmms = z .alike .xmms;
+  values = z .alike .values;
+  counted = z .counted;
+  carry = z .alike .carry;
+  over = z .alike .over;
+}
+
+-- ---- the table
+-- what a touch says, of one start under all fill words
+says : (flag : ℕ → Bool) (t : Touch) (f : ℕ) (left : ℕ → ℕ) → ((fill other : ℕ) → Between flag fill other f f t (left fill) (left other)) → Says flag t f left
+says flag keeps f left h = λ fill. h fill fill .0
+says flag opens f left h = λ fill. h fill fill .0
+says flag closes f left h = h
+
+module _ (e : Evaluation) (addresses tags : List ℕ) where
+  abbrev by-fill : ℕ → Env
+  by-fill = under e addresses tags
+
+  module _ (p : ℕ) (i : Instruction) (s : Config) (fill : ℕ) (completes : run-ins (by-fill fill) p i s .how ≡ done) where
+    -- it completes under every fill word, and leaves the flags of its act
+    leaves-act : (other : ℕ) → run-ins (by-fill other) p i s .config .flags ≡ act (by-fill other) i s .flags
+    leaves-act other = go (stepping .instruction (by-fill other) p i s)
+      where
+        go : DoneOrFails p s (run-ins (by-fill other) p i s) → run-ins (by-fill other) p i s .config .flags ≡ act (by-fill other) i s .flags
+        go (is-done u d) = ap (λ (x : End). x .config .flags) d ∙ done-flags e addresses tags other p i s u d
+        go (fails n d) =
+            absurd (not-fault (sym completes ∙ sym (ins-how e addresses tags fill other p s (s .flags) (s .flags) i) ∙ ap (λ (x : End). x .how) d))
+
+    row : (x y : ℕ)
+        → Between cf x y (s .flags) (s .flags) (touched (flag-rule e) (layout i .kind) .carry)
+        (act (by-fill x) i s .flags) (act (by-fill y) i s .flags)
+        × Between overflow x y (s .flags) (s .flags) (touched (flag-rule e) (layout i .kind) .overflow)
+        (act (by-fill x) i s .flags) (act (by-fill y) i s .flags)
+    row x y =
+        let w = steady e addresses tags x y p s (s .flags) (s .flags) i in
+        let same : SameRead e addresses tags x y p s (s .flags) (s .flags) (layout i .kind) = record { carry = λ _. refl; over = λ _. refl } in
+        (w .carries same, w .overflows same)
+
+    left : ℕ → ℕ
+    left x = run-ins (by-fill x) p i s .config .flags
+
+    ins-right : Right (touched (flag-rule e) (layout i .kind)) (s .flags) (λ fill. run-ins (by-fill fill) p i s)
+    unfolding left
+    ins-right =
+        let t = touched (flag-rule e) (layout i .kind) in
+        record {
+          carry = says cf (t .carry) (s .flags) left (λ x y. rw (leaves-act x, leaves-act y) (row x y .0));
+          over = says overflow (t .overflow) (s .flags) left (λ x y. rw (leaves-act x, leaves-act y) (row x y .1));
+        }
+
+  ocmp-right : (c : Ocmp) (q : ℕ) (s : Config) (fill : ℕ) → run-ocmp (by-fill fill) q c s .how ≡ done
+      → Right (touched (flag-rule e) (ocmp-layout c .kind)) (s .flags) (λ fill. run-ocmp (by-fill fill) q c s)
+  ocmp-right c q s fill completes = record {
+    carry = subst⁻¹ (λ t. Says cf t (s .flags) left) (ocmp-opens e addresses tags fill fill c .0) (λ x. ap cf (left-is x));
+    over = subst⁻¹ (λ t. Says overflow t (s .flags) left) (ocmp-opens e addresses tags fill fill c .1) (λ x. ap overflow (left-is x));
+  }
+    where
+      left : ℕ → ℕ
+      left x = run-ocmp (by-fill x) q c s .config .flags
+
+      left-is : (x : ℕ) → left x ≡ x
+      left-is x =
+          ap (λ (r : End). r .config .flags) (ocmp-turned e addresses tags fill x q s (s .flags) (s .flags) c)
+          ∙ turned-flags x (s .flags) (run-ocmp (by-fill fill) q c s) completes
+
+-- ---- what is watched
+module _ (limit : Option ℕ) (p : ℕ) (sees : Watch → Watch) (act : Config → End) (s : Config) (k : Counted) where
+  step-watched : step limit p sees act s k .end .how ≡ done → step limit p sees act s k .counted .watch ≡ sees (k .watch)
+  unfolding step count
+  step-watched = go (used-up limit k)
+    where
+      go : (b : Bool) → let e = cond b (ended (stopped 37 p) s k) (record { end = act s; counted = count (act s .how) sees k }) in
+          e .end .how ≡ done → e .counted .watch ≡ sees (k .watch)
+      go true d = absurd (let z : _≡_ {A = ℕ} 0 1 = cc in omega arith)
+      go false d = rw d
+
+  not-counted : (o : Outcome) → (o ≡ done → ⊥) → count o sees k ≡ k
+  unfolding count
+  not-counted done n = absurd (n refl)
+  not-counted (fault m q) n = refl
+  not-counted (stopped m q) n = refl
+  not-counted (spent q) n = refl
+  not-counted (refused m q) n = refl
+
+  step-unwatched : (step limit p sees act s k .end .how ≡ done → ⊥) → step limit p sees act s k .counted .watch ≡ k .watch
+  unfolding step
+  step-unwatched = go (used-up limit k)
+    where
+      go : (b : Bool) → let e = cond b (ended (stopped 37 p) s k) (record { end = act s; counted = count (act s .how) sees k }) in
+          (e .end .how ≡ done → ⊥) → e .counted .watch ≡ k .watch
+      go true n = refl
+      go false n = ap (λ (l : Counted). l .watch) (not-counted (act s .how) n)
+
+not-read : (k : ℕ) → (k ≡ 0x04 → ⊥) → (k ≡ 0x05 → ⊥) → (k ≡ 0x06 → ⊥) → (w : Watch) → reads-open k w ≡ false
+unfolding reads-open
+not-read k a b c w = rw (ne-eqb k 0x04 a, ne-eqb k 0x05 b, ne-eqb k 0x06 c)
+
+ocmp-reads : (c : Ocmp) (w : Watch) → reads-open (ocmp-layout c .kind) w ≡ false
+unfolding reads-open
+ocmp-reads (OEq a b) w = refl
+ocmp-reads (ONe a b) w = refl
+ocmp-reads (OLe a b) w = refl
+ocmp-reads (OGe a b) w = refl
+ocmp-reads (OLt a b) w = refl
+ocmp-reads (OGt a b) w = refl
+
+either : (b : Bool) → b || false ≡ b
+either true = refl
+either false = refl
+
+-- a refused run has begun nothing
+refused-so : (code : List ℕ) (env : Env) (fuel : ℕ) (limit : Option ℕ) (s : Config) (n p : ℕ)
+    → run-of code env fuel limit s .end .how ≡ refused n p → run-of code env fuel limit s .counted .watch ≡ nothing-open
+unfolding run-of run-read run-checked
+refused-so code env fuel limit s n p = read (parse code)
+  where
+    checked : (v : Verdict) (c : Code) → run-checked env v c fuel limit s .end .how ≡ refused n p → run-checked env v c fuel limit s .counted .watch ≡ nothing-open
+    checked accepted c h =
+        let x = run-code env limit c fuel s nothing-counted in
+        absurd (never-refused env limit c fuel s (x .end .config) n p (ap (λ (o : Outcome). ends o (x .end .config)) h))
+    checked (cells-refused m i) c h = refl
+
+    read : (r : Read Code) → run-read env r fuel limit s .end .how ≡ refused n p → run-read env r fuel limit s .counted .watch ≡ nothing-open
+    read (got c next) h = checked (check-cells (env .addresses) (env .tags) (s .values)) c h
+    read (trouble m q) h = refl
+
+marks-so : (rule : FlagRule) (n p : ℕ) (w : Watch) → w .mark ≡ Unmarked → reads-open n w ≡ true → watched rule n p w .mark ≡ Marked p
+unfolding watched first-mark
+marks-so rule n p w m r = rw (r, m)
+
+marks-none-so : (rule : FlagRule) (n p : ℕ) (w : Watch) → reads-open n w ≡ false → watched rule n p w .mark ≡ w .mark
+unfolding watched first-mark
+marks-none-so rule n p w r = rw r
+
+pub watching : Watching
+unfolding reads-open
+watching = record {
+  each = λ e addresses tags. record {
+    right = λ i p s fill. ins-right e addresses tags p i s fill;
+    right-compared = ocmp-right e addresses tags;
+    unmarked = λ code fuel limit s fill other m. same-but-open _ _ (run-follows e addresses tags fill other limit fuel s code m);
+    stays = λ c fuel limit s k fill p. beside-code e addresses tags fill fill limit c fuel .stays s k p;
+    carry-open = λ code fuel limit s fill. run-opened e addresses tags fill fill limit fuel s code .carry;
+    overflow-open = λ code fuel limit s fill. run-opened e addresses tags fill fill limit fuel s code .over;
+  };
+  completed = λ env limit p i s k. step-watched limit p _ (run-ins env p i) s k;
+  compared = λ env limit q c s k. step-watched limit q _ (run-ocmp env q c) s k;
+  not-completed = λ env limit p i s k. step-unwatched limit p _ (run-ins env p i) s k;
+  not-compared = λ env limit q c s k. step-unwatched limit q _ (run-ocmp env q c) s k;
+  add-carry64 = λ dst src w. either (w .carry);
+  adcx64 = λ dst src w. either (w .carry);
+  adox64 = λ dst src w. refl;
+  no-other = λ i. not-read (layout i .kind);
+  no-comparison = ocmp-reads;
+  marks = λ env. marks-so (env .rule);
+  marks-none = λ env. marks-none-so (env .rule);
+  refused-unmarked = refused-so;
+}

@@ -66,6 +66,9 @@ module _ (e : Evaluation) (addresses tags : List ℕ) where
     pub unmarked : (code : List ℕ) (fuel : ℕ) (limit : Option ℕ) (s : Config) (fill other : ℕ)
         → run-of code (under fill) fuel limit s .counted .watch .mark ≡ Unmarked
         → SameButOpen (run-of code (under fill) fuel limit s) (run-of code (under other) fuel limit s)
+    -- a mark stays at the place that it has
+    pub stays : (c : Code) (fuel : ℕ) (limit : Option ℕ) (s : Config) (k : Counted) (fill p : ℕ) → k .watch .mark ≡ Marked p
+        → run-code (under fill) limit c fuel s k .counted .watch .mark ≡ Marked p
     -- what is open at the end is the fill word's, of every run, marked or not
     pub carry-open : (code : List ℕ) (fuel : ℕ) (limit : Option ℕ) (s : Config) (fill : ℕ)
         → let r = run-of code (under fill) fuel limit s in r .counted .watch .carry ≡ true → cf (r .end .config .flags) ≡ cf fill
@@ -95,8 +98,6 @@ pub record Watching : Type 0 where
   -- the first that reads an open one makes the mark, with its place, and nothing else makes one or changes it
   pub marks : (env : Env) (k p : ℕ) (w : Watch) → w .mark ≡ Unmarked → reads-open k w ≡ true → watched (env .rule) k p w .mark ≡ Marked p
   pub marks-none : (env : Env) (k p : ℕ) (w : Watch) → reads-open k w ≡ false → watched (env .rule) k p w .mark ≡ w .mark
-  pub stays : (env : Env) (limit : Option ℕ) (c : Code) (fuel : ℕ) (s : Config) (k : Counted) (p : ℕ) → k .watch .mark ≡ Marked p
-      → run-code env limit c fuel s k .counted .watch .mark ≡ Marked p
   -- the start's flags are not open, and of a refused run none is, and it is unmarked
   pub refused-unmarked : (code : List ℕ) (env : Env) (fuel : ℕ) (limit : Option ℕ) (s : Config) (n p : ℕ)
       → run-of code env fuel limit s .end .how ≡ refused n p → run-of code env fuel limit s .counted .watch ≡ nothing-open
