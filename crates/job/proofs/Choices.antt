@@ -8,7 +8,7 @@ use denote.Enum.Declared.{tagOf}
 use lib.ListN.{getD}
 use borrow.Author.Tests.{lt-ltb, le-ltb}
 use Rattle.eval.specs.Config.{outcome, config}
-use Rattle.eval.specs.Counted.{counted, ended-of}
+use Rattle.eval.specs.Counted.{ended-of}
 use Rattle.eval.specs.declared.answer.Answer.{Answer}
 use Rattle.eval.proofs.answer.Answer.{the-type}
 use Rattle.eval.specs.declared.answer.Run.{Run}
@@ -73,11 +73,11 @@ unfolding render
 print-refused r xs ts vs e =
     sym (append-nil (first-line (outcome (r .answer))))
     ∙ ap (λ (l : List ℕ). first-line (outcome (r .answer)) ++ l)
-    (when-true [] (end-lines xs ts (config (r .state) vs) (counted (r .steps))) (ap (λ (a : Answer). is-refused (outcome a)) e))
+    (when-true [] (end-lines xs ts (config (r .state) vs) (r .steps)) (ap (λ (a : Answer). is-refused (outcome a)) e))
 
 pub print-lines :
     (r : Run) (xs ts vs : List ℕ) → is-refused (outcome (r .answer)) ≡ false
-    → first-line (outcome (r .answer)) ++ end-lines xs ts (config (r .state) vs) (counted (r .steps)) ≡ render xs ts (ended-of r vs)
+    → first-line (outcome (r .answer)) ++ end-lines xs ts (config (r .state) vs) (r .steps) ≡ render xs ts (ended-of r vs)
 unfolding render
 print-lines r xs ts vs e =
-    ap (λ (l : List ℕ). first-line (outcome (r .answer)) ++ l) (when-false [] (end-lines xs ts (config (r .state) vs) (counted (r .steps))) e)
+    ap (λ (l : List ℕ). first-line (outcome (r .answer)) ++ l) (when-false [] (end-lines xs ts (config (r .state) vs) (r .steps)) e)

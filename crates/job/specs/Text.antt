@@ -5,7 +5,7 @@ use mathlib.Core.List.{List, [], _∷_, _++_}
 use lib.Dec.{eqb, ltb}
 use lib.ListN.{getD}
 use Rattle.eval.specs.Config.{Config, Outcome, done, fault, stopped, spent, refused}
-use Rattle.eval.specs.Counted.{Counted, Ended}
+use Rattle.eval.specs.Counted.{Ended}
 
 -- at most k decimal digits of n
 unfoldable pub digits : ℕ → ℕ → List ℕ
@@ -113,9 +113,9 @@ cell-lines (a ∷ xs) (t ∷ ts) [] = []
 cell-lines (a ∷ xs) (t ∷ ts) (v ∷ vs) = word-cell ++ field a ++ field t ++ field v ++ newline ++ cell-lines xs ts vs
 
 -- the lines behind the first
-abbrev pub end-lines : List ℕ → List ℕ → Config → Counted → List ℕ
-end-lines addresses tags s k =
-    line word-steps (k .steps) ++ line word-flags (s .flags)
+abbrev pub end-lines : List ℕ → List ℕ → Config → ℕ → List ℕ
+end-lines addresses tags s steps =
+    line word-steps steps ++ line word-flags (s .flags)
     ++ reg-lines 0 (s .regs) ++ xmm-lines 16 0 (s .xmms) ++ cell-lines addresses tags (s .values)
 
 -- whether an outcome prints its first line alone
@@ -129,4 +129,4 @@ is-refused (refused n p) = true
 -- what is printed of an end
 unfoldable pub render : List ℕ → List ℕ → Ended → List ℕ
 render addresses tags e =
-    first-line (e .end .how) ++ cond (is-refused (e .end .how)) [] (end-lines addresses tags (e .end .config) (e .counted))
+    first-line (e .end .how) ++ cond (is-refused (e .end .how)) [] (end-lines addresses tags (e .end .config) (e .counted .steps))

@@ -3,7 +3,7 @@ ghost use mathlib.Core.Path.{_≡_};
 ghost use Prim.Native.Nat.{_≤_};
 ghost use lib.ListN.{length};
 ghost use Rattle.eval.specs.Config.{config};
-ghost use Rattle.eval.specs.Counted.{counted, ended-of};
+ghost use Rattle.eval.specs.Counted.{ended-of};
 ghost use Rattle.job.specs.Text.{render as rendered, end-lines};
 ghost use Rattle.job.specs.Written.{Wrote};
 use crate::lines::put_answer;
@@ -29,7 +29,7 @@ fn put_end(
     requires { ⌜ (at ≤ 53) × (length (now addresses) ≤ 1024) ⌝ }
     ensures { λ r. ⌜
         Wrote 65483 (now (out .entry)) at
-        (end-lines (now (addresses .entry)) (now (tags .entry)) (config state (now (values .entry))) (counted steps)) (now (out .exit)) r ⌝ }
+        (end-lines (now (addresses .entry)) (now (tags .entry)) (config state (now (values .entry))) steps) (now (out .exit)) r ⌝ }
 {
     let regs = state.regs;
     let xmms = state.xmms;
