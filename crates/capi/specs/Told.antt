@@ -1,6 +1,6 @@
--- What the C interface says of an answer, and how it is told an evaluation, in numbers.
+-- What the C interface says of an answer and a watch, and how it is told an evaluation, in numbers.
 use Prim.Native.Nat.{ℕ}
-use mathlib.Core.Bool.{cond}
+use mathlib.Core.Bool.{Bool, true, false, cond}
 use mathlib.Core.List.{List}
 use lib.Dec.{eqb}
 use Rattle.machine.specs.declared.State.{State}
@@ -9,6 +9,9 @@ use Rattle.machine.specs.Cells.{accepted as check-accepted, refused as check-re
 use Rattle.eval.specs.Config.{Config, Outcome, done, fault, stopped, spent, refused}
 use Rattle.eval.specs.Counted.{Ended}
 use Rattle.eval.specs.Inputs.{IsInput}
+use Rattle.eval.specs.declared.answer.Watch.{Watch}
+use Rattle.eval.specs.declared.answer.Mark.{Mark}
+use Rattle.eval.specs.declared.answer.Mark.the-variants.{Unmarked, Marked}
 use Rattle.eval.specs.declared.answer.Setting.{Setting}
 use Rattle.eval.specs.declared.answer.Evaluation.{Evaluation}
 use Rattle.eval.specs.declared.answer.Evaluation.the-variants.{Base, Board}
@@ -47,28 +50,56 @@ told-of (stopped n p) = told 4 n p
 told-of (spent p) = told 2 0 p
 told-of (refused n p) = told 3 n p
 
--- an end in numbers, what it leaves, and the steps made
+-- a watch in numbers: whether it is marked, the mark's place, and what is open
+pub record ToldWatch : Type 0 where
+  pub marked : ℕ
+  pub mark : ℕ
+  pub opened : ℕ
+
+-- these three as a ToldWatch
+abbrev pub watch-numbers : ℕ → ℕ → ℕ → ToldWatch
+watch-numbers marked mark opened = record { marked = marked; mark = mark; opened = opened }
+
+-- the number of what is open, of carry and of overflow
+abbrev pub told-open : Bool → Bool → ℕ
+told-open false false = 0
+told-open true false = 1
+told-open false true = 2
+told-open true true = 3
+
+-- the numbers of a mark, beside that of what is open: no mark is 0, at 0
+abbrev pub told-mark : Mark → ℕ → ToldWatch
+told-mark Unmarked opened = watch-numbers 0 0 opened
+told-mark (Marked p) opened = watch-numbers 1 p opened
+
+-- the numbers of a watch
+abbrev pub told-watch : Watch → ToldWatch
+told-watch w = told-mark (w .mark) (told-open (w .carry) (w .overflow))
+
+-- an end in numbers, what it leaves, the steps made, and the watch in numbers
 pub record Ending : Type 0 where
   pub how : Told
   pub config : Config
   pub steps : ℕ
+  pub watch : ToldWatch
 
--- what is told, what is left, and steps as an Ending
-abbrev pub ending : Told → Config → ℕ → Ending
-ending t s steps = record { how = t; config = s; steps = steps }
+-- what is told, what is left, steps and a watch as an Ending
+abbrev pub ending : Told → Config → ℕ → ToldWatch → Ending
+ending t s steps w = record { how = t; config = s; steps = steps; watch = w }
 
 -- the numbers of an end
 abbrev pub ending-of : Ended → Ending
-ending-of e = ending (told-of (e .end .how)) (e .end .config) (e .counted .steps)
+ending-of e = ending (told-of (e .end .how)) (e .end .config) (e .counted .steps) (told-watch (e .counted .watch))
 
 -- the evaluation that a number names: 0 is the base's and 1 the board's; no other names one
 abbrev pub evaluation-given : ℕ → GivenEvaluation
 evaluation-given n = cond (eqb n 0) (Value Base) (cond (eqb n 1) (Value Board) Nothing)
 
--- the numbers of a run from s by the evaluation that is given. Where that is none, it is refused: number and place are 0, no step was made
+-- the numbers of a run from s by the evaluation that is given. Where that is none, it is refused: number and place are 0, no step was made, and its
+-- watch is unmarked with nothing open
 abbrev pub run-given : GivenEvaluation → (Evaluation → Ended) → Config → Ending
 run-given (Value e) run s = ending-of (run e)
-run-given Nothing run s = ending (told 3 0 0) s 0
+run-given Nothing run s = ending (told 3 0 0) s 0 (watch-numbers 0 0 0)
 
 -- the state that is lent in parts
 abbrev pub lent-state : List ℕ → List ℕ → ℕ → State

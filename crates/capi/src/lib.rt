@@ -12,11 +12,13 @@ ghost use Rattle.eval.specs.Running.{run-of};
 ghost use Rattle.eval.specs.Inputs.{IsInput};
 ghost use Rattle.job.specs.Job.{output, code-of, state-of, setting-of};
 ghost use Rattle.job.specs.Written.{Printed};
-ghost use Rattle.capi.specs.Told.{refusal, refusal-of, told, told-of, ending, evaluation-given, run-given, lent-state, lent-setting, InputGiven};
+ghost use Rattle.capi.specs.Told.{refusal, refusal-of, told, told-of, watch-numbers, told-open, told-watch, ending, evaluation-given, run-given, lent-state, lent-setting, InputGiven};
 use code::check_code;
 use eval::Answer;
 use eval::Evaluation;
+use eval::Mark;
 use eval::Setting;
+use eval::Watch;
 use eval::run;
 use job::job;
 use machine::Checked;
@@ -33,6 +35,11 @@ const SPENT: u8 = 2;
 const REFUSED: u8 = 3;
 
 const STOPPED: u8 = 4;
+
+// The bits of what is open.
+const OPEN_CARRY: u8 = 1;
+
+const OPEN_OVERFLOW: u8 = 2;
 
 // Numbers of an answer. A place is written through a reference, C's way to return a second result.
 fn tell_checked(checked: Checked, place: &mut usize) -> u8
@@ -78,6 +85,38 @@ fn tell(answer: Answer, number: &mut u8, place: &mut usize) -> u8
             *number = n;
             *place = at;
             REFUSED
+        }
+    }
+}
+
+fn tell_open(carry: bool, overflow: bool) -> u8
+    ensures { λ r. ⌜ r ≡ told-open carry overflow ⌝ }
+{
+    if carry {
+        if overflow {
+            return OPEN_CARRY + OPEN_OVERFLOW;
+        }
+        return OPEN_CARRY;
+    }
+    if overflow {
+        return OPEN_OVERFLOW;
+    }
+    0
+}
+
+fn tell_watch(watch: Watch, mark: &mut usize, opened: &mut u8) -> u8
+    ensures { λ r. ⌜ watch-numbers r (now (mark .exit)) (now (opened .exit)) ≡ told-watch watch ⌝ }
+{
+    *opened = tell_open(watch.carry, watch.overflow);
+    let first = watch.mark;
+    match first {
+        Mark::Unmarked => {
+            *mark = 0;
+            0
+        }
+        Mark::Marked(at) => {
+            *mark = at;
+            1
         }
     }
 }
@@ -135,10 +174,14 @@ pub extern "C" fn pokchrei_run(
     number: &mut u8,
     place: &mut usize,
     steps: &mut u64,
+    marked: &mut u8,
+    mark: &mut usize,
+    opened: &mut u8,
 ) -> u8
     ensures { λ r. ⌜
         ending (told r (now (number .exit)) (now (place .exit)))
         (held (now (regs .exit)) (now (xmms .exit)) (now (flags .exit)) (now (values .exit))) (now (steps .exit))
+        (watch-numbers (now (marked .exit)) (now (mark .exit)) (now (opened .exit)))
         ≡ run-given (evaluation-given evaluation) (λ e.
         run-of (now (code .entry)) (environment (now (addresses .entry)) (now (tags .entry)) fill (flag-rule e)) fuel (some limit)
         (held (now (regs .entry)) (now (xmms .entry)) (now (flags .entry)) (now (values .entry))))
@@ -152,6 +195,9 @@ pub extern "C" fn pokchrei_run(
         *number = 0;
         *place = 0;
         *steps = 0;
+        *marked = 0;
+        *mark = 0;
+        *opened = 0;
         return REFUSED;
     };
     let first_regs = *regs;
@@ -175,6 +221,8 @@ pub extern "C" fn pokchrei_run(
     *xmms = last_xmms;
     *flags = state.flags;
     *steps = end.steps;
+    let watch = end.watch;
+    *marked = tell_watch(watch, mark, opened);
     let answer = end.answer;
     tell(answer, number, place)
 }
