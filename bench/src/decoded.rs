@@ -5,6 +5,8 @@ use crate::bytes::{length_at, u64_at};
 use crate::encode::RSP;
 use crate::machine::{holds, indexed, number, Machine, Slot};
 use crate::plain::Stop;
+use crate::watch::{open_both, see};
+use pokchrei::Watch;
 
 #[derive(Clone, Copy)]
 enum Operand {
@@ -295,6 +297,7 @@ fn compare(machine: &mut Machine, test: &Comparison) -> Result<bool, u8> {
     let b = read(machine, two)?;
     machine.steps += 1;
     machine.flags = machine.fill;
+    open_both(&mut machine.watch);
     Ok(holds(*kind, a, b))
 }
 
@@ -329,7 +332,38 @@ fn step(machine: &mut Machine, op: &Op) -> Result<(), u8> {
     }
 }
 
+impl Op {
+    /// The kind of an instruction that sets or reads flags; 0 for every other element.
+    #[inline(always)]
+    fn kind(&self) -> u8 {
+        match self {
+            Op::Add64(..) => 0x02,
+            Op::AddCarry64(..) => 0x04,
+            Op::Adcx64(..) => 0x05,
+            Op::Adox64(..) => 0x06,
+            Op::Sub64(..) => 0x07,
+            Op::Mul64(..) => 0x08,
+            Op::IMul64(..) => 0x0a,
+            Op::Xor64(..) => 0x0b,
+            Op::And64(..) => 0x0c,
+            Op::Shr64(..) => 0x0d,
+            Op::Shl64(..) => 0x0e,
+            Op::Lanes(kind, ..) => *kind,
+            Op::Popcnt64(..) => 0x19,
+            Op::Lzcnt64(..) => 0x1a,
+            Op::Tzcnt64(..) => 0x1b,
+            _ => 0,
+        }
+    }
+}
+
 impl Program {
+    /// A watch whose mark, in a run of elements, is one's index: with its place.
+    pub fn placed(&self, watch: Watch) -> Watch {
+        let mark = watch.mark.map(|index| self.places[index] as usize);
+        Watch { mark, ..watch }
+    }
+
     pub fn run(&self, machine: &mut Machine, fuel: u32) -> Result<(), Stop> {
         // What is left to the innermost While, and what was left to each around it.
         let mut left = fuel;
@@ -363,6 +397,7 @@ impl Program {
                 _ => {
                     step(machine, op).map_err(fault)?;
                     machine.steps += 1;
+                    see(&mut machine.watch, op.kind(), machine.evaluation, next);
                 }
             }
             next = to;

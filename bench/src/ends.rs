@@ -4,13 +4,15 @@ use crate::decoded::Program;
 use crate::kernels::Kernel;
 use crate::machine::Machine;
 use crate::plain::{self, Stop};
-use pokchrei::{Answer, Cells, State};
+use crate::watch::NOTHING_OPEN;
+use pokchrei::{Answer, Cells, State, Watch};
 
 /// What the evaluators are held to.
 #[derive(Clone, Debug, PartialEq, Eq)]
 pub struct End {
     pub answer: Answer,
     pub steps: u64,
+    pub watch: Watch,
     pub state: State,
     pub values: Vec<u64>,
 }
@@ -28,6 +30,7 @@ pub fn proved(kernel: &Kernel) -> End {
     End {
         answer: end.answer,
         steps: end.steps,
+        watch: end.watch,
         state,
         values,
     }
@@ -47,11 +50,12 @@ pub fn plain(kernel: &Kernel) -> End {
         limit: kernel.setting.limit,
         evaluation: kernel.setting.evaluation,
         steps: 0,
+        watch: NOTHING_OPEN,
     };
     let stop = machine.eval(0, kernel.setting.fuel).err();
-    let steps = machine.steps;
+    let counted = (machine.steps, machine.watch);
     let state = state(machine.regs, machine.xmms, machine.flags);
-    end(stop, steps, state, values)
+    end(stop, counted, state, values)
 }
 
 /// Decoding is a part of this run, as checking is of the proved one.
@@ -68,12 +72,14 @@ pub fn decoded(kernel: &Kernel) -> End {
         limit: kernel.setting.limit,
         evaluation: kernel.setting.evaluation,
         steps: 0,
+        watch: NOTHING_OPEN,
     };
     let program = Program::decode(&kernel.code);
     let stop = program.run(&mut machine, kernel.setting.fuel).err();
-    let steps = machine.steps;
+    let watch = program.placed(machine.watch);
+    let counted = (machine.steps, watch);
     let state = state(machine.regs, machine.xmms, machine.flags);
-    end(stop, steps, state, values)
+    end(stop, counted, state, values)
 }
 
 /// Holds both interpreters to an end of the proved evaluator.
@@ -95,16 +101,18 @@ fn state(regs: [u64; 16], quads: [[u32; 4]; 16], flags: u64) -> State {
     State { regs, xmms, flags }
 }
 
-fn end(stop: Option<Stop>, steps: u64, state: State, values: Vec<u64>) -> End {
+fn end(stop: Option<Stop>, counted: (u64, Watch), state: State, values: Vec<u64>) -> End {
     let answer = match stop {
         None => Answer::Done,
         Some(Stop::Fault(number, place)) => Answer::Fault { number, place },
         Some(Stop::Limit(place)) => Answer::Stopped { number: 37, place },
         Some(Stop::Spent(place)) => Answer::Spent { place },
     };
+    let (steps, watch) = counted;
     End {
         answer,
         steps,
+        watch,
         state,
         values,
     }

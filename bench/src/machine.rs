@@ -3,7 +3,7 @@
 
 use crate::encode::{RAX, RDX};
 use crate::plain::{added, counted, sum, with_bit};
-use pokchrei::Evaluation;
+use pokchrei::{Evaluation, Watch};
 
 /// A start, which becomes the end, and the cells that were lent.
 pub struct Machine<'a> {
@@ -17,6 +17,7 @@ pub struct Machine<'a> {
     pub limit: u64,
     pub evaluation: Evaluation,
     pub steps: u64,
+    pub watch: Watch,
 }
 
 /// A destination that can be written.

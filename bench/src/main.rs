@@ -24,6 +24,7 @@ mod machine;
 mod painted;
 mod plain;
 mod stack;
+mod watch;
 
 use ends::End;
 use kernels::Kernel;

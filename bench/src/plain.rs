@@ -1,9 +1,11 @@
 //! A plain interpreter of the same bytes, decoding as it goes: what the proved evaluator is measured against.
 //! It takes accepted code and cells. It is a yardstick: made neither quicker nor slower, so that the ratios of one
 //! landing can be held beside those of another. What a request adds gets a function of its own, as 2026-06's board has for
-//! its additions; steps, which request 2026-04 has every evaluator count and limit, are counted where they are made.
+//! its additions and 2026-07's watch; steps, which request 2026-04 has every evaluator count and limit, are counted where
+//! they are made.
 
-use pokchrei::Evaluation;
+use crate::watch::{open_both, see};
+use pokchrei::{Evaluation, Watch};
 
 const RSP: usize = 7;
 const RAX: usize = 0;
@@ -21,6 +23,7 @@ pub struct Machine<'a> {
     pub limit: u64,
     pub evaluation: Evaluation,
     pub steps: u64,
+    pub watch: Watch,
 }
 
 #[derive(Debug, PartialEq, Eq)]
@@ -327,6 +330,7 @@ impl Machine<'_> {
         let b = self.read(two, at)?;
         self.steps += 1;
         self.flags = self.fill;
+        open_both(&mut self.watch);
         let holds = match self.code[at] {
             0x30 => a == b,
             0x31 => a != b,
@@ -365,6 +369,7 @@ impl Machine<'_> {
             _ => self.two(at),
         }?;
         self.steps += 1;
+        see(&mut self.watch, self.code[at], self.evaluation, at);
         Ok(next)
     }
 
