@@ -36,3 +36,11 @@ stopped
 steps 5
 Rax 1
 END
+example hangs <<'END'
+Sub64, Adcx64
+fill 0: Rax 7, marked at 17, carry closed, overflow open
+fill 1: Rax 8, marked at 17, carry closed, overflow open
+Sub64, Add64, Adcx64
+fill 0: Rax 7, unmarked, carry closed, overflow open
+fill 1: Rax 7, unmarked, carry closed, overflow open
+END

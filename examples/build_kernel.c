@@ -28,11 +28,11 @@ static uint8_t run(const uint8_t *code, size_t length, uint64_t regs[16], uint32
     uint8_t no_tags[1] = {0};
     uint32_t xmms[64] = {0};
     uint64_t flags = 0;
-    uint8_t number;
-    size_t place;
+    uint8_t number, marked, opened;
+    size_t place, mark;
 
     return pokchrei_run(code, length, no_addresses, 0, no_tags, 0, no_values, 0, regs, xmms, &flags, 0, fuel, limit,
-                        POKCHREI_BASE, &number, &place, steps);
+                        POKCHREI_BASE, &number, &place, steps, &marked, &mark, &opened);
 }
 
 int main(void)

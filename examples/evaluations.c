@@ -16,11 +16,11 @@ static void print_end(uint8_t evaluation, uint64_t rax, uint64_t flags)
     static const uint8_t code[] = {0x02, 0x41, 0x00, 0x40, 1, 0, 0, 0, 0, 0, 0, 0};
     uint64_t no_values[1] = {0}, regs[16] = {[POKCHREI_RAX] = rax}, steps;
     uint32_t xmms[64] = {0};
-    uint8_t number;
-    size_t place;
+    uint8_t number, marked, opened;
+    size_t place, mark;
 
     uint8_t kind = pokchrei_run(code, sizeof code, no_addresses, 0, no_tags, 0, no_values, 0, regs, xmms, &flags, 0, 0,
-                                POKCHREI_LARGEST_LIMIT, evaluation, &number, &place, &steps);
+                                POKCHREI_LARGEST_LIMIT, evaluation, &number, &place, &steps, &marked, &mark, &opened);
     printf("%s: ", NAMES[evaluation]);
     if (kind == POKCHREI_DONE)
         printf("Rax %" PRIu64 ", flags %" PRIu64 "\n", regs[POKCHREI_RAX], flags);

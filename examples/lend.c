@@ -37,11 +37,11 @@ int main(void)
     uint64_t regs[16] = {[POKCHREI_RAX] = 5};
     uint32_t xmms[64] = {0};
     uint64_t flags = 0, steps;
-    uint8_t number;
-    size_t place;
+    uint8_t number, marked, opened;
+    size_t place, mark;
 
     uint8_t kind = pokchrei_run(code, sizeof code, addresses, 1, tags, 1, values, 1, regs, xmms, &flags, 0, 0,
-                                POKCHREI_LARGEST_LIMIT, POKCHREI_BASE, &number, &place, &steps);
+                                POKCHREI_LARGEST_LIMIT, POKCHREI_BASE, &number, &place, &steps, &marked, &mark, &opened);
     print_answer(kind, number, place);
     if (kind == POKCHREI_REFUSED)
         return 1;

@@ -6,8 +6,9 @@
  *
  * Each function takes any numbers and any arrays: nothing is asked of their contents. What C itself asks is the
  * caller's: a pointer is not null, also where its length is 0; it is aligned, and as many elements lie behind it as
- * the length says; an array that is written (values, regs, xmms, flags, number, place, steps, out, buffer and the five
- * of a build) overlaps no other. No function keeps a pointer, allocates, or touches anything but what it is lent.
+ * the length says; an array that is written (values, regs, xmms, flags, number, place, steps, marked, mark, opened, out,
+ * buffer and the five of a build) overlaps no other. No function keeps a pointer, allocates, or touches anything but what
+ * it is lent.
  */
 #ifndef POKCHREI_H
 #define POKCHREI_H
@@ -62,6 +63,32 @@ enum pokchrei_fault {
                                      0 or above 2^64 - 1 */
 };
 
+/*
+ * The watch of a run: does its end hang on the fill word? Carry, bit 0 of the flags, or overflow, bit 11, is open while
+ * it is a bit of the fill word, put there by what set it last. By what completes, it opens and closes so:
+ *
+ *     every comparison, SUB64, MUL64, IMUL64, AND64, SHR64, SHL64, PADDD    opens both
+ *     XOR64, POPCNT64                                                       closes both
+ *     LZCNT64, TZCNT64                                                      closes carry, opens overflow
+ *     ADD64, ADD_CARRY64                                                    closes carry, and on the board overflow too
+ *     ADCX64                                                                closes carry
+ *     ADOX64                                                                closes overflow
+ *     every other instruction                                               changes neither
+ *
+ * The start's flags are not open, whatever they are. What fails a check, or is not tried, opens and closes nothing.
+ *
+ * ADD_CARRY64 and ADCX64 add carry, and ADOX64 overflow. The first of these that completes while what it adds is open
+ * marks the watch with its place. A mark stays where it is, and behind it flags open and close by the same rules.
+ *
+ * An unmarked watch promises that under every other fill word the run has the same kind, number and place, steps,
+ * registers, xmm words, cells and watch; and carry and overflow are the same too, unless they are open at the end, where
+ * each is that fill word's bit. A marked watch promises nothing: the end may differ, or not.
+ */
+enum pokchrei_open {
+    POKCHREI_OPEN_CARRY = 1,
+    POKCHREI_OPEN_OVERFLOW = 2
+};
+
 /* The registers in state order, which is not the processor's. */
 enum pokchrei_register {
     POKCHREI_RAX = 0,
@@ -106,11 +133,16 @@ uint8_t pokchrei_check_cells(const uint64_t *addresses, size_t address_count, co
  * refusal. With as many as limit made, the run is stopped where an instruction or a comparison comes next, ahead of its
  * checks; a While without fuel is spent all the same, and a run that ends there is done. Code of n codes with Whiles
  * nested d deep makes at most n * (fuel + 1)^d steps. A larger limit changes no end but that of a stopped run.
+ *
+ * The watch at the end is in the last three: *marked is 1 where it is marked, and *mark is then the mark's place; both
+ * are 0 where it is not. *opened is the sum of what is open, POKCHREI_OPEN_CARRY and POKCHREI_OPEN_OVERFLOW. All three
+ * are 0 for a refusal.
  */
 uint8_t pokchrei_run(const uint8_t *code, size_t code_length, const uint64_t *addresses, size_t address_count,
                      const uint8_t *tags, size_t tag_count, uint64_t *values, size_t value_count, uint64_t regs[16],
                      uint32_t xmms[64], uint64_t *flags, uint64_t fill, uint32_t fuel, uint64_t limit,
-                     uint8_t evaluation, uint8_t *number, size_t *place, uint64_t *steps);
+                     uint8_t evaluation, uint8_t *number, size_t *place, uint64_t *steps, uint8_t *marked, size_t *mark,
+                     uint8_t *opened);
 
 /* The room that the text of a job is given; it needs no more. */
 #define POKCHREI_JOB_ROOM 65536

@@ -105,12 +105,42 @@ impl Default for Setting {
     }
 }
 
+/// Whether the end of a run hangs on the fill word.
+///
+/// Carry (bit 0 of the flags) or overflow (bit 11) is open while it is a bit of the fill word, put there by what set it
+/// last. The start's flags are not open. By what completes, it opens and closes so:
+///
+/// - every comparison, Sub64, Mul64, IMul64, And64, Shr64, Shl64 and Paddd: opens both
+/// - Xor64 and Popcnt64: closes both
+/// - Lzcnt64 and Tzcnt64: closes carry, opens overflow
+/// - Add64 and AddCarry64: closes carry, and on the board overflow too
+/// - Adcx64: closes carry
+/// - Adox64: closes overflow
+/// - every other instruction: changes neither
+///
+/// What fails a check, or is not tried, opens, closes and marks nothing. So a refused run is unmarked with nothing open.
+///
+/// Where `mark` is `None`, the run has under every other fill word the same answer, steps, registers, xmm words, cells and
+/// watch; and carry and overflow are the same too, unless they are open at the end, where each is that fill word's bit. A
+/// mark promises nothing: the end may differ, or not.
+#[derive(Clone, Copy, Debug, PartialEq, Eq)]
+pub struct Watch {
+    /// The place of the first instruction that completed and added an open flag: AddCarry64 and Adcx64 add carry, Adox64
+    /// overflow. Behind it flags open and close by the same rules.
+    pub mark: Option<usize>,
+    /// Whether carry is open at the end.
+    pub carry_open: bool,
+    /// Whether overflow is.
+    pub overflow_open: bool,
+}
+
 /// What a run answers beside state and cells.
 #[derive(Clone, Copy, Debug, PartialEq, Eq)]
 pub struct End {
     pub answer: Answer,
     /// The instructions that were completed and the comparisons that passed their checks; 0 for a refusal.
     pub steps: u64,
+    pub watch: Watch,
 }
 
 /// Checks code.
@@ -146,6 +176,7 @@ pub fn check_cells(addresses: &[u64], tags: &[u8], values: &[u64]) -> Result<(),
 /// the same end under every larger limit.
 pub fn run(code: &[u8], cells: Cells<'_>, state: &mut State, setting: Setting) -> End {
     let (mut number, mut place, mut steps) = (0, 0, 0);
+    let (mut marked, mut mark, mut opened) = (0, 0, 0);
     // SAFETY: what is lent lives through the call, which keeps none of it; what is written is borrowed apart from
     // all else.
     let kind = unsafe {
@@ -168,16 +199,16 @@ pub fn run(code: &[u8], cells: Cells<'_>, state: &mut State, setting: Setting) -
             &mut number,
             &mut place,
             &mut steps,
+            &mut marked,
+            &mut mark,
+            &mut opened,
         )
     };
-    let answer = match kind {
-        0 => Answer::Done,
-        1 => Answer::Fault { number, place },
-        2 => Answer::Spent { place },
-        4 => Answer::Stopped { number, place },
-        _ => Answer::Refused(Refusal { number, place }),
-    };
-    End { answer, steps }
+    End {
+        answer: answer_of(kind, number, place),
+        steps,
+        watch: watch_of(marked, mark, opened),
+    }
 }
 
 /// The room that the text of a job is given; it needs no more.
@@ -195,6 +226,26 @@ fn number_of(evaluation: Evaluation) -> u8 {
     match evaluation {
         Evaluation::Base => 0,
         Evaluation::Board => 1,
+    }
+}
+
+/// Of the C interface's kind, with the number and place that belong to it.
+fn answer_of(kind: u8, number: u8, place: usize) -> Answer {
+    match kind {
+        0 => Answer::Done,
+        1 => Answer::Fault { number, place },
+        2 => Answer::Spent { place },
+        4 => Answer::Stopped { number, place },
+        _ => Answer::Refused(Refusal { number, place }),
+    }
+}
+
+/// Of the C interface's numbers: bit 0 of `opened` is carry, bit 1 overflow.
+fn watch_of(marked: u8, mark: usize, opened: u8) -> Watch {
+    Watch {
+        mark: (marked != 0).then_some(mark),
+        carry_open: opened & 1 != 0,
+        overflow_open: opened & 2 != 0,
     }
 }
 

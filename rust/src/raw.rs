@@ -62,6 +62,9 @@ extern "C" {
         number: &mut u8,
         place: &mut usize,
         steps: &mut u64,
+        marked: &mut u8,
+        mark: &mut usize,
+        opened: &mut u8,
     ) -> u8;
 
     pub fn pokchrei_job(

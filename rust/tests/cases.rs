@@ -1,10 +1,21 @@
 //! Cases of document 01 and of requests 2026-02 to 2026-04 and 2026-06 through the wrapper.
 
 use pokchrei::{check_cells, check_code, job, run};
-use pokchrei::{Answer, Cells, End, Evaluation, Refusal, Setting, State, JOB_ROOM};
+use pokchrei::{Answer, Cells, End, Evaluation, Refusal, Setting, State, Watch, JOB_ROOM};
 
 const ADD_RAX_1: [u8; 12] = [0x02, 0x41, 0x00, 0x40, 1, 0, 0, 0, 0, 0, 0, 0];
 const SUB_RAX_1: [u8; 12] = [0x07, 0x41, 0x00, 0x40, 1, 0, 0, 0, 0, 0, 0, 0];
+
+const NOTHING_OPEN: Watch = unmarked(false);
+
+/// A watch without a mark, with neither flag open or both.
+const fn unmarked(open: bool) -> Watch {
+    Watch {
+        mark: None,
+        carry_open: open,
+        overflow_open: open,
+    }
+}
 
 /// Runs code with no cells from Rax and flags.
 fn run_alone(code: &[u8], rax: u64, flags: u64, setting: Setting) -> (Answer, State) {
@@ -179,9 +190,15 @@ fn p14_under_limits_around_its_steps() {
             ..Setting::default()
         };
         let (end, state) = end_alone(&count_down(), 3, 0, setting);
+        // The comparison, which is the first step, opens both flags, and so does the Sub64.
+        let expected = End {
+            answer,
+            steps,
+            watch: unmarked(steps > 0),
+        };
         assert_eq!(
             (end, state.regs[0]),
-            (End { answer, steps }, rax),
+            (expected, rax),
             "fuel {fuel}, limit {limit}"
         );
     }
@@ -205,7 +222,12 @@ fn a_fault_is_no_step_and_stopped_comes_ahead_of_it() {
             ..Setting::default()
         };
         let (end, state) = end_alone(&code, 1, 0, setting);
-        assert_eq!((end, state.regs[0]), (End { answer, steps: 0 }, 1));
+        let expected = End {
+            answer,
+            steps: 0,
+            watch: NOTHING_OPEN,
+        };
+        assert_eq!((end, state.regs[0]), (expected, 1));
     }
 }
 
@@ -302,7 +324,11 @@ fn cut_code_is_refused_and_the_start_comes_back() {
     assert_eq!(check_code(&ADD_RAX_1[..11]), Err(refusal));
     let (end, state) = end_alone(&ADD_RAX_1[..11], 8, 1, Setting::default());
     let answer = Answer::Refused(refusal);
-    let refused = End { answer, steps: 0 };
+    let refused = End {
+        answer,
+        steps: 0,
+        watch: NOTHING_OPEN,
+    };
     assert_eq!((end, state.regs[0], state.flags), (refused, 8, 1));
 }
 
@@ -334,6 +360,7 @@ fn the_job_of_document_01() {
     let done = End {
         answer: Answer::Done,
         steps: 1,
+        watch: NOTHING_OPEN,
     };
     assert_eq!((end, state, values), (done, last, [12]));
 }
