@@ -116,7 +116,8 @@ kernels =
     -- P5: Xor64 Rax with Rax, fill 2^64-1
     ∷ row (0x0b ∷ 0x41 ∷ 0x00 ∷ 0x41 ∷ 0x00 ∷ []) (no-cells 18446744073709551615) 0 (rax 5) done (with-flags 18446744073709549566 (rax 0)) 1 nothing-open
     -- P6: Shl64 of 1 by 63
-    ∷ row (0x0e ∷ 0x41 ∷ 0x00 ∷ 0x40 ∷ 0x3f ∷ 0x00 ∷ 0x00 ∷ 0x00 ∷ 0x00 ∷ 0x00 ∷ 0x00 ∷ 0x00 ∷ []) (no-cells 0) 0 (rax 1) done (rax 9223372036854775808) 1 both-open
+    ∷ row (0x0e ∷ 0x41 ∷ 0x00 ∷ 0x40 ∷ 0x3f ∷ 0x00 ∷ 0x00 ∷ 0x00 ∷ 0x00 ∷ 0x00 ∷ 0x00 ∷ 0x00 ∷ [])
+    (no-cells 0) 0 (rax 1) done (rax 9223372036854775808) 1 both-open
     -- P6: by 64
     ∷ row (0x0e ∷ 0x41 ∷ 0x00 ∷ 0x40 ∷ 0x40 ∷ 0x00 ∷ 0x00 ∷ 0x00 ∷ 0x00 ∷ 0x00 ∷ 0x00 ∷ 0x00 ∷ []) (no-cells 0) 0 (rax 1) (fault 33 0) (rax 1) 0 nothing-open
     -- P7: Pslld word 1 by 31
@@ -141,7 +142,8 @@ kernels =
     -- P13: Pextrq (1,2,3,4) index 1 into Rax
     ∷ row (0x15 ∷ 0x00 ∷ 0x01 ∷ 0x41 ∷ 0x00 ∷ []) (no-cells 0) 0 (xmm0 1 2 3 4) done (reg 0 17179869187 (xmm0 1 2 3 4)) 1 nothing-open
     -- P13: Pinsrd of 7, index 5, fills word 1
-    ∷ row (0x16 ∷ 0x00 ∷ 0x05 ∷ 0x40 ∷ 0x07 ∷ 0x00 ∷ 0x00 ∷ 0x00 ∷ 0x00 ∷ 0x00 ∷ 0x00 ∷ 0x00 ∷ []) (no-cells 0) 0 (xmm0 1 2 3 4) done (xmm0 1 7 3 4) 1 nothing-open
+    ∷ row (0x16 ∷ 0x00 ∷ 0x05 ∷ 0x40 ∷ 0x07 ∷ 0x00 ∷ 0x00 ∷ 0x00 ∷ 0x00 ∷ 0x00 ∷ 0x00 ∷ 0x00 ∷ [])
+    (no-cells 0) 0 (xmm0 1 2 3 4) done (xmm0 1 7 3 4) 1 nothing-open
     -- P14: from 3, fuel 4; three rounds of a comparison and a Sub64, and the comparison that ends the loop
     ∷ row count-down (no-cells 0) 4 (rax 3) done (rax 0) 7 both-open
     -- P14: fuel 3

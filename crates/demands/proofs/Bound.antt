@@ -102,7 +102,8 @@ module _ (limit : Option ℕ) where
         unfolding codes codes-in whiles whiles-in run-code run-codes
 
         at-most-code : (c : Code) (d : ℕ) → whiles c ≤ d → (f : ℕ) → f ≤ F → AtMost (codes c * Share d) (run-code env limit c f)
-        at-most-code (Ins p i) d le f lf s k = omega (arith, at-most-step p (watched (env .rule) (layout i .kind) p) (run-ins env p i) s k, some-share d, code-more 0 d)
+        at-most-code (Ins p i) d le f lf s k =
+            omega (arith, at-most-step p (watched (env .rule) (layout i .kind) p) (run-ins env p i) s k, some-share d, code-more 0 d)
         at-most-code (Block p cs) d le f lf s k = omega (arith, at-most-codes cs d le f lf s k, code-more (codes-in cs) d)
         at-most-code (IfElse p q c a b) d le f lf s k =
             let m = (codes a + codes b) * Share d in

@@ -182,8 +182,10 @@ module _ (e : Evaluation) (addresses tags : List ℕ) where
       pub record Steady (i : Instruction) : Type 0 where
         pub acts : SameRead (layout i .kind) → act-other i ≡ with-act-flags (act-other i .flags) (act-one i)
         pub hows : perform (under other) p (act-other i) (with-flags g s) .how ≡ perform (under fill) p (act-one i) (with-flags f s) .how
-        pub carries : SameRead (layout i .kind) → Between cf fill other f g (touched (flag-rule e) (layout i .kind) .carry) (act-one i .flags) (act-other i .flags)
-        pub overflows : SameRead (layout i .kind) → Between overflow fill other f g (touched (flag-rule e) (layout i .kind) .overflow) (act-one i .flags) (act-other i .flags)
+        pub carries : SameRead (layout i .kind)
+            → Between cf fill other f g (touched (flag-rule e) (layout i .kind) .carry) (act-one i .flags) (act-other i .flags)
+        pub overflows : SameRead (layout i .kind)
+            → Between overflow fill other f g (touched (flag-rule e) (layout i .kind) .overflow) (act-one i .flags) (act-other i .flags)
 
       -- its operands' words are the same
       here : (o : Operand) → eval-operand (under other) o (with-flags g s) ≡ eval-operand (under fill) o (with-flags f s)

@@ -175,11 +175,13 @@ module _ (L : ℕ) where
             (cc, ap (λ (r : End). r .config) y))
         go false b le = same (step-tried (some L) p sees act s k b (fault n p) s (sym e)) (omega (arith, leb-false L (k .steps) b))
 
-  beside-step : (p : ℕ) (sees : Watch → Watch) (act : Config → End) → ((s : Config) → DoneOrFails p s (act s)) → AllBeside (step (some L) p sees act) (step none p sees act)
+  beside-step : (p : ℕ) (sees : Watch → Watch) (act : Config → End) → ((s : Config) → DoneOrFails p s (act s))
+      → AllBeside (step (some L) p sees act) (step none p sees act)
   beside-step p sees act h s k = go (h s)
     where
       go : DoneOrFails p s (act s) → Beside k (step (some L) p sees act s k) (step none p sees act s k)
-      go (is-done t e) = subst⁻¹ (λ (x : Ended). Beside k (step (some L) p sees act s k) x) (tried-there p sees act s k done t e) (beside-made p sees act s k t e)
+      go (is-done t e) =
+          subst⁻¹ (λ (x : Ended). Beside k (step (some L) p sees act s k) x) (tried-there p sees act s k done t e) (beside-made p sees act s k t e)
       go (fails n e) =
           subst⁻¹ (λ (x : Ended). Beside k (step (some L) p sees act s k) x) (tried-there p sees act s k (fault n p) s e ∙ fault-uncounted n p sees s k)
           (beside-failed p sees act s k n e)
@@ -317,7 +319,8 @@ module _ (limit : Option ℕ) (n p : ℕ) where
   is-stopped e = subst⁻¹ IsStopped e tt
 
   -- a step stops only at its own place, and what is tried never does
-  step-stops : (q : ℕ) (sees : Watch → Watch) (act : Config → End) (s : Config) (k : Counted) → DoneOrFails q s (act s) → Stops (step limit q sees act s k) → (q ≡ p) × (n ≡ 37)
+  step-stops : (q : ℕ) (sees : Watch → Watch) (act : Config → End) (s : Config) (k : Counted) → DoneOrFails q s (act s)
+      → Stops (step limit q sees act s k) → (q ≡ p) × (n ≡ 37)
   unfolding step
   step-stops q sees act s k h e = go (used-up limit k) e
     where

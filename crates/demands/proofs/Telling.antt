@@ -299,7 +299,8 @@ module _ (env : Env) where
     Faults e = e .end ≡ ends (fault n p) t
 
     -- a step that faults was tried
-    step-faults : (q : ℕ) (sees : Watch → Watch) (act : Config → End) (s : Config) (k : Counted) → Faults (step limit q sees act s k) → act s ≡ ends (fault n p) t
+    step-faults : (q : ℕ) (sees : Watch → Watch) (act : Config → End) (s : Config) (k : Counted) → Faults (step limit q sees act s k)
+        → act s ≡ ends (fault n p) t
     unfolding step
     step-faults q sees act s k = go (used-up limit k)
       where

@@ -414,7 +414,8 @@ module _ (e : Evaluation) (addresses tags : List ℕ) (fill other : ℕ) where
     beside-ocmp : (q : ℕ) (c : Ocmp) → Beside fill (step-ocmp env limit q c) (step-ocmp env′ limit q c)
     beside-ocmp q c = beside-step limit fill q _ _ _ (watched-stays (flag-rule e) (ocmp-layout c .kind) q) (ocmp-leaves q c) (ocmp-acts q c)
 
-    beside-decide : (q : ℕ) (c : Ocmp) (f g f′ g′ : Part) → Beside fill f f′ → Beside fill g g′ → Beside fill (decide env limit q c f g) (decide env′ limit q c f′ g′)
+    beside-decide : (q : ℕ) (c : Ocmp) (f g f′ g′ : Part) → Beside fill f f′ → Beside fill g g′
+        → Beside fill (decide env limit q c f g) (decide env′ limit q c f′ g′)
     unfolding decide
     beside-decide q c f g f′ g′ F G = record {
       stays = λ s k r m.
@@ -620,7 +621,8 @@ refused-so : (code : List ℕ) (env : Env) (fuel : ℕ) (limit : Option ℕ) (s 
 unfolding run-of run-read run-checked
 refused-so code env fuel limit s n p = read (parse code)
   where
-    checked : (v : Verdict) (c : Code) → run-checked env v c fuel limit s .end .how ≡ refused n p → run-checked env v c fuel limit s .counted .watch ≡ nothing-open
+    checked : (v : Verdict) (c : Code) → run-checked env v c fuel limit s .end .how ≡ refused n p
+        → run-checked env v c fuel limit s .counted .watch ≡ nothing-open
     checked accepted c h =
         let x = run-code env limit c fuel s nothing-counted in
         absurd (never-refused env limit c fuel s (x .end .config) n p (ap (λ (o : Outcome). ends o (x .end .config)) h))

@@ -66,7 +66,8 @@ pub record Stepping : Type 0 where
   -- an instruction or a comparison is done, and then a step, or it fails, and then it is none; with the limit used up it is not tried
   pub instruction : (env : Env) (p : ℕ) (i : Instruction) (s : Config) → DoneOrFails p s (run-ins env p i s)
   pub comparison : (env : Env) (q : ℕ) (c : Ocmp) (s : Config) → DoneOrFails q s (run-ocmp env q c s)
-  pub counts : (limit : Option ℕ) (p : ℕ) (sees : Watch → Watch) (act : Config → End) (s t : Config) (k : Counted) → used-up limit k ≡ false → act s ≡ ends done t
+  pub counts : (limit : Option ℕ) (p : ℕ) (sees : Watch → Watch) (act : Config → End) (s t : Config) (k : Counted) → used-up limit k ≡ false
+      → act s ≡ ends done t
       → step limit p sees act s k ≡ ended done t (count done sees k)
   pub one-more : (sees : Watch → Watch) (k : Counted) → count done sees k .steps ≡ k .steps + 1
   pub counts-none : (limit : Option ℕ) (p : ℕ) (sees : Watch → Watch) (act : Config → End) (s t : Config) (k : Counted) (n q : ℕ) → used-up limit k ≡ false
@@ -75,7 +76,8 @@ pub record Stepping : Type 0 where
       → step limit p sees act s k ≡ ended (stopped 37 p) s k
   -- a comparison is a step whichever way it decides on: that of an IfElse, and that of a While, the one that ends it too
   pub decides : (env : Env) (limit : Option ℕ) (q : ℕ) (c : Ocmp) (f g : Part) (s t : Config) (k : Counted) → used-up limit k ≡ false
-      → run-ocmp env q c s ≡ ends done t → decide env limit q c f g s k ≡ cond (eval-ocmp env c s) f g t (count done (watched (env .rule) (ocmp-layout c .kind) q) k)
+      → run-ocmp env q c s ≡ ends done t
+      → decide env limit q c f g s k ≡ cond (eval-ocmp env c s) f g t (count done (watched (env .rule) (ocmp-layout c .kind) q) k)
   -- no fuel comes before the limit
   pub spent-first : (env : Env) (limit : Option ℕ) (p q : ℕ) (c : Ocmp) (b : Code) (s : Config) (k : Counted)
       → run-code env limit (While p q c b) 0 s k ≡ ended (spent p) s k

@@ -120,7 +120,9 @@ two-bits bits mark =
 module _ (words : List ℕ) (long : 2 < length words) where
   pub one-more : (step : ℕ) → tally (set words 0 step) ≡ counted step (tally words .watch)
   one-more step =
-      rw (getD-set-same words 0 step 0 (omega arith), getD-set-other words 0 1 step 0 (λ e. omega (arith, e)), getD-set-other words 0 2 step 0 (λ e. omega (arith, e)))
+      let bits = getD-set-other words 0 1 step 0 (λ e. omega (arith, e)) in
+      let mark = getD-set-other words 0 2 step 0 (λ e. omega (arith, e)) in
+      rw (getD-set-same words 0 step 0 (omega arith), bits, mark)
 
   module _ (rule : FlagRule) (k at open-bits mark : ℕ) where
     abbrev was : ℕ
@@ -153,7 +155,8 @@ module _ (words : List ℕ) (long : 2 < length words) where
 
   module _ (rule : FlagRule) (k at : ℕ) where
     -- an instruction that is watched, and one that need not be
-    pub counted-so : (l : Counted) → l ≡ counted (tally stepped .steps) (watched rule k at (tally stepped .watch)) → l ≡ count done (watched rule k at) (tally words)
+    pub counted-so :
+        (l : Counted) → l ≡ counted (tally stepped .steps) (watched rule k at (tally stepped .watch)) → l ≡ count done (watched rule k at) (tally words)
     unfolding count
     counted-so l e =
         e ∙ ap (λ (j : Counted). counted (j .steps) (watched rule k at (j .watch))) (one-more (getD words 0 0 + 1))

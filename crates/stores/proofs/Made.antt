@@ -175,7 +175,8 @@ module _ (env : Env) where
 
         go : (a b : Bool)
             → let e = check b (ocmp-number env c s) q s passed in
-            Traced (s .values) [] (cond a (ended (stopped 37 q) s k) (record { end = e; counted = count (e .how) (watched (env .rule) (ocmp-layout c .kind) q) k }))
+            Traced (s .values) []
+            (cond a (ended (stopped 37 q) s k) (record { end = e; counted = count (e .how) (watched (env .rule) (ocmp-layout c .kind) q) k }))
         go true b = record { judged = tt; made = refl }
         go false true = record { judged = tt; made = refl }
         go false false = record { judged = tt; made = refl }

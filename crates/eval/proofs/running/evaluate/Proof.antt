@@ -7,4 +7,6 @@ use Rattle.eval.proofs.running.evaluate.Tie as tie
 pub evaluate-spec : {M : Type 1} → statement M
 evaluate-spec =
     tie.close
-    (tie.spec (λ c κs. (search accepted-codes, search accepted-cells)) (λ c κs. search needs) (λ c. search needs) (λ c κs. search needs) (λ c. search needs) (λ c. rw (c .told-watch .ensures) (search run-ran)))
+    (tie.spec
+    (λ c κs. (search accepted-codes, search accepted-cells)) (λ c κs. search needs) (λ c. search needs) (λ c κs. search needs)
+    (λ c. search needs) (λ c. rw (c .told-watch .ensures) (search run-ran)))
