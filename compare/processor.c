@@ -67,11 +67,11 @@ static void compare(uint8_t kind, uint64_t a, uint64_t b, uint64_t flags, uint64
     static uint32_t xmms[64];
     const uint8_t code[] = {kind, 0x41, POKCHREI_RAX, 0x41, POKCHREI_RBX};
     uint64_t regs[16] = {[POKCHREI_RAX] = a, [POKCHREI_RBX] = b}, left = flags, steps;
-    uint8_t number;
-    size_t place;
+    uint8_t number, marked, opened;
+    size_t place, mark;
 
     uint8_t end = pokchrei_run(code, sizeof code, no_addresses, 0, no_tags, 0, no_values, 0, regs, xmms, &left, fill, 0, 1,
-                               POKCHREI_BOARD, &number, &place, &steps);
+                               POKCHREI_BOARD, &number, &place, &steps, &marked, &mark, &opened);
     sum s = kind == POKCHREI_ADD64 ? add(a, b) : add_with_carry(a, b, flags & CARRY);
     uint64_t expected = (fill & ~(uint64_t)(CARRY | OVERFLOW)) | (s.carry ? CARRY : 0) | (s.overflow ? OVERFLOW : 0);
     if (end != POKCHREI_DONE || steps != 1 || regs[POKCHREI_RAX] != s.word || left != expected) {

@@ -2,10 +2,10 @@
 # Compares the port, linked in as its proved static library, with the evaluator and builder of this folder, and its
 # additions on the board with this processor's.
 #
-#     compare/run.sh [N [SEED]]     first systematic jobs under step limits and by both evaluations, and
-#                                   additions, then N jobs (100,000) from SEED (a new one), then lists of
-#                                   builder calls, a tenth as many but at least 1,000, then as many lists
-#                                   of cells and their splits
+#     compare/run.sh [N [SEED]]     first systematic jobs under step limits, by both evaluations and with
+#                                   several fill words, and additions, then N jobs (100,000) from SEED
+#                                   (a new one), then lists of builder calls, a tenth as many but at
+#                                   least 1,000, then as many lists of cells and their splits
 set -eu
 cd "$(dirname "$0")/.."
 rt staticlib capi
@@ -13,6 +13,7 @@ cargo build --release --offline --quiet --features c_target --manifest-path comp
 target/compare/release/compare selfcheck
 target/compare/release/compare limited c
 target/compare/release/compare sums c
+target/compare/release/compare watched c
 ${CC:-cc} -std=c11 -O2 -Wall -Wextra -Werror -Iinclude compare/processor.c target/staticlib/libcapi.a -o target/processor
 jobs="${1:-100000}"
 seed="${2:-new}"

@@ -4,6 +4,7 @@ use crate::cells::Cell;
 use crate::reader::Trouble;
 use crate::state::Start;
 use crate::tree::REG_NAMES;
+use crate::watch::Watch;
 use std::fmt::Write;
 
 #[derive(Clone, Copy, Debug, PartialEq, Eq)]
@@ -19,12 +20,14 @@ pub enum Answer {
 /// The number of every Stopped.
 pub const STOPPED: u8 = 37;
 
-/// The answer with the steps made, and state and cells unless it is a refusal.
+/// The answer with the steps made and the watch, and state and cells unless it is a refusal.
 #[derive(Clone, Debug, PartialEq, Eq)]
 pub struct Outcome {
     pub answer: Answer,
     /// Completed instructions and comparisons that passed their check.
     pub steps: u64,
+    /// Of a refusal, too, which is unmarked with nothing open.
+    pub watch: Watch,
     pub end: Option<(Start, Vec<Cell>)>,
 }
 
@@ -33,6 +36,7 @@ impl Outcome {
         Outcome {
             answer: Answer::Refused(trouble.number, trouble.place),
             steps: 0,
+            watch: Watch::default(),
             end: None,
         }
     }
@@ -48,7 +52,7 @@ pub fn first_line(answer: &Answer) -> String {
     }
 }
 
-/// The whole text; every line ends with a line feed.
+/// The whole text; every line ends with a line feed. It does not tell the watch.
 pub fn render(outcome: &Outcome) -> String {
     let mut text = first_line(&outcome.answer);
     text.push('\n');

@@ -3,6 +3,7 @@
 use crate::answer::{render, Outcome};
 use crate::board;
 use crate::checks::checked_run;
+use crate::fills;
 use crate::generate::batch_bytes;
 use crate::job::parse;
 use crate::limits;
@@ -44,8 +45,8 @@ pub fn run(jobs: u64, seed: u64, target: &mut dyn Target) -> Result<Tally, Strin
     Ok(tally)
 }
 
-/// The job by the base evaluation under some limits, and on the board. Bytes
-/// that are no job are left out.
+/// The job by the base evaluation under some limits, on the board, and with other
+/// fill words. Bytes that are no job are left out.
 fn on_terms(
     bytes: &[u8],
     base: &Outcome,
@@ -61,13 +62,14 @@ fn on_terms(
     let mut rng = Rng::of_job(!seed, index);
     limits::compare(&job, Base, base, &mut rng, target, &mut tally.limits)?;
     let salt = seed ^ index;
-    board::compare(&job, base, salt, &mut rng, target, &mut tally.board)
+    board::compare(&job, base, salt, &mut rng, target, &mut tally.board)?;
+    fills::compare(&job, &mut rng, target, &mut tally.fills)
 }
 
 /// What a batch of some length has to meet and did not.
 pub fn missing(tally: &Tally) -> Vec<String> {
-    let limits = tally.limits.missing();
-    [tally.missing(), limits, tally.board.missing()].concat()
+    let (limits, fills) = (tally.limits.missing(), tally.fills.missing());
+    [tally.missing(), limits, tally.board.missing(), fills].concat()
 }
 
 /// This evaluator's outcome as the job program's, with the checks inside it.

@@ -100,7 +100,7 @@ fn sum_labels() -> Vec<String> {
 }
 
 /// What a run can end otherwise in.
-const PARTS: [&str; 6] = [
+pub const PARTS: [&str; 6] = [
     "answer",
     "steps",
     "registers",
@@ -116,7 +116,7 @@ fn part_label(part: &str) -> String {
 const FLAGS_ALONE: &str = "ends otherwise than by the base in flags alone";
 
 /// The parts that differ; a refused run has none.
-fn parts_of(base: &Outcome, board: &Outcome) -> Vec<&'static str> {
+pub fn parts_of(base: &Outcome, board: &Outcome) -> Vec<&'static str> {
     let (Some((a, a_cells)), Some((b, b_cells))) = (&base.end, &board.end) else {
         return Vec::new();
     };

@@ -4,6 +4,7 @@ use super::*;
 use crate::answer::Answer;
 use crate::cells::Cell;
 use crate::state::Start;
+use crate::watch::Watch;
 
 #[test]
 fn what_has_to_be_met() {
@@ -62,6 +63,7 @@ fn ended() -> Outcome {
     Outcome {
         answer: Answer::Done,
         steps: 2,
+        watch: Watch::default(),
         end: Some((start, vec![cell])),
     }
 }

@@ -1,18 +1,20 @@
 //! What has to hold inside this evaluator for a job that it ran, by either
 //! evaluation: the byte machine's end, a larger fuel, the bound of the steps,
-//! other step limits, and that no answer leans on what the source leaves free.
+//! other step limits, the watch, and that no answer leans on what the source
+//! leaves free.
 
 use crate::answer::{Answer, Outcome, STOPPED};
 use crate::bound;
 use crate::bytes::{ByteMemory, Halt, Machine};
 use crate::cells::Cell;
+use crate::fill_checks::Watched;
 use crate::follow::{Mode, Settings};
 use crate::job::Job;
 use crate::places::next_at;
 use crate::rng::Rng;
 use crate::run::{self, accept, follow, Followed};
 use crate::sums::SumLog;
-use crate::terms::Evaluation;
+use crate::terms::{Evaluation, LARGEST_LIMIT};
 use crate::tree::{Code, RSP};
 use std::cmp::Ordering;
 
@@ -80,6 +82,7 @@ impl Run<'_> {
             return Err(format!("{} steps are over the bound", outcome.steps));
         }
         self.limits_hold(outcome)?;
+        self.watch_holds(outcome, LARGEST_LIMIT)?;
         let settings = Settings::new(self.job.fill, self.evaluation.unlimited());
         if outcome.answer == Answer::Done {
             for larger in [fuel + 1, 2 * fuel + 1_000] {
@@ -123,9 +126,20 @@ impl Run<'_> {
             let limited = limit_holds(self.job, self.code, outcome, settings)?;
             if limit < steps {
                 self.byte_machine_agrees(&limited)?;
+                self.watch_holds(&limited, limit)?;
             }
         }
         Ok(())
+    }
+
+    fn watch_holds(&self, outcome: &Outcome, limit: u64) -> Result<(), String> {
+        let watched = Watched {
+            job: self.job,
+            code: self.code,
+            evaluation: self.evaluation,
+            other: Rng::new(!self.salt).word(),
+        };
+        watched.check(outcome, limit)
     }
 
     /// The byte machine, given as many steps as the run made, uses them all up

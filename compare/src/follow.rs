@@ -5,6 +5,7 @@ use crate::state::{eval_operand, Judged, Located, State};
 use crate::sums::SumLog;
 use crate::terms::Terms;
 use crate::tree::INSTRUCTION_KINDS;
+use crate::watch::Reads;
 
 #[derive(Clone, Copy, Debug, PartialEq, Eq)]
 pub enum Event {
@@ -88,6 +89,8 @@ pub struct Follow {
     pub followed: u64,
     /// The steps of the answer: what was completed ahead of any bad event.
     pub steps_made: u64,
+    /// Reads of open flags; those that count were completed ahead of any bad event.
+    pub reads: Reads,
     /// How often each instruction was followed, by its number less 1.
     pub met: [u64; INSTRUCTION_KINDS],
     /// The sums that were completed.
@@ -112,6 +115,7 @@ impl Follow {
             log: Log::default(),
             followed: 0,
             steps_made: 0,
+            reads: Reads::default(),
             met: [0; INSTRUCTION_KINDS],
             sums: SumLog::default(),
             least_fuel: u64::MAX,
@@ -127,6 +131,7 @@ impl Follow {
     /// limit is judged: behind a loop's test of fuel, ahead of the checks.
     pub fn comes_next(&mut self, place: usize, s: &State) -> Result<(), Stop> {
         self.followed += 1;
+        self.reads.comes_next();
         self.over_budget = self.followed > self.settings.budget;
         if self.over_budget {
             return Err(Stop::Cut);
@@ -143,6 +148,7 @@ impl Follow {
         self.may_go_on()?;
         if self.log.bad.is_empty() {
             self.steps_made += 1;
+            self.reads.completes();
         }
         Ok(())
     }

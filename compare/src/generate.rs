@@ -4,6 +4,7 @@
 use crate::build::block;
 use crate::damage;
 use crate::generate_sums;
+use crate::generate_watch;
 use crate::job::Job;
 use crate::large;
 use crate::nest;
@@ -18,11 +19,12 @@ use crate::tree::*;
 const FAMILIES: u64 = 40;
 
 /// The bytes of a batch's job number `index`: those of `job_bytes`, but that some
-/// families are about sums, and that a run on the board ends soon enough too.
-/// Sets that were stored before there was a board are chosen from `job_bytes`,
-/// so those stay as they are.
+/// families are about sums or open flags, and that a run on the board ends soon
+/// enough too. Sets that were stored before there was a board are chosen from
+/// `job_bytes`, so those stay as they are.
 pub fn batch_bytes(seed: u64, index: u64) -> Vec<u8> {
     let bytes = match index % FAMILIES {
+        1 | 5 | 9 | 13 | 17 => generate_watch::job(&mut Rng::of_job(seed, index)).to_bytes(),
         3 | 7 | 11 | 15 | 19 => generate_sums::job(&mut Rng::of_job(seed, index)).to_bytes(),
         _ => job_bytes(seed, index),
     };

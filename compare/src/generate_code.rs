@@ -20,7 +20,7 @@ impl Scene {
         ins(self.numbered(number))
     }
 
-    fn numbered(&mut self, number: usize) -> Instruction {
+    pub fn numbered(&mut self, number: usize) -> Instruction {
         match number {
             1 => Mov64(self.destination(), self.source()),
             2 => Add64(self.destination(), self.source()),
@@ -153,7 +153,7 @@ impl Scene {
         Code::unplaced(Node::IfElse(condition, yes, no))
     }
 
-    fn comparison(&mut self) -> Ocmp {
+    pub fn comparison(&mut self) -> Ocmp {
         let relation = self.rng.pick(&RELATIONS);
         let left = self.source();
         let right = match self.rng.below(4) {

@@ -138,7 +138,7 @@ impl Scene {
     }
 
     /// A word, and codes for which it matters whether one was added to it.
-    fn going_by(&mut self, place: Operand) -> (u64, Vec<Code>) {
+    pub fn going_by(&mut self, place: Operand) -> (u64, Vec<Code>) {
         let one_more = Ocmp::unplaced(Eq, place, number(1));
         let (dst, xmm) = (self.destination(), self.rng.below(16) as Xmm);
         match self.rng.below(8) {

@@ -3,6 +3,7 @@
 //! Tzcnt64, which it does not have, go by request 2026-02 in its manner, and on
 //! the board the flags of Add64 and AddCarry64 by request 2026-06.
 
+use crate::flags::*;
 use crate::follow::Follow;
 use crate::state::*;
 use crate::sums::{Adder, Sum};
@@ -33,9 +34,9 @@ pub fn eval_ins(ins: &Instruction, place: usize, s: State, f: &mut Follow) -> St
     let at = |o: Operand| locate(o, &regs);
     match *ins {
         Mov64(dst, src) => step.mov64(at(dst), at(src)),
-        Add64(dst, src) => step.add(at(dst), at(src), false),
+        Add64(dst, src) => step.add(at(dst), at(src), None),
         AddLea64(dst, src1, src2) => step.add_lea64(at(dst), at(src1), at(src2)),
-        AddCarry64(dst, src) => step.add(at(dst), at(src), cf(step.s.flags)),
+        AddCarry64(dst, src) => step.add(at(dst), at(src), Some(cf)),
         Adcx64(dst, src) => step.add_with(at(dst), at(src), cf, update_cf),
         Adox64(dst, src) => step.add_with(at(dst), at(src), overflow, update_of),
         Sub64(dst, src) => step.two_words(at(dst), at(src), |a, b| a + POW2_64 - b),
@@ -121,7 +122,11 @@ impl Step<'_> {
 
     fn update(&mut self, dst: Located, value: u64) {
         self.update_preserving_flags(dst, value);
-        self.now.flags = self.f.settings.fill;
+        self.havoc_flags();
+    }
+
+    fn havoc_flags(&mut self) {
+        self.now.flags = Flags::filled(self.f.settings.fill);
     }
 
     fn clear_cf_and_of(&mut self) {
@@ -145,9 +150,19 @@ impl Step<'_> {
             _ => return,
         };
         let words = [dst, src].map(|o| self.f.operand(locate(o, &self.s.regs), &self.s));
-        let (before, fill, after) = (self.s.flags, self.f.settings.fill, self.now.flags);
-        let sum = Sum::new(adder, words, before, fill, after);
+        let (before, after) = (self.s.flags.word, self.now.flags.word);
+        let sum = Sum::new(adder, words, before, self.f.settings.fill, after);
         self.f.sums.add(step, sum);
+    }
+
+    /// A flag that goes into the sum. Whether that counts is settled when the
+    /// instruction completes.
+    fn added(&mut self, flag: fn(Flags) -> Flag) -> bool {
+        let Flag { set, open } = flag(self.s.flags);
+        if open {
+            self.f.reads.reads_open(self.place);
+        }
+        set
     }
 
     fn wide(&self, o: Located) -> u128 {
@@ -171,8 +186,9 @@ impl Step<'_> {
     }
 
     /// Add64 and AddCarry64, whose flags the evaluation decides.
-    fn add(&mut self, dst: Located, src: Located, old_carry: bool) {
+    fn add(&mut self, dst: Located, src: Located, carry: Option<fn(Flags) -> Flag>) {
         self.check_source(src);
+        let old_carry = carry.is_some_and(|flag| self.added(flag));
         let operands = [self.wide(dst), self.wide(src)];
         let sum = operands[0] + operands[1] + u128::from(old_carry);
         self.update(dst, low(sum));
@@ -182,7 +198,8 @@ impl Step<'_> {
             Evaluation::Board => {
                 let [a, b] = operands.map(signed);
                 let leaves = !SIGNED.contains(&(a + b + i128::from(old_carry)));
-                update_cf(update_of(self.f.settings.fill, leaves), new_carry)
+                let filled = Flags::filled(self.f.settings.fill);
+                update_cf(update_of(filled, leaves), new_carry)
             }
         };
     }
@@ -193,11 +210,11 @@ impl Step<'_> {
         &mut self,
         dst: Located,
         src: Located,
-        carry: fn(u64) -> bool,
-        set: fn(u64, bool) -> u64,
+        carry: fn(Flags) -> Flag,
+        set: fn(Flags, bool) -> Flags,
     ) {
         self.check_source(src);
-        let old_carry = u128::from(carry(self.s.flags));
+        let old_carry = u128::from(self.added(carry));
         let sum = self.wide(dst) + self.wide(src) + old_carry;
         self.update(dst, low(sum));
         self.now.flags = set(self.s.flags, sum >= POW2_64);
@@ -224,7 +241,7 @@ impl Step<'_> {
         let product = self.reg(RAX) * self.wide(src);
         self.now.regs[usize::from(RAX)] = low(product);
         self.now.regs[usize::from(RDX)] = low(product / POW2_64);
-        self.now.flags = self.f.settings.fill;
+        self.havoc_flags();
     }
 
     /// The high destination is found after the low half is written, which may have
@@ -268,7 +285,7 @@ impl Step<'_> {
         self.two_quads(dst, src, |a, b| {
             ((u64::from(a) + u64::from(b)) % POW2_32) as u32
         });
-        self.now.flags = self.f.settings.fill;
+        self.havoc_flags();
     }
 
     fn two_quads(&mut self, dst: Xmm, src: Xmm, work: fn(u32, u32) -> u32) {

@@ -91,10 +91,10 @@ fn flags_come_from_the_fill_word() {
     for (fill, word, expected) in flags() {
         let mut s = holding(word);
         for old in [0, 1, 2048, 2049, u64::MAX] {
-            s.flags = old;
+            s.flags = Flags::given(old);
             for (count, expected) in COUNTS.into_iter().zip(expected) {
                 let end = done(count(reg(RAX), reg(RBX)), fill, &s);
-                assert_eq!(end.flags, expected, "fill {fill}, source {word}");
+                assert_eq!(end.flags.word, expected, "fill {fill}, source {word}");
             }
         }
     }
@@ -109,7 +109,12 @@ fn the_destination_is_not_read() {
             let of_reg = done(count(reg(RBX), number(40)), 9, &s);
             let of_cell = done(count(at(ADDRESS), number(40)), 9, &s);
             let count = of_reg.regs[usize::from(RBX)];
-            ends.push([count, cell_of(&of_cell), of_reg.flags, of_cell.flags]);
+            ends.push([
+                count,
+                cell_of(&of_cell),
+                of_reg.flags.word,
+                of_cell.flags.word,
+            ]);
         }
         assert_eq!(ends, [ends[0]; 3]);
     }
@@ -139,12 +144,15 @@ fn failed_checks_and_what_follows_them() {
     for (count, flags) in COUNTS.into_iter().zip([0, 2048, 2048]) {
         for dst in [reg(RSP), number(1), nowhere] {
             let (end, bad) = evaluated(count(dst, reg(RBX)), fill, &s);
-            assert_eq!((end.ok, end.flags, bad), (false, flags, failed(&[32])));
+            assert_eq!((end.ok, end.flags.word, bad), (false, flags, failed(&[32])));
             let (end, bad) = evaluated(count(dst, nowhere), fill, &s);
-            assert_eq!((end.ok, end.flags, bad), (false, flags, failed(&[31, 32])));
+            assert_eq!(
+                (end.ok, end.flags.word, bad),
+                (false, flags, failed(&[31, 32]))
+            );
         }
         let (end, bad) = evaluated(count(reg(RAX), nowhere), fill, &s);
-        assert_eq!((end.ok, end.flags, bad), (false, flags, failed(&[31])));
+        assert_eq!((end.ok, end.flags.word, bad), (false, flags, failed(&[31])));
         let told = done(count(reg(RAX), number(OFF_MEM64)), fill, &s);
         assert_eq!(end.regs, told.regs);
     }
@@ -275,7 +283,7 @@ fn the_high_half_is_judged_after_the_low_write() {
 /// Rax and the cell have the destination's word, Rbx the source's.
 fn summands(dst: u64, src: u64, flags: u64) -> State {
     let mut s = holding(dst);
-    (s.regs[0], s.regs[usize::from(RBX)], s.flags) = (dst, src, flags);
+    (s.regs[0], s.regs[usize::from(RBX)], s.flags) = (dst, src, Flags::given(flags));
     s
 }
 
@@ -288,10 +296,10 @@ fn sums_on_the_board() {
                 let from = format!("{dst} and {src}, flags {old}, fill {fill}");
                 for by in [reg(RBX), number(src)] {
                     let end = done_by(Board, adder(reg(RAX), by), fill, &s);
-                    assert_eq!((end.regs[0], end.flags), (sum.word, flags), "{from}");
+                    assert_eq!((end.regs[0], end.flags.word), (sum.word, flags), "{from}");
                 }
                 let end = done_by(Board, adder(at(ADDRESS), reg(RBX)), fill, &s);
-                assert_eq!((cell_of(&end), end.flags), (sum.word, flags), "{from}");
+                assert_eq!((cell_of(&end), end.flags.word), (sum.word, flags), "{from}");
             }
         }
     }
@@ -305,7 +313,7 @@ fn sums_by_the_base_keep_the_other_flags() {
             for fill in [0, u64::MAX] {
                 let end = done(adder(reg(RAX), reg(RBX)), fill, &s);
                 let flags = old / 2 * 2 + u64::from(sum.carry);
-                assert_eq!((end.regs[0], end.flags), (sum.word, flags));
+                assert_eq!((end.regs[0], end.flags.word), (sum.word, flags));
             }
         }
     }
@@ -330,7 +338,7 @@ fn no_other_instruction_goes_by_the_evaluation() {
             let by_carry = sums[(old % 2) as usize];
             let end = done_by(Board, Adcx64(reg(RAX), reg(RBX)), 6, &s);
             let flags = old / 2 * 2 + u64::from(by_carry.carry);
-            assert_eq!((end.regs[0], end.flags), (by_carry.word, flags));
+            assert_eq!((end.regs[0], end.flags.word), (by_carry.word, flags));
         }
     }
 }
@@ -356,10 +364,14 @@ fn failed_sums_set_the_flags_too() {
     ];
     for (ins, flags, numbers) in table {
         let (end, bad) = evaluated_by(Board, ins, fill, &s);
-        assert_eq!((end.ok, end.flags), (false, (1 << 40) + flags), "{ins:?}");
+        assert_eq!(
+            (end.ok, end.flags.word),
+            (false, (1 << 40) + flags),
+            "{ins:?}"
+        );
         let failed = numbers.iter().map(|n| Event::Failed(*n, PLACE));
         assert_eq!(bad, failed.collect::<Vec<Event>>());
         let (end, _) = evaluated(ins, fill, &s);
-        assert_eq!((end.ok, end.flags), (false, 4 + flags % 2), "{ins:?}");
+        assert_eq!((end.ok, end.flags.word), (false, 4 + flags % 2), "{ins:?}");
     }
 }

@@ -29,7 +29,7 @@ pub struct Met<'a> {
 /// The ways in which a run can end without a limit.
 const ENDS: [&str; 3] = ["done", "fault", "spent"];
 
-fn end_of(answer: &Answer) -> &'static str {
+pub fn end_of(answer: &Answer) -> &'static str {
     match answer {
         Answer::Done => "done",
         Answer::Fault(..) => "fault",

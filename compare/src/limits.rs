@@ -84,9 +84,10 @@ pub fn same(terms: Terms, own: &Outcome, theirs: Result<Outcome, String>) -> Res
     }
 }
 
-/// The steps of a refusal are not in its text.
-fn told(outcome: &Outcome) -> String {
-    format!("{}({} steps made)\n", render(outcome), outcome.steps)
+/// The watch, and the steps of a refusal, are not in the text.
+pub fn told(outcome: &Outcome) -> String {
+    let Outcome { steps, watch, .. } = outcome;
+    format!("{}({steps} steps made, {watch})\n", render(outcome))
 }
 
 fn difference(terms: Terms, own: &Outcome, theirs: Result<Outcome, String>) -> String {

@@ -1,5 +1,5 @@
 //! An evaluator and a builder written apart from the port, from document 01,
-//! requests 2026-01 to 2026-06 and the F* text (the README says what else was
+//! requests 2026-01 to 2026-07 and the F* text (the README says what else was
 //! seen), and their comparison with it.
 
 // Calls of the linked port are the only ones that Rust cannot check.
@@ -21,10 +21,15 @@ mod checks;
 #[cfg(test)]
 mod count_table;
 mod damage;
+mod fill_checks;
+mod fill_tally;
+mod fills;
+mod flags;
 mod follow;
 mod generate;
 mod generate_code;
 mod generate_sums;
+mod generate_watch;
 mod instructions;
 mod job;
 mod large;
@@ -58,6 +63,9 @@ mod target;
 mod target_c;
 mod terms;
 mod tree;
+mod watch;
+#[cfg(test)]
+mod watch_table;
 mod writer;
 
 use crate::target::{Own, Process, Target};
@@ -70,6 +78,7 @@ compare run JOBFILE              answer one job by this evaluator
 compare batch N SEED PROGRAM     compare N generated jobs; SEED may be `new`
 compare limited PROGRAM          compare systematic jobs under step limits
 compare sums PROGRAM             compare sums by both evaluations, and jobs on the board
+compare watched PROGRAM          compare systematic jobs with several fill words
 compare selfcheck                the examples of document 01, and P2 on the board
 compare store N SEED DIR         write a stored set of N jobs to DIR/jobs.txt
 compare systematic DIR           write the systematic set to DIR/systematic
@@ -81,8 +90,8 @@ compare builds N SEED [BUILDER]  compare N generated lists of builder calls
 compare store-builds DIR         write stored lists to DIR/systematic and random
 compare cells N SEED [CHECKER]   compare N generated lists of cells, and their splits
 PROGRAM is a path with arguments, or `self` for this evaluator, or (built
-with the feature c_target) `c` for the port linked in; for `limited` and
-`sums` only these two. BUILDER is `c`, or `self` for the rule over a build's
+with the feature c_target) `c` for the port linked in; for `limited`, `sums`
+and `watched` only these two. BUILDER is `c`, or `self` for the rule over a build's
 fields; CHECKER is `c`, or `self` for one that looks back at the cell before.";
 
 fn main() -> ExitCode {
@@ -103,6 +112,7 @@ fn command(words: &[String]) -> Result<(), String> {
         ["batch", n, seed, _, ..] => run_batch(n, seed, &words[3..]),
         ["limited", _, ..] => run_limited(&words[1..]),
         ["sums", _, ..] => run_sums(&words[1..]),
+        ["watched", _, ..] => run_watched(&words[1..]),
         ["store-sums", dir] => write_sums(dir),
         ["selfcheck"] => selfcheck::all().map(|n| println!("{n} examples hold")),
         ["store", n, seed, dir] => {
@@ -198,6 +208,22 @@ fn run_sums(program: &[String]) -> Result<(), String> {
     println!("{rows} sums, {kernels} kernels by both evaluations,");
     println!("{pairs} pairs of such a kernel and a step limit,");
     println!("and {others} other jobs on the board answered alike");
+    Ok(())
+}
+
+fn run_watched(program: &[String]) -> Result<(), String> {
+    let mut target = target_of(program)?;
+    let systematic::WatchCompared {
+        kernels,
+        pairs,
+        others,
+        reruns,
+        claimed,
+    } = systematic::watched(target.as_mut())?;
+    println!("{kernels} kernels and {others} other jobs by both evaluations,");
+    println!("{pairs} pairs of such a kernel and a step limit,");
+    println!("and {reruns} runs of these with other fill words answered alike,");
+    println!("{claimed} of them of unmarked runs, which they had to follow from");
     Ok(())
 }
 

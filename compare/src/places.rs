@@ -1,6 +1,6 @@
 //! What stands at a place that an answer can name.
 
-use crate::tree::{Code, Node};
+use crate::tree::{Code, Instruction, Node};
 
 /// What can come next where a run is stopped.
 #[derive(Clone, Copy, Debug, PartialEq, Eq, PartialOrd, Ord)]
@@ -29,6 +29,18 @@ pub fn next_at(code: &Code, place: usize) -> Option<Next> {
     }
 }
 
+/// The instruction whose kind byte stands at the place.
+pub fn instruction_at(code: &Code, place: usize) -> Option<Instruction> {
+    match &code.node {
+        Node::Ins(ins) => (code.place == place).then_some(*ins),
+        Node::Block(codes) => codes.iter().find_map(|c| instruction_at(c, place)),
+        Node::IfElse(_, if_true, if_false) => {
+            instruction_at(if_true, place).or_else(|| instruction_at(if_false, place))
+        }
+        Node::While(_, body) => instruction_at(body, place),
+    }
+}
+
 #[cfg(test)]
 mod tests {
     use super::*;
@@ -46,7 +58,11 @@ mod tests {
         let tree = read(&code).unwrap();
         let mut found = Vec::new();
         for place in 0..code.len() {
-            found.extend(next_at(&tree, place).map(|next| (place, next)));
+            let next = next_at(&tree, place);
+            let instruction = instruction_at(&tree, place);
+            assert_eq!(instruction.is_some(), next == Some(Next::Instruction));
+            assert!(matches!(instruction, None | Some(Instruction::Pxor(0, 1))));
+            found.extend(next.map(|next| (place, next)));
         }
         let expected = [
             (5, Next::Instruction),

@@ -11,6 +11,7 @@ use crate::state::State;
 use crate::sums::SumLog;
 use crate::terms::{Evaluation, Terms};
 use crate::tree::{Code, INSTRUCTION_KINDS};
+use crate::watch::{Reads, Watch};
 
 /// What following a job showed beside its outcome.
 pub struct Followed {
@@ -20,6 +21,7 @@ pub struct Followed {
     pub followed: u64,
     pub met: [u64; INSTRUCTION_KINDS],
     pub sums: SumLog,
+    pub reads: Reads,
     pub least_fuel: u64,
 }
 
@@ -69,13 +71,24 @@ pub fn follow(job: &Job, code: &Code, fuel: u64, settings: Settings) -> Result<F
         outcome: Outcome {
             answer,
             steps: f.steps_made,
+            watch: watch_of(&f.reads, &state),
             end: Some((state.visible(), state.cells(&job.cells))),
         },
         followed: f.followed,
         met: f.met,
         sums: f.sums,
+        reads: f.reads,
         least_fuel: f.least_fuel,
     })
+}
+
+/// What is open belongs to the state that is handed back.
+fn watch_of(reads: &Reads, state: &State) -> Watch {
+    Watch {
+        mark: reads.first,
+        carry_open: state.flags.carry_open,
+        overflow_open: state.flags.overflow_open,
+    }
 }
 
 fn read_off(log: &Log, result: Result<State, Stop>) -> (Answer, State) {

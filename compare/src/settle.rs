@@ -13,7 +13,7 @@ use crate::tree::Code;
 use crate::writer::write;
 
 /// Instructions and comparisons that a generated job may take.
-const BUDGET: u64 = 20_000;
+pub const BUDGET: u64 = 20_000;
 const AMPLE: u64 = 1 << 40;
 
 /// The code with the scene's start, cells and fill.

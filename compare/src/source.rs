@@ -3,6 +3,7 @@
 //! (`follow.rs`). Done, Fault, Stopped and Spent are read off the log: the first
 //! bad event decides, and it carries the state from just before.
 
+use crate::flags::Flags;
 use crate::follow::{Event, Follow, Stop};
 use crate::instructions::eval_ins;
 use crate::state::*;
@@ -70,7 +71,7 @@ fn run_ocmp(mut s: State, c: &Ocmp, f: &mut Follow) -> Result<(State, bool), Sto
     s.ok &= f.log.check(judged, c.place, &s);
     f.is_checked()?;
     let b = holds(c.relation, f.operand(left, &s), f.operand(right, &s));
-    s.flags = f.settings.fill;
+    s.flags = Flags::filled(f.settings.fill);
     Ok((s, b))
 }
 

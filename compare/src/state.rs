@@ -2,6 +2,7 @@
 //! the operands' meaning. Addresses are exact in `i128`.
 
 use crate::cells::Cell;
+use crate::flags::Flags;
 use crate::tree::*;
 use std::collections::BTreeMap;
 use std::rc::Rc;
@@ -23,7 +24,8 @@ pub struct State {
     pub ok: bool,
     pub regs: [u64; 16],
     pub xmms: [Quad; 16],
-    pub flags: u64,
+    /// With what is open in them.
+    pub flags: Flags,
     /// Shared between the states of a run until one of them is written to.
     pub mem: Rc<Memory>,
 }
@@ -46,14 +48,14 @@ impl State {
             ok: true,
             regs: start.regs,
             xmms: start.xmms,
-            flags: start.flags,
+            flags: Flags::given(start.flags),
             mem: Rc::new(mem),
         }
     }
 
     pub fn visible(&self) -> Start {
         Start {
-            flags: self.flags,
+            flags: self.flags.word,
             regs: self.regs,
             xmms: self.xmms,
         }
@@ -212,30 +214,6 @@ pub fn update_operand(o: Located, value: u64, s: &mut State) {
         Located::Const(_) => s.ok = false,
         Located::Reg(r) => s.regs[usize::from(r)] = value,
         Located::Mem(address) => store_mem64(address, value, &mut s.mem),
-    }
-}
-
-pub fn cf(flags: u64) -> bool {
-    flags % 2 == 1
-}
-
-pub fn overflow(flags: u64) -> bool {
-    (flags / 2048) % 2 == 1
-}
-
-pub fn update_cf(flags: u64, new_cf: bool) -> u64 {
-    match (new_cf, cf(flags)) {
-        (true, false) => flags + 1,
-        (false, true) => flags - 1,
-        _ => flags,
-    }
-}
-
-pub fn update_of(flags: u64, new_of: bool) -> u64 {
-    match (new_of, overflow(flags)) {
-        (true, false) => flags + 2048,
-        (false, true) => flags - 2048,
-        _ => flags,
     }
 }
 

@@ -3,7 +3,7 @@
 //! right behind one reads. No machine goes by this, and it has no rule: what the
 //! flags became is taken as it is found.
 
-use crate::state::{cf, overflow};
+use crate::flags::{has_carry, has_overflow};
 use std::collections::BTreeMap;
 
 /// The two whose flags the evaluation decides.
@@ -42,8 +42,8 @@ pub struct Bits {
 
 fn bits(flags: u64) -> Bits {
     Bits {
-        carry: cf(flags),
-        overflow: overflow(flags),
+        carry: has_carry(flags),
+        overflow: has_overflow(flags),
     }
 }
 

@@ -2,6 +2,7 @@
 
 use crate::answer::Answer;
 use crate::board_tally::BoardTally;
+use crate::fill_tally::FillTally;
 use crate::limit_tally::LimitTally;
 use crate::tree::INSTRUCTION_KINDS;
 use std::collections::BTreeMap;
@@ -21,6 +22,7 @@ pub struct Tally {
     pub met: [u64; INSTRUCTION_KINDS],
     pub limits: LimitTally,
     pub board: BoardTally,
+    pub fills: FillTally,
 }
 
 /// An answer without its place.
@@ -85,6 +87,7 @@ impl Tally {
         ));
         text.push_str(&self.limits.report("runs under a limit"));
         text.push_str(&self.board.report());
+        text.push_str(&self.fills.report());
         text
     }
 }

@@ -9,7 +9,8 @@ use crate::reader::Trouble;
 use crate::state::Start;
 use crate::target::Target;
 use crate::terms::{Evaluation, Terms};
-use pokchrei::{Cells, Setting, State, JOB_ROOM};
+use crate::watch::Watch;
+use pokchrei::{Cells, End, Setting, State, JOB_ROOM};
 
 pub struct Linked {
     out: Box<[u8; JOB_ROOM]>,
@@ -46,7 +47,7 @@ impl Target for Linked {
         };
         let end = pokchrei::run(&job.code, cells, &mut state, setting);
         let after = (start_of(&state), with_values(&job.cells, &values));
-        Some(outcome(job, answer_of(&end.answer), end.steps, after))
+        Some(outcome(job, &end, after))
     }
 }
 
@@ -60,19 +61,16 @@ pub fn check_cells(addresses: &[u64], tags: &[u8], values: &[u64]) -> Result<(),
 }
 
 /// A refusal has no end of its own: what was lent has to be as before.
-fn outcome(
-    job: &Job,
-    answer: Answer,
-    steps: u64,
-    after: (Start, Vec<Cell>),
-) -> Result<Outcome, String> {
+fn outcome(job: &Job, end: &End, after: (Start, Vec<Cell>)) -> Result<Outcome, String> {
+    let answer = answer_of(&end.answer);
     let refused = matches!(answer, Answer::Refused(..));
     if refused && (&after.0, &after.1) != (&job.start, &job.cells) {
         return Err(format!("{answer:?} changed state or cells: {after:?}"));
     }
     Ok(Outcome {
         answer,
-        steps,
+        steps: end.steps,
+        watch: watch_of(&end.watch),
         end: (!refused).then_some(after),
     })
 }
@@ -91,6 +89,14 @@ fn answer_of(answer: &pokchrei::Answer) -> Answer {
         pokchrei::Answer::Stopped { number, place } => Answer::Stopped(number, place),
         pokchrei::Answer::Spent { place } => Answer::Spent(place),
         pokchrei::Answer::Refused(ref refusal) => Answer::Refused(refusal.number, refusal.place),
+    }
+}
+
+fn watch_of(watch: &pokchrei::Watch) -> Watch {
+    Watch {
+        mark: watch.mark,
+        carry_open: watch.carry_open,
+        overflow_open: watch.overflow_open,
     }
 }
 

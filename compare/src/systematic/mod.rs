@@ -1,7 +1,8 @@
 //! A systematic set of short jobs: every instruction, operand kind, role,
 //! comparison, fault and refusal, and the edges of words, fuel and addresses,
-//! each in a job of its own or beside others of its group. Sums and kernels that
-//! go by their overflow stand beside the set, which is stored without them.
+//! each in a job of its own or beside others of its group. Sums, kernels that go by
+//! their overflow and kernels about the watch stand beside the set, which is stored
+//! without them.
 
 mod addresses;
 mod comparisons;
@@ -18,6 +19,8 @@ mod roles;
 mod stage;
 mod steps;
 mod sums;
+mod watch;
+mod watched;
 mod wild;
 mod words;
 
@@ -31,6 +34,7 @@ use std::collections::BTreeSet;
 
 pub use evaluations::Compared;
 pub use sums::stored as stored_sums;
+pub use watched::WatchCompared;
 
 fn jobs() -> Vec<Vec<u8>> {
     let mut jobs = roles::jobs();
@@ -81,6 +85,11 @@ pub fn sums(target: &mut dyn Target) -> Result<Compared, String> {
     evaluations::compare(&jobs(), target)
 }
 
+/// Runs kernels about the watch, and the whole set, with several fill words.
+pub fn watched(target: &mut dyn Target) -> Result<WatchCompared, String> {
+    watched::compare(&jobs(), target)
+}
+
 #[cfg(test)]
 mod tests {
     use crate::checks::limit_holds;
@@ -121,6 +130,18 @@ mod tests {
         assert!(compared.others > 1_800);
         let alone = super::evaluations::compare(&[], &mut Own).unwrap();
         assert_eq!((alone.rows, alone.others), (5_376, 0));
+    }
+
+    /// All that a batch has to meet of the watch is met, without the other jobs too.
+    #[test]
+    fn jobs_with_several_fill_words() {
+        let compared = super::watched(&mut Own).unwrap();
+        assert_eq!(compared.kernels, 2_014);
+        assert!((16_000..=17_000).contains(&compared.pairs));
+        assert!(compared.others > 1_800);
+        assert!(compared.reruns > 60_000 && compared.claimed > 38_000);
+        let alone = super::watched::compare(&[], &mut Own).unwrap();
+        assert_eq!((alone.kernels, alone.others), (2_014, 0));
     }
 
     /// None of the jobs of `steps.rs` is refused, and they are not enough alone.
