@@ -6,7 +6,7 @@ use mathlib.Core.Bool.{Bool, true, false, not, cond}
 use mathlib.Core.List.{List}
 use native.Mathlib.Omega.{arith}
 use borrow.Author.Tests.{eq-eqb, ne-eqb}
-use lib.Bits.{bitAnd, bitOr}
+use lib.Bits.{bitAnd}
 use lib.Dec.{eqb}
 use lib.ListN.{length, getD, set, length-set}
 use lib.Seq.{getD-set-same, getD-set-other}
@@ -17,7 +17,7 @@ use Rattle.eval.specs.FlagRule.{FlagRule}
 use Rattle.eval.specs.Config.{done}
 use Rattle.eval.specs.Watch.{watch, touched, open-after, reads-open, first-mark, watched}
 use Rattle.eval.specs.Counted.{Counted, counted, count}
-use Rattle.eval.specs.Promises.{mark-of, watch-of, tally}
+use Rattle.eval.specs.Promises.{mark-of, watch-of, tally, SetsFlags}
 use Rattle.eval.specs.declared.answer.Watch.{Watch}
 use Rattle.eval.specs.declared.answer.Mark.{Mark}
 use Rattle.eval.specs.declared.answer.Mark.the-variants.{Marked}
@@ -43,23 +43,40 @@ module _ (rule : FlagRule) (word k at : ℕ) (w : Watch) where
   not-touched h l z =
       subst (λ (b : Bool). cond b w (watched rule k at w) ≡ w) z (same-within untouched (λ k. w) 32 0 h k (omega arith) (omega arith))
 
--- what two bits at 2k keep of the bits of was, and what two others add to them
-abbrev after-bits : (keeps adds k was : ℕ) → ℕ
-after-bits keeps adds k was = bitOr (bitAnd was (keeps / 2 ^ (2 * k))) (adds / 2 ^ (2 * k))
+  -- and where it is set, behind the first six kinds
+  abbrev set-anew : Watch → ℕ → Watch
+  set-anew v k = cond (bit word k) (watched rule k at v) w
 
-module _ (rule : FlagRule) (keeps adds k was : ℕ) (l : k < 32) (m : was < 4) where
+  pub sets-anew :
+      answers (set-anew w) 7 25 ≡ answers (set-anew (watch false false (w .mark))) 7 25 → k < 32 → 6 < k → bit word k ≡ true →
+      watched rule k at w ≡ watched rule k at (watch false false (w .mark))
+  sets-anew h l m z =
+      subst (λ (b : Bool). cond b (watched rule k at w) w ≡ cond b (watched rule k at (watch false false (w .mark))) w) z
+      (same-within (set-anew w) (set-anew (watch false false (w .mark))) 25 7 h k (omega arith) (omega arith))
+
+-- two bits at 2k, as what is open where nothing was
+module _ (rule : FlagRule) (word k at mark : ℕ) where
+  abbrev opened-bits : ℕ → Watch
+  opened-bits k = watch-of (word / 2 ^ (2 * k)) mark
+
+  pub opens-as :
+      answers opened-bits 7 25 ≡ answers (λ k. watched rule k at (watch false false (mark-of mark))) 7 25 → 6 < k → k < 32 →
+      opened-bits k ≡ watched rule k at (watch false false (mark-of mark))
+  opens-as h m l = same-within opened-bits (λ k. watched rule k at (watch false false (mark-of mark))) 25 7 h k (omega arith) (omega arith)
+
+-- what two bits at 2k keep of the bits of was
+module _ (rule : FlagRule) (word k was : ℕ) (l : k < 7) (m : was < 4) where
   -- whether carry, and overflow, are then open, by the bits and by the table
   abbrev by-bits : ℕ → ℕ → Bool × Bool
-  by-bits k was = let r = after-bits keeps adds k was in (eqb (r % 2) 1, eqb (r / 2 % 2) 1)
+  by-bits k was = let r = bitAnd was (word / 2 ^ (2 * k)) in (eqb (r % 2) 1, eqb (r / 2 % 2) 1)
 
   abbrev by-table : ℕ → ℕ → Bool × Bool
   by-table k was = (open-after (touched rule k .carry) (eqb (was % 2) 1), open-after (touched rule k .overflow) (eqb (was / 2 % 2) 1))
 
-  pub opens-as :
-      answers (λ k. answers (by-bits k) 0 4) 0 32 ≡ answers (λ k. answers (by-table k) 0 4) 0 32 → by-bits k was ≡ by-table k was
-  opens-as h = same-below by-bits by-table 32 4 h k was l m
+  pub keeps-as : answers (λ k. answers (by-bits k) 0 4) 0 7 ≡ answers (λ k. answers (by-table k) 0 4) 0 7 → by-bits k was ≡ by-table k was
+  keeps-as h = same-below by-bits by-table 7 4 h k was l m
 
-module _ (reads k was : ℕ) (l : k < 32) (m : was < 4) where
+module _ (reads k was : ℕ) (l : k < 7) (m : was < 4) where
   abbrev read-bits : ℕ → ℕ → Bool
   read-bits k was = not (eqb (bitAnd was (reads / 2 ^ (2 * k))) 0)
 
@@ -67,12 +84,12 @@ module _ (reads k was : ℕ) (l : k < 32) (m : was < 4) where
   read-table k was = reads-open k (watch-of was 0)
 
   pub reads-as :
-      answers (λ k. answers (read-bits k) 0 4) 0 32 ≡ answers (λ k. answers (read-table k) 0 4) 0 32 → read-bits k was ≡ read-table k was
-  reads-as h = same-below read-bits read-table 32 4 h k was l m
+      answers (λ k. answers (read-bits k) 0 4) 0 7 ≡ answers (λ k. answers (read-table k) 0 4) 0 7 → read-bits k was ≡ read-table k was
+  reads-as h = same-below read-bits read-table 7 4 h k was l m
 
   -- what else the watch holds makes no difference
   pub reads-so :
-      answers (λ k. answers (read-bits k) 0 4) 0 32 ≡ answers (λ k. answers (read-table k) 0 4) 0 32 → (mark : ℕ) →
+      answers (λ k. answers (read-bits k) 0 4) 0 7 ≡ answers (λ k. answers (read-table k) 0 4) 0 7 → (mark : ℕ) →
       read-bits k was ≡ reads-open k (watch-of was mark)
   unfolding reads-open
   reads-so h mark = reads-as h
@@ -150,7 +167,7 @@ module _ (words : List ℕ) (long : 2 < length words) where
   abbrev stepped : List ℕ
   stepped = set words 0 (getD words 0 0 + 1)
 
-  still-long : 2 < length stepped
+  pub still-long : 2 < length stepped
   still-long = subst (λ n. 2 < n) (sym (length-set words 0 (getD words 0 0 + 1))) long
 
   module _ (rule : FlagRule) (k at : ℕ) where
@@ -164,6 +181,17 @@ module _ (words : List ℕ) (long : 2 < length words) where
 
     pub unwatched-so : ((w : Watch) → watched rule k at w ≡ w) → tally stepped ≡ count done (watched rule k at) (tally words)
     unwatched-so same = counted-so (tally stepped) (ap (counted (tally stepped .steps)) (sym (same (tally stepped .watch))))
+
+    -- one that sets both
+    pub set-so :
+        SetsFlags k → (bits : ℕ) → ((mark : ℕ) → watch-of bits mark ≡ watched rule k at (watch false false (mark-of mark))) →
+        tally (set stepped 1 bits) ≡ count done (watched rule k at) (tally words)
+    set-so sets bits is =
+        let steps : getD (set stepped 1 bits) 0 0 ≡ getD stepped 0 0 = getD-set-other stepped 1 0 bits 0 (λ e. omega (arith, e)) in
+        let opened : getD (set stepped 1 bits) 1 0 ≡ bits = getD-set-same stepped 1 bits 0 (omega (arith, still-long)) in
+        let marked : getD (set stepped 1 bits) 2 0 ≡ getD stepped 2 0 = getD-set-other stepped 1 2 bits 0 (λ e. omega (arith, e)) in
+        counted-so (tally (set stepped 1 bits))
+        (rw (steps, opened, marked) (ap (counted (getD stepped 0 0)) (is (getD stepped 2 0) ∙ sym (sets rule at (tally stepped .watch)))))
 
     -- a comparison
     pub compared-so : is-ocmp k ≡ true → tally (set stepped 1 3) ≡ count done (watched rule k at) (tally words)

@@ -22,7 +22,7 @@ use Rattle.eval.specs.FlagRule.{FlagRule}
 use Rattle.eval.specs.Config.{Env, Config, with-regs, with-flags, with-values, Outcome, done, fault, stopped, spent, End}
 use Rattle.eval.specs.Config as Config
 use Rattle.eval.specs.Instructions.{valid-operand, eval-operand, valid-dst-operand, update-operand, valid-ocmp, ocmp-number, eval-ocmp, run-ins}
-use Rattle.eval.specs.Watch.{watch}
+use Rattle.eval.specs.Watch.{watch, watched}
 use Rattle.eval.specs.Counted.{Counted, counted, Ended, ended}
 use Rattle.eval.specs.Running.{step-ins, step-ocmp, run-code, run-codes}
 use Rattle.eval.specs.declared.answer.Watch.{Watch}
@@ -152,6 +152,14 @@ watch-of bits mark = watch (eqb (bits % 2) 1) (eqb (bits / 2 % 2) 1) (mark-of ma
 -- what is counted, in a lent array of words: at place 0 the steps made, at 1 what is open, at 2 the mark
 abbrev pub tally : List ℕ → Counted
 tally words = counted (getD words 0 0) (watch-of (getD words 1 0) (getD words 2 0))
+
+-- a kind that leaves the watch as it was
+abbrev pub KeepsFlags : ℕ → Type 0
+KeepsFlags k = (rule : FlagRule) (at : ℕ) (w : Watch) → watched rule k at w ≡ w
+
+-- a kind of which the watch behind it does not hang on what was open
+abbrev pub SetsFlags : ℕ → Type 0
+SetsFlags k = (rule : FlagRule) (at : ℕ) (w : Watch) → watched rule k at w ≡ watched rule k at (watch false false (w .mark))
 
 -- an exit that leaves t, with l counted, ends as a part of a run does, and goes on at the place behind
 pub record Reached (end : Ended) (behind : ℕ) (r : Exit) (t : Config) (l : Counted) : Type 0 where

@@ -8,11 +8,10 @@ ghost use lib.ListN.{getD, length};
 ghost use Rattle.code.specs.Records.{is-ocmp};
 ghost use Rattle.eval.specs.FlagRule.{FlagRule, flag-rule};
 ghost use Rattle.eval.specs.Config.{done};
-ghost use Rattle.eval.specs.Watch.{nothing-open, touched, open-after, reads-open, first-mark, watched};
+ghost use Rattle.eval.specs.Watch.{watch, nothing-open, touched, open-after, reads-open, first-mark, watched};
 ghost use Rattle.eval.specs.Counted.{count};
 ghost use Rattle.eval.specs.Counted as Counted;
-ghost use Rattle.eval.specs.Promises.{mark-of, watch-of, tally};
-ghost use Rattle.eval.specs.declared.answer.Watch.{Watch};
+ghost use Rattle.eval.specs.Promises.{mark-of, watch-of, tally, KeepsFlags, SetsFlags};
 use crate::answer::Evaluation;
 use crate::answer::Mark;
 use crate::answer::Watch;
@@ -30,42 +29,50 @@ pub const MARK: usize = 2;
 // Bit k is set where kind k sets or reads one of the two.
 const TOUCHES: u64 = 0b1110_0000_0000_1111_1101_1111_0100;
 
-// Bits 2k and 2k + 1 are set where kind k keeps carry and overflow: by the base's rule, and by the board's, which keeps no
-// overflow of Add64 and AddCarry64.
-const KEEPS: u64 = 0b11111111_00000011_11111111_11111111_00000000_00001100_00011010_11101111;
-
-const BOARD_KEEPS: u64 = 0b11111111_00000011_11111111_11111111_00000000_00001100_00011000_11001111;
-
-// The same where it opens them.
+// Bits 2k and 2k + 1 are set where kind k opens carry and overflow.
 const OPENS: u64 = 0b10100000_00000000_00000000_11111111_00110011_11000000_00000000;
 
-// The same where it reads them.
+// The same where one of the first six kinds keeps them: by the base's rule, and by the board's, which keeps no overflow of
+// Add64 and AddCarry64.
+const KEEPS: u64 = 0b00011010_11101111;
+
+const BOARD_KEEPS: u64 = 0b00011000_11001111;
+
+// The same where one of them reads them.
 const READS: u64 = 0b00100101_00000000;
 
-// Most instructions keep the flags, and are done with the watch here.
+// Most instructions keep the flags, and are done with the watch here. Those behind the first six that do not keep them set both.
 fn touches(kind: u8) -> bool
     requires { ⌜ kind < 32 ⌝ }
-    ensures { λ r. ⌜ (r ≡ false → (rule : FlagRule) (at : ℕ) (w : Watch) → watched rule kind at w ≡ w) ⌝ }
+    ensures { λ r. ⌜ (r ≡ false → KeepsFlags kind) ⌝ }
+    ensures { λ r. ⌜ (r ≡ true → 6 < kind → SetsFlags kind) ⌝ }
 {
     ((TOUCHES >> kind) & 1) == 1
 }
 
-// What is open behind an instruction that completes, of what was.
-fn opened(kind: u8, evaluation: Evaluation, was: u64) -> u64
-    requires { ⌜ (kind < 32) × (was < 4) ⌝ }
+// What is open behind an instruction that completes, one behind the first six kinds, where nothing was.
+fn opened(kind: u8) -> u64
+    requires { ⌜ (6 < kind) × (kind < 32) ⌝ }
+    ensures { λ r. ⌜ ((rule : FlagRule) (at mark : ℕ) → watch-of r mark ≡ watched rule kind at (watch false false (mark-of mark))) ⌝ }
+{
+    OPENS >> (2 * kind)
+}
+
+// What of the open flags is open behind one of the first six, none of which opens one.
+fn kept(kind: u8, evaluation: Evaluation, was: u64) -> u64
+    requires { ⌜ (kind < 7) × (was < 4) ⌝ }
     ensures { λ r. ⌜ eqb (r % 2) 1 ≡ open-after (touched (flag-rule evaluation) kind .carry) (eqb (was % 2) 1) ⌝ }
     ensures { λ r. ⌜ eqb (r / 2 % 2) 1 ≡ open-after (touched (flag-rule evaluation) kind .overflow) (eqb (was / 2 % 2) 1) ⌝ }
 {
     let bits = 2 * kind;
-    let opens = OPENS >> bits;
     match evaluation {
-        Evaluation::Base => (was & (KEEPS >> bits)) | opens,
-        Evaluation::Board => (was & (BOARD_KEEPS >> bits)) | opens,
+        Evaluation::Base => was & (KEEPS >> bits),
+        Evaluation::Board => was & (BOARD_KEEPS >> bits),
     }
 }
 
 fn reads_open(kind: u8, was: u64) -> bool
-    requires { ⌜ (kind < 32) × (was < 4) ⌝ }
+    requires { ⌜ (kind < 7) × (was < 4) ⌝ }
     ensures { λ r. ⌜ ((mark : ℕ) → r ≡ reads-open kind (watch-of was mark)) ⌝ }
 {
     was & (READS >> (2 * kind)) != 0
@@ -73,7 +80,7 @@ fn reads_open(kind: u8, was: u64) -> bool
 
 // The mark behind it, which stays at the first.
 fn first_mark(kind: u8, at: usize, was: u64, mark: u64) -> u64
-    requires { ⌜ (kind < 32) × (was < 4) ⌝ }
+    requires { ⌜ (kind < 7) × (was < 4) ⌝ }
     requires { ⌜ at + 1 < 2 ^ 64 ⌝ }
     ensures { λ r. ⌜ mark-of r ≡ first-mark (reads-open kind (watch-of was mark)) at (mark-of mark) ⌝ }
 {
@@ -86,9 +93,10 @@ fn first_mark(kind: u8, at: usize, was: u64, mark: u64) -> u64
     mark
 }
 
+// One of the first six kinds: some of them keep one flag, and some read one.
 fn watch(kind: u8, at: usize, evaluation: Evaluation, counted: &mut [u64; COUNTED])
     requires { ⌜ 2 < length (now counted) ⌝ }
-    requires { ⌜ kind < 32 ⌝ }
+    requires { ⌜ kind < 7 ⌝ }
     requires { ⌜ at + 1 < 2 ^ 64 ⌝ }
     ensures { λ _. ⌜
         (let before = tally (now (counted .entry)) in
@@ -96,7 +104,7 @@ fn watch(kind: u8, at: usize, evaluation: Evaluation, counted: &mut [u64; COUNTE
 {
     let was = counted[OPEN] % 4;
     let mark = first_mark(kind, at, was, counted[MARK]);
-    counted[OPEN] = opened(kind, evaluation, was);
+    counted[OPEN] = kept(kind, evaluation, was);
     counted[MARK] = mark;
 }
 
@@ -113,9 +121,14 @@ pub fn count_instruction(
     ensures { λ _. ⌜ tally (now (counted .exit)) ≡ count done (watched (flag-rule evaluation) kind at) (tally (now (counted .entry))) ⌝ }
 {
     counted[STEPS] += 1;
-    if touches(kind) {
-        watch(kind, at, evaluation, counted);
+    if !touches(kind) {
+        return;
     }
+    if 6 < kind {
+        counted[OPEN] = opened(kind);
+        return;
+    }
+    watch(kind, at, evaluation, counted);
 }
 
 // A comparison opens both.

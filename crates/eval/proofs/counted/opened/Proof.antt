@@ -1,34 +1,14 @@
--- `opened` meets its contract: the bits of each kind say what it keeps and what it opens, by either evaluation. Assumes nothing.
-use mathlib.Core.Path.{_≡_, refl, ap}
-use mathlib.Core.Bool.{Bool}
+-- `opened` meets its contract: the bits of each kind say what it opens. Assumes nothing.
+use mathlib.Core.Path.{refl}
 use native.Mathlib.Omega.{arith}
-use borrow.Author.Needs.{needs}
-use Rattle.eval.specs.FlagRule.{base-rule, board-rule}
-use Rattle.eval.specs.Watch.{touched, open-after}
+use Rattle.eval.specs.Watch.{touched, open-after, reads-open, first-mark, watched}
 use Rattle.eval.proofs.CountedLaws.{opens-as}
 use Rattle.eval.proofs.counted.opened.Statement.{statement}
 use Rattle.eval.proofs.counted.opened.Tie as tie
 
-both : {a b c d : Bool} → _≡_ {A = Bool × Bool} (a, b) (c, d) → (a ≡ c) × (b ≡ d)
-both e = (ap (λ x. x .0) e, ap (λ x. x .1) e)
-
 returns : tie.Need-returns
-unfolding touched open-after
-returns c =
-    let start = c .before .before in
-    rw (c .enum-told .given .1) (both (opens-as base-rule _ _ (start .args .kind) (start .args .was) (start .pre .0) (start .pre .1) refl))
-
-returns-2 : tie.Need-returns-2
-unfolding touched open-after
-returns-2 c =
-    let start = c .before .before in
-    rw (c .enum-told2 .given .1) (both (opens-as board-rule _ _ (start .args .kind) (start .args .was) (start .pre .0) (start .pre .1) refl))
+unfolding touched open-after reads-open first-mark watched
+returns c rule at mark = opens-as rule _ (c .args .kind) at mark refl (c .pre .0) (c .pre .1)
 
 pub opened-spec : {M : Type 1} → statement M
-opened-spec =
-    tie.close
-    (tie.spec
-    (λ c. omega (arith, c .pre .0)) (λ c. omega (arith, c .pre .0)) (λ c. omega (arith, c .pre .0))
-    (λ c. search needs) (λ c. omega (arith, c .before .before .pre .0)) (λ c. omega (arith, c .before .before .pre .0))
-    (λ c. search needs) (λ c. omega (arith, c .before .before .pre .0)) (λ c. omega (arith, c .before .before .pre .0))
-    returns returns-2)
+opened-spec = tie.close (tie.spec (λ c. omega (arith, c .pre .1)) (λ c. omega (arith, c .pre .1)) (λ c. omega (arith, c .pre .1)) returns)

@@ -1,0 +1,34 @@
+-- `kept` meets its contract: the bits of each kind say what it keeps, by either evaluation. Assumes nothing.
+use mathlib.Core.Path.{_≡_, refl, ap}
+use mathlib.Core.Bool.{Bool}
+use native.Mathlib.Omega.{arith}
+use borrow.Author.Needs.{needs}
+use Rattle.eval.specs.FlagRule.{base-rule, board-rule}
+use Rattle.eval.specs.Watch.{touched, open-after}
+use Rattle.eval.proofs.CountedLaws.{keeps-as}
+use Rattle.eval.proofs.counted.kept.Statement.{statement}
+use Rattle.eval.proofs.counted.kept.Tie as tie
+
+both : {a b c d : Bool} → _≡_ {A = Bool × Bool} (a, b) (c, d) → (a ≡ c) × (b ≡ d)
+both e = (ap (λ x. x .0) e, ap (λ x. x .1) e)
+
+returns : tie.Need-returns
+unfolding touched open-after
+returns c =
+    let start = c .before .before in
+    rw (c .enum-told .given .1) (both (keeps-as base-rule _ (start .args .kind) (start .args .was) (start .pre .0) (start .pre .1) refl))
+
+returns-2 : tie.Need-returns-2
+unfolding touched open-after
+returns-2 c =
+    let start = c .before .before in
+    rw (c .enum-told2 .given .1) (both (keeps-as board-rule _ (start .args .kind) (start .args .was) (start .pre .0) (start .pre .1) refl))
+
+pub kept-spec : {M : Type 1} → statement M
+kept-spec =
+    tie.close
+    (tie.spec
+    (λ c. omega (arith, c .pre .0))
+    (λ c. search needs) (λ c. omega (arith, c .before .before .pre .0)) (λ c. omega (arith, c .before .before .pre .0))
+    (λ c. search needs) (λ c. omega (arith, c .before .before .pre .0)) (λ c. omega (arith, c .before .before .pre .0))
+    returns returns-2)
