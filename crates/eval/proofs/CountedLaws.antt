@@ -5,19 +5,19 @@ use mathlib.Core.Path.{_≡_, refl, sym, ap, _∙_, subst}
 use mathlib.Core.Bool.{Bool, true, false, not, cond}
 use mathlib.Core.List.{List}
 use native.Mathlib.Omega.{arith}
-use borrow.Author.Tests.{eq-eqb, ne-eqb}
+use borrow.Author.Tests.{ne-eqb, lt-ltb, ltb-true}
 use lib.Bits.{bitAnd}
-use lib.Dec.{eqb}
+use lib.Dec.{eqb, ltb}
 use lib.ListN.{length, getD, set, length-set}
 use lib.Seq.{getD-set-same, getD-set-other}
 use Rattle.code.specs.Records.{is-ocmp}
 use Rattle.code.proofs.KindLaws.{answers, same-within}
 use Rattle.code.proofs.Passing.{between-true}
-use Rattle.eval.specs.FlagRule.{FlagRule}
+use Rattle.eval.specs.FlagRule.{FlagRule, base-rule}
 use Rattle.eval.specs.Config.{done}
 use Rattle.eval.specs.Watch.{watch, touched, open-after, reads-open, first-mark, watched}
 use Rattle.eval.specs.Counted.{Counted, counted, count}
-use Rattle.eval.specs.Promises.{mark-of, watch-of, tally, SetsFlags}
+use Rattle.eval.specs.Promises.{carry-in, overflow-in, mark-of, watch-of, tally, Kept, SetsFlags}
 use Rattle.eval.specs.declared.answer.Watch.{Watch}
 use Rattle.eval.specs.declared.answer.Mark.{Mark}
 use Rattle.eval.specs.declared.answer.Mark.the-variants.{Marked}
@@ -44,76 +44,85 @@ module _ (rule : FlagRule) (word k at : ℕ) (w : Watch) where
       subst (λ (b : Bool). cond b w (watched rule k at w) ≡ w) z (same-within untouched (λ k. w) 32 0 h k (omega arith) (omega arith))
 
   -- and where it is set, behind the first six kinds
-  abbrev set-anew : Watch → ℕ → Watch
-  set-anew v k = cond (bit word k) (watched rule k at v) w
+  module _ (bits mark : ℕ) where
+    abbrev as-watched : ℕ → Watch
+    as-watched k = cond (bit word k) (watched rule k at (watch-of bits mark)) w
 
-  pub sets-anew :
-      answers (set-anew w) 7 25 ≡ answers (set-anew (watch false false (w .mark))) 7 25 → k < 32 → 6 < k → bit word k ≡ true →
-      watched rule k at w ≡ watched rule k at (watch false false (w .mark))
-  sets-anew h l m z =
-      subst (λ (b : Bool). cond b (watched rule k at w) w ≡ cond b (watched rule k at (watch false false (w .mark))) w) z
-      (same-within (set-anew w) (set-anew (watch false false (w .mark))) 25 7 h k (omega arith) (omega arith))
+    abbrev as-told : ℕ → Watch
+    as-told k = cond (bit word k) (watch-of k mark) w
 
--- two bits at 2k, as what is open where nothing was
-module _ (rule : FlagRule) (word k at mark : ℕ) where
-  abbrev opened-bits : ℕ → Watch
-  opened-bits k = watch-of (word / 2 ^ (2 * k)) mark
+    pub sets-both :
+        answers as-watched 7 25 ≡ answers as-told 7 25 → k < 32 → 6 < k → bit word k ≡ true → watched rule k at (watch-of bits mark) ≡ watch-of k mark
+    sets-both h l m z =
+        subst (λ (b : Bool). cond b (watched rule k at (watch-of bits mark)) w ≡ cond b (watch-of k mark) w) z
+        (same-within as-watched as-told 25 7 h k (omega arith) (omega arith))
 
-  pub opens-as :
-      answers opened-bits 7 25 ≡ answers (λ k. watched rule k at (watch false false (mark-of mark))) 7 25 → 6 < k → k < 32 →
-      opened-bits k ≡ watched rule k at (watch false false (mark-of mark))
-  opens-as h m l = same-within opened-bits (λ k. watched rule k at (watch false false (mark-of mark))) 25 7 h k (omega arith) (omega arith)
+-- ---- what is open, as two bits
+-- two bits at 2k, of a kind that is told in place of them
+module _ (opens word : ℕ) (far : ltb word 4 ≡ false) where
+  abbrev told-bits : ℕ → ℕ
+  told-bits k = opens / 2 ^ (2 * k) % 4
+
+  abbrev by-opens : ℕ → Bool × Bool
+  by-opens k = (eqb (told-bits k % 2) 1, eqb (told-bits k / 2 % 2) 1)
+
+  abbrev by-kind : ℕ → Bool × Bool
+  by-kind k = (open-after (touched base-rule k .carry) false, open-after (touched base-rule k .overflow) false)
+
+  pub told-as :
+      answers by-opens 0 32 ≡ answers by-kind 0 32 → let r = told-bits (word % 32) in (r < 4) × ((eqb (r % 2) 1 ≡ carry-in word) × (eqb (r / 2 % 2) 1 ≡ overflow-in word))
+  told-as h =
+      let z = same-within by-opens by-kind 32 0 h (word % 32) (omega arith) (omega arith) in
+      rw far (omega arith, (ap (λ (x : Bool × Bool). x .0) z, ap (λ (x : Bool × Bool). x .1) z))
+
+-- bits that are told as they are
+pub told-so : (word : ℕ) → word < 4 → (word < 4) × ((eqb (word % 2) 1 ≡ carry-in word) × (eqb (word / 2 % 2) 1 ≡ overflow-in word))
+told-so word l = rw (lt-ltb word 4 l) (l, (refl, refl))
 
 -- what two bits at 2k keep of the bits of was
 module _ (rule : FlagRule) (word k was : ℕ) (l : k < 7) (m : was < 4) where
-  -- whether carry, and overflow, are then open, by the bits and by the table
-  abbrev by-bits : ℕ → ℕ → Bool × Bool
-  by-bits k was = let r = bitAnd was (word / 2 ^ (2 * k)) in (eqb (r % 2) 1, eqb (r / 2 % 2) 1)
+  abbrev kept-bits : ℕ → ℕ → ℕ
+  kept-bits k was = bitAnd was (word / 2 ^ (2 * k))
 
-  abbrev by-table : ℕ → ℕ → Bool × Bool
-  by-table k was = (open-after (touched rule k .carry) (eqb (was % 2) 1), open-after (touched rule k .overflow) (eqb (was / 2 % 2) 1))
+  -- whether they are two, and carry and overflow are then open, by the bits and by the table
+  abbrev by-bits : ℕ → ℕ → Bool × (Bool × Bool)
+  by-bits k was = let r = kept-bits k was in (ltb r 4, (eqb (r % 2) 1, eqb (r / 2 % 2) 1))
 
-  pub keeps-as : answers (λ k. answers (by-bits k) 0 4) 0 7 ≡ answers (λ k. answers (by-table k) 0 4) 0 7 → by-bits k was ≡ by-table k was
-  keeps-as h = same-below by-bits by-table 7 4 h k was l m
+  abbrev by-table : ℕ → ℕ → Bool × (Bool × Bool)
+  by-table k was =
+      (true, (open-after (touched rule k .carry) (eqb (was % 2) 1), open-after (touched rule k .overflow) (eqb (was / 2 % 2) 1)))
 
-module _ (reads k was : ℕ) (l : k < 7) (m : was < 4) where
+  pub keeps-as : answers (λ k. answers (by-bits k) 0 4) 0 7 ≡ answers (λ k. answers (by-table k) 0 4) 0 7 → Kept rule k was (kept-bits k was)
+  keeps-as h =
+      let z = same-below by-bits by-table 7 4 h k was l m in
+      record {
+        below = ltb-true _ _ (ap (λ (x : Bool × (Bool × Bool)). x .0) z);
+        carry = ap (λ (x : Bool × (Bool × Bool)). x .1 .0) z;
+        over = ap (λ (x : Bool × (Bool × Bool)). x .1 .1) z;
+      }
+
+module _ (reads k was : ℕ) (l : k < 7) (m : was < 4) (mark : Mark) where
   abbrev read-bits : ℕ → ℕ → Bool
   read-bits k was = not (eqb (bitAnd was (reads / 2 ^ (2 * k))) 0)
 
   abbrev read-table : ℕ → ℕ → Bool
-  read-table k was = reads-open k (watch-of was 0)
+  read-table k was = reads-open k (watch (eqb (was % 2) 1) (eqb (was / 2 % 2) 1) mark)
 
   pub reads-as :
       answers (λ k. answers (read-bits k) 0 4) 0 7 ≡ answers (λ k. answers (read-table k) 0 4) 0 7 → read-bits k was ≡ read-table k was
   reads-as h = same-below read-bits read-table 7 4 h k was l m
 
-  -- what else the watch holds makes no difference
-  pub reads-so :
-      answers (λ k. answers (read-bits k) 0 4) 0 7 ≡ answers (λ k. answers (read-table k) 0 4) 0 7 → (mark : ℕ) →
-      read-bits k was ≡ reads-open k (watch-of was mark)
-  unfolding reads-open
-  reads-so h mark = reads-as h
+-- the mark, where there is none and where there is one
+pub marks : (at mark : ℕ) → mark ≡ 0 → mark-of (at + 1) ≡ first-mark true at (mark-of mark)
+unfolding first-mark
+marks at mark z =
+    let some-mark = ne-eqb (at + 1) 0 (λ e. omega (arith, e)) in
+    let place : at + 1 - 1 ≡ at = omega arith in
+    rw (z, some-mark, place)
 
--- the mark, where it is none and an open flag is read, and else
-module _ (reads : Bool) (at mark : ℕ) where
-  pub marks : mark ≡ 0 → reads ≡ true → mark-of (at + 1) ≡ first-mark reads at (mark-of mark)
-  unfolding first-mark
-  marks z h =
-      let some-mark = ne-eqb (at + 1) 0 (λ e. omega (arith, e)) in
-      let place : at + 1 - 1 ≡ at = omega arith in
-      rw (z, h, some-mark, place)
-
-  pub stays-marked : (mark ≡ 0 → ⊥) → mark-of mark ≡ first-mark reads at (mark-of mark)
-  unfolding first-mark
-  stays-marked z = rw (ne-eqb mark 0 z) (go reads)
-    where
-      go : (b : Bool) → Marked (mark - 1) ≡ first-mark b at (Marked (mark - 1))
-      go true = refl
-      go false = refl
-
-  pub stays-unmarked : reads ≡ false → mark-of mark ≡ first-mark reads at (mark-of mark)
-  unfolding first-mark
-  stays-unmarked h = rw h
+stays-marked : (at mark : ℕ) → (mark ≡ 0 → ⊥) → mark-of mark ≡ first-mark true at (mark-of mark)
+unfolding first-mark
+stays-marked at mark z = rw (ne-eqb mark 0 z)
 
 -- a comparison opens both
 opens-both : (rule : FlagRule) (k at : ℕ) (w : Watch) → is-ocmp k ≡ true → watched rule k at w ≡ watch true true (w .mark)
@@ -121,17 +130,6 @@ unfolding touched open-after reads-open first-mark watched
 opens-both rule k at w h =
     let l = between-true 0x30 0x35 k h in
     same-within (λ k. watched rule k at w) (λ k. watch true true (w .mark)) 6 0x30 refl k (l .0) (omega (arith, l .1))
-
-pub two-below : (bits : ℕ) → bits % 4 < 4
-two-below bits = omega arith
-
--- of what is open, two bits are looked at
-two-bits : (bits mark : ℕ) → watch-of (bits % 4) mark ≡ watch-of bits mark
-two-bits bits mark =
-    let one : bits % 4 % 2 ≡ bits % 2 = omega arith in
-    let half : bits / 2 ≡ 2 * (bits / 4) + bits % 4 / 2 = omega arith in
-    let other : bits % 4 / 2 % 2 ≡ bits / 2 % 2 = rw half (omega arith) in
-    rw (one, other)
 
 -- ---- what the words say behind a step
 module _ (words : List ℕ) (long : 2 < length words) where
@@ -141,28 +139,51 @@ module _ (words : List ℕ) (long : 2 < length words) where
       let mark = getD-set-other words 0 2 step 0 (λ e. omega (arith, e)) in
       rw (getD-set-same words 0 step 0 (omega arith), bits, mark)
 
-  module _ (rule : FlagRule) (k at open-bits mark : ℕ) where
-    abbrev was : ℕ
-    was = getD words 1 0 % 4
+  -- what a mark changes
+  pub stays-so : (at : ℕ) → (getD words 2 0 ≡ 0 → ⊥)
+      → let w = tally words .watch in tally words ≡ counted (tally words .steps) (watch (w .carry) (w .overflow) (first-mark true at (w .mark)))
+  stays-so at z = ap (λ (m : Mark). counted (getD words 0 0) (watch (carry-in (getD words 1 0)) (overflow-in (getD words 1 0)) m)) (stays-marked at (getD words 2 0) z)
 
-    pub watched-so :
-        eqb (open-bits % 2) 1 ≡ open-after (touched rule k .carry) (eqb (was % 2) 1) →
-        eqb (open-bits / 2 % 2) 1 ≡ open-after (touched rule k .overflow) (eqb (was / 2 % 2) 1) →
-        mark-of mark ≡ first-mark (reads-open k (watch-of was (getD words 2 0))) at (mark-of (getD words 2 0)) →
-        tally (set (set words 1 open-bits) 2 mark) ≡ counted (tally words .steps) (watched rule k at (tally words .watch))
+  pub marks-so : (at : ℕ) → getD words 2 0 ≡ 0
+      → let w = tally words .watch in tally (set words 2 (at + 1)) ≡ counted (tally words .steps) (watch (w .carry) (w .overflow) (first-mark true at (w .mark)))
+  marks-so at z =
+      let steps = getD-set-other words 2 0 (at + 1) 0 (λ e. omega (arith, e)) in
+      let bits = getD-set-other words 2 1 (at + 1) 0 (λ e. omega (arith, e)) in
+      let mark = getD-set-same words 2 (at + 1) 0 long in
+      rw (steps, bits, mark, marks at (getD words 2 0) z)
+
+  -- what is kept open, of the word that says what was
+  module _ (rule : FlagRule) (k at was bits : ℕ) (open-was : (eqb (was % 2) 1 ≡ carry-in (getD words 1 0)) × (eqb (was / 2 % 2) 1 ≡ overflow-in (getD words 1 0)))
+      (kept : Kept rule k was bits) where
+    kept-words : List ℕ
+    kept-words = set words 1 bits
+
+    -- the watch, but for the mark
+    kept-so : let w = tally words .watch in
+        tally (set words 1 bits) ≡ counted (getD words 0 0) (watch (open-after (touched rule k .carry) (w .carry)) (open-after (touched rule k .overflow) (w .overflow)) (w .mark))
+    kept-so =
+        let steps = getD-set-other words 1 0 bits 0 (λ e. omega (arith, e)) in
+        let opened = getD-set-same words 1 bits 0 (omega arith) in
+        let mark = getD-set-other words 1 2 bits 0 (λ e. omega (arith, e)) in
+        rw (steps, opened, mark, lt-ltb bits 4 (kept .below), kept .carry, kept .over, open-was .0, open-was .1)
+
+    -- what it reads
+    reads-so : (r : Bool) → ((m : Mark) → r ≡ reads-open k (watch (eqb (was % 2) 1) (eqb (was / 2 % 2) 1) m)) → r ≡ reads-open k (tally words .watch)
+    reads-so r is = is (tally words .watch .mark) ∙ rw (open-was .0, open-was .1)
+
+    pub unread-so : (r : Bool) → ((m : Mark) → r ≡ reads-open k (watch (eqb (was % 2) 1) (eqb (was / 2 % 2) 1) m)) → r ≡ false
+        → tally (set words 1 bits) ≡ counted (tally words .steps) (watched rule k at (tally words .watch))
+    unfolding watched first-mark
+    unread-so r is z = rw (sym (reads-so r is) ∙ z) kept-so
+
+    pub read-so : (r : Bool) → ((m : Mark) → r ≡ reads-open k (watch (eqb (was % 2) 1) (eqb (was / 2 % 2) 1) m)) → r ≡ true
+        → (l : Counted)
+        → (let b = tally (set words 1 bits) in let w = b .watch in l ≡ counted (b .steps) (watch (w .carry) (w .overflow) (first-mark true at (w .mark))))
+        → l ≡ counted (tally words .steps) (watched rule k at (tally words .watch))
     unfolding watched
-    watched-so c o m =
-        let steps : getD (set (set words 1 open-bits) 2 mark) 0 0 ≡ getD words 0 0 =
-        getD-set-other (set words 1 open-bits) 2 0 mark 0 (λ e. omega (arith, e)) ∙ getD-set-other words 1 0 open-bits 0 (λ e. omega (arith, e))
-        in
-        let opened : getD (set (set words 1 open-bits) 2 mark) 1 0 ≡ open-bits =
-        getD-set-other (set words 1 open-bits) 2 1 mark 0 (λ e. omega (arith, e)) ∙ getD-set-same words 1 open-bits 0 (omega arith)
-        in
-        let marked : getD (set (set words 1 open-bits) 2 mark) 2 0 ≡ mark =
-        getD-set-same (set words 1 open-bits) 2 mark 0 (subst (λ n. 2 < n) (sym (length-set words 1 open-bits)) long)
-        in
-        let same = two-bits (getD words 1 0) (getD words 2 0) in
-        rw (steps, opened, marked, c, o, m) (ap (λ (w : Watch). counted (getD words 0 0) (watched rule k at w)) same)
+    read-so r is z l e =
+        e ∙ ap (λ (b : Counted). counted (b .steps) (watch (b .watch .carry) (b .watch .overflow) (first-mark true at (b .watch .mark)))) kept-so
+        ∙ rw (sym (reads-so r is) ∙ z)
 
   abbrev stepped : List ℕ
   stepped = set words 0 (getD words 0 0 + 1)
@@ -183,15 +204,13 @@ module _ (words : List ℕ) (long : 2 < length words) where
     unwatched-so same = counted-so (tally stepped) (ap (counted (tally stepped .steps)) (sym (same (tally stepped .watch))))
 
     -- one that sets both
-    pub set-so :
-        SetsFlags k → (bits : ℕ) → ((mark : ℕ) → watch-of bits mark ≡ watched rule k at (watch false false (mark-of mark))) →
-        tally (set stepped 1 bits) ≡ count done (watched rule k at) (tally words)
-    set-so sets bits is =
-        let steps : getD (set stepped 1 bits) 0 0 ≡ getD stepped 0 0 = getD-set-other stepped 1 0 bits 0 (λ e. omega (arith, e)) in
-        let opened : getD (set stepped 1 bits) 1 0 ≡ bits = getD-set-same stepped 1 bits 0 (omega (arith, still-long)) in
-        let marked : getD (set stepped 1 bits) 2 0 ≡ getD stepped 2 0 = getD-set-other stepped 1 2 bits 0 (λ e. omega (arith, e)) in
-        counted-so (tally (set stepped 1 bits))
-        (rw (steps, opened, marked) (ap (counted (getD stepped 0 0)) (is (getD stepped 2 0) ∙ sym (sets rule at (tally stepped .watch)))))
+    pub set-so : SetsFlags k → tally (set stepped 1 k) ≡ count done (watched rule k at) (tally words)
+    set-so sets =
+        let steps = getD-set-other stepped 1 0 k 0 (λ e. omega (arith, e)) in
+        let opened = getD-set-same stepped 1 k 0 (omega (arith, still-long)) in
+        let marked = getD-set-other stepped 1 2 k 0 (λ e. omega (arith, e)) in
+        counted-so (tally (set stepped 1 k))
+        (rw (steps, opened, marked) (ap (counted (getD stepped 0 0)) (sym (sets rule at (getD stepped 1 0) (getD stepped 2 0)))))
 
     -- a comparison
     pub compared-so : is-ocmp k ≡ true → tally (set stepped 1 3) ≡ count done (watched rule k at) (tally words)

@@ -18,11 +18,11 @@ use Rattle.code.specs.declared.tree.Ocmp.{Ocmp}
 use Rattle.code.specs.Tree.{Code, Codes}
 use Rattle.code.specs.Records.{is-ins, is-ocmp, byte-at, number-at, ins-at, ocmp-at}
 use Rattle.code.specs.Spells.{Stands, Spells, SpellsAll}
-use Rattle.eval.specs.FlagRule.{FlagRule}
+use Rattle.eval.specs.FlagRule.{FlagRule, base-rule}
 use Rattle.eval.specs.Config.{Env, Config, with-regs, with-flags, with-values, Outcome, done, fault, stopped, spent, End}
 use Rattle.eval.specs.Config as Config
 use Rattle.eval.specs.Instructions.{valid-operand, eval-operand, valid-dst-operand, update-operand, valid-ocmp, ocmp-number, eval-ocmp, run-ins}
-use Rattle.eval.specs.Watch.{watch, watched}
+use Rattle.eval.specs.Watch.{watch, touched, open-after, watched}
 use Rattle.eval.specs.Counted.{Counted, counted, Ended, ended}
 use Rattle.eval.specs.Running.{step-ins, step-ocmp, run-code, run-codes}
 use Rattle.eval.specs.declared.answer.Watch.{Watch}
@@ -145,9 +145,17 @@ ComparesAt env bs at s r = (e : ℕ) → Stands is-ocmp bs at e → Compares env
 abbrev pub mark-of : ℕ → Mark
 mark-of word = cond (eqb word 0) Unmarked (Marked (word - 1))
 
--- a watch as two words: what is open, carry in bit 0 and overflow in bit 1, and the mark
+-- whether carry is open, as a word says it: below 4 its bit 0, else as it is behind the instruction, of this kind, that set both flags last
+abbrev pub carry-in : ℕ → Bool
+carry-in word = cond (ltb word 4) (eqb (word % 2) 1) (open-after (touched base-rule (word % 32) .carry) false)
+
+-- whether overflow is: bit 1, or the same
+abbrev pub overflow-in : ℕ → Bool
+overflow-in word = cond (ltb word 4) (eqb (word / 2 % 2) 1) (open-after (touched base-rule (word % 32) .overflow) false)
+
+-- a watch as two words: what is open, and the mark
 abbrev pub watch-of : ℕ → ℕ → Watch
-watch-of bits mark = watch (eqb (bits % 2) 1) (eqb (bits / 2 % 2) 1) (mark-of mark)
+watch-of word mark = watch (carry-in word) (overflow-in word) (mark-of mark)
 
 -- what is counted, in a lent array of words: at place 0 the steps made, at 1 what is open, at 2 the mark
 abbrev pub tally : List ℕ → Counted
@@ -157,9 +165,15 @@ tally words = counted (getD words 0 0) (watch-of (getD words 1 0) (getD words 2 
 abbrev pub KeepsFlags : ℕ → Type 0
 KeepsFlags k = (rule : FlagRule) (at : ℕ) (w : Watch) → watched rule k at w ≡ w
 
--- a kind of which the watch behind it does not hang on what was open
+-- a kind of which the watch behind it is told by the kind alone
 abbrev pub SetsFlags : ℕ → Type 0
-SetsFlags k = (rule : FlagRule) (at : ℕ) (w : Watch) → watched rule k at w ≡ watched rule k at (watch false false (w .mark))
+SetsFlags k = (rule : FlagRule) (at word mark : ℕ) → watched rule k at (watch-of word mark) ≡ watch-of k mark
+
+-- what is open behind a kind that opens nothing, as two bits, of what was
+pub record Kept (rule : FlagRule) (k was r : ℕ) : Type 0 where
+  pub below : r < 4
+  pub carry : eqb (r % 2) 1 ≡ open-after (touched rule k .carry) (eqb (was % 2) 1)
+  pub over : eqb (r / 2 % 2) 1 ≡ open-after (touched rule k .overflow) (eqb (was / 2 % 2) 1)
 
 -- an exit that leaves t, with l counted, ends as a part of a run does, and goes on at the place behind
 pub record Reached (end : Ended) (behind : ℕ) (r : Exit) (t : Config) (l : Counted) : Type 0 where

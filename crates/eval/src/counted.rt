@@ -8,10 +8,11 @@ ghost use lib.ListN.{getD, length};
 ghost use Rattle.code.specs.Records.{is-ocmp};
 ghost use Rattle.eval.specs.FlagRule.{FlagRule, flag-rule};
 ghost use Rattle.eval.specs.Config.{done};
-ghost use Rattle.eval.specs.Watch.{watch, nothing-open, touched, open-after, reads-open, first-mark, watched};
+ghost use Rattle.eval.specs.Watch.{watch, nothing-open, reads-open, first-mark, watched};
 ghost use Rattle.eval.specs.Counted.{count};
 ghost use Rattle.eval.specs.Counted as Counted;
-ghost use Rattle.eval.specs.Promises.{mark-of, watch-of, tally, KeepsFlags, SetsFlags};
+ghost use Rattle.eval.specs.Promises.{carry-in, overflow-in, mark-of, tally, Kept, KeepsFlags, SetsFlags};
+ghost use Rattle.eval.specs.declared.answer.Mark.{Mark};
 use crate::answer::Evaluation;
 use crate::answer::Mark;
 use crate::answer::Watch;
@@ -20,7 +21,7 @@ pub const COUNTED: usize = 3;
 
 pub const STEPS: usize = 0;
 
-// Bit 0 is set where carry is open, bit 1 where overflow is.
+// What is open: below 4, carry in bit 0 and overflow in bit 1; else the kind of the instruction that set both flags last.
 pub const OPEN: usize = 1;
 
 // 0, or the place of the mark and one more.
@@ -50,19 +51,20 @@ fn touches(kind: u8) -> bool
     ((TOUCHES >> kind) & 1) == 1
 }
 
-// What is open behind an instruction that completes, one behind the first six kinds, where nothing was.
-fn opened(kind: u8) -> u64
-    requires { ⌜ (6 < kind) × (kind < 32) ⌝ }
-    ensures { λ r. ⌜ ((rule : FlagRule) (at mark : ℕ) → watch-of r mark ≡ watched rule kind at (watch false false (mark-of mark))) ⌝ }
+// What is open, as two bits.
+fn open_bits(word: u64) -> u64
+    ensures { λ r. ⌜ (r < 4) × ((eqb (r % 2) 1 ≡ carry-in word) × (eqb (r / 2 % 2) 1 ≡ overflow-in word)) ⌝ }
 {
-    OPENS >> (2 * kind)
+    if word < 4 {
+        return word;
+    }
+    (OPENS >> (2 * (word % 32))) % 4
 }
 
 // What of the open flags is open behind one of the first six, none of which opens one.
 fn kept(kind: u8, evaluation: Evaluation, was: u64) -> u64
     requires { ⌜ (kind < 7) × (was < 4) ⌝ }
-    ensures { λ r. ⌜ eqb (r % 2) 1 ≡ open-after (touched (flag-rule evaluation) kind .carry) (eqb (was % 2) 1) ⌝ }
-    ensures { λ r. ⌜ eqb (r / 2 % 2) 1 ≡ open-after (touched (flag-rule evaluation) kind .overflow) (eqb (was / 2 % 2) 1) ⌝ }
+    ensures { λ r. ⌜ Kept (flag-rule evaluation) kind was r ⌝ }
 {
     let bits = 2 * kind;
     match evaluation {
@@ -73,28 +75,27 @@ fn kept(kind: u8, evaluation: Evaluation, was: u64) -> u64
 
 fn reads_open(kind: u8, was: u64) -> bool
     requires { ⌜ (kind < 7) × (was < 4) ⌝ }
-    ensures { λ r. ⌜ ((mark : ℕ) → r ≡ reads-open kind (watch-of was mark)) ⌝ }
+    ensures { λ r. ⌜ ((mark : Mark) → r ≡ reads-open kind (watch (eqb (was % 2) 1) (eqb (was / 2 % 2) 1) mark)) ⌝ }
 {
     was & (READS >> (2 * kind)) != 0
 }
 
-// The mark behind it, which stays at the first.
-fn first_mark(kind: u8, at: usize, was: u64, mark: u64) -> u64
-    requires { ⌜ (kind < 7) × (was < 4) ⌝ }
+// An open flag was read: the mark stays at the first.
+fn mark(at: usize, counted: &mut [u64; COUNTED])
+    requires { ⌜ 2 < length (now counted) ⌝ }
     requires { ⌜ at + 1 < 2 ^ 64 ⌝ }
-    ensures { λ r. ⌜ mark-of r ≡ first-mark (reads-open kind (watch-of was mark)) at (mark-of mark) ⌝ }
+    ensures { λ _. ⌜
+        (let before = tally (now (counted .entry)) in let w = before .watch in
+        tally (now (counted .exit)) ≡ Counted.counted (before .steps) (watch (w .carry) (w .overflow) (first-mark true at (w .mark)))) ⌝ }
 {
-    if mark != 0 {
-        return mark;
+    if counted[MARK] != 0 {
+        return;
     }
-    if reads_open(kind, was) {
-        return (at + 1) as u64;
-    }
-    mark
+    counted[MARK] = (at + 1) as u64;
 }
 
 // One of the first six kinds: some of them keep one flag, and some read one.
-fn watch(kind: u8, at: usize, evaluation: Evaluation, counted: &mut [u64; COUNTED])
+fn watch_sum(kind: u8, at: usize, evaluation: Evaluation, counted: &mut [u64; COUNTED])
     requires { ⌜ 2 < length (now counted) ⌝ }
     requires { ⌜ kind < 7 ⌝ }
     requires { ⌜ at + 1 < 2 ^ 64 ⌝ }
@@ -102,10 +103,12 @@ fn watch(kind: u8, at: usize, evaluation: Evaluation, counted: &mut [u64; COUNTE
         (let before = tally (now (counted .entry)) in
         tally (now (counted .exit)) ≡ Counted.counted (before .steps) (watched (flag-rule evaluation) kind at (before .watch))) ⌝ }
 {
-    let was = counted[OPEN] % 4;
-    let mark = first_mark(kind, at, was, counted[MARK]);
+    let was = open_bits(counted[OPEN]);
     counted[OPEN] = kept(kind, evaluation, was);
-    counted[MARK] = mark;
+    if reads_open(kind, was) {
+        mark(at, counted);
+        return;
+    }
 }
 
 pub fn count_instruction(
@@ -125,10 +128,10 @@ pub fn count_instruction(
         return;
     }
     if 6 < kind {
-        counted[OPEN] = opened(kind);
+        counted[OPEN] = kind as u64;
         return;
     }
-    watch(kind, at, evaluation, counted);
+    watch_sum(kind, at, evaluation, counted);
 }
 
 // A comparison opens both.
@@ -156,7 +159,7 @@ fn told_mark(mark: u64) -> Mark
 pub fn told_watch(counted: &[u64; COUNTED]) -> Watch
     ensures { λ r. ⌜ r ≡ tally (now (counted .entry)) .watch ⌝ }
 {
-    let open = counted[OPEN];
+    let open = open_bits(counted[OPEN]);
     Watch {
         mark: told_mark(counted[MARK]),
         carry: open % 2 == 1,

@@ -16,12 +16,12 @@ count-instruction-spec =
     let a = c .before .before .before .args in
     unwatched-so (a .counted .now) (c .before .before .before .pre .0) (flag-rule (a .evaluation)) (a .kind) (a .at)
     (c .before .touches .ensures .0 (not-true _ (c .if1 .taken)) (flag-rule (a .evaluation)) (a .at)))
-    (λ c κs. search needs)
     (λ c. search needs)
     (λ c.
-    let a = c .before .before .before .before .before .args in
-    set-so (a .counted .now) (c .before .before .before .before .before .pre .0) (flag-rule (a .evaluation)) (a .kind) (a .at)
-    (c .before .before .before .touches .ensures .1 (not-false _ (c .before .before .if1 .left)) (c .before .if2 .taken)) _ (c .opened .ensures _ _))
+    let start = c .before .before .before .before in
+    let a = start .args in
+    set-so (a .counted .now) (start .pre .0) (flag-rule (a .evaluation)) (a .kind) (a .at)
+    (c .before .before .touches .ensures .1 (not-false _ (c .before .if1 .left)) (c .if2 .taken)))
     (λ c κs.
     let start = c .before .before .before .before .before in
     (still-long (start .args .counted .now) (start .pre .0), (omega (arith, c .before .if2 .left), start .pre .1 .1 .0)))

@@ -1,6 +1,5 @@
 -- `kept` meets its contract: the bits of each kind say what it keeps, by either evaluation. Assumes nothing.
-use mathlib.Core.Path.{_≡_, refl, ap}
-use mathlib.Core.Bool.{Bool}
+use mathlib.Core.Path.{refl}
 use native.Mathlib.Omega.{arith}
 use borrow.Author.Needs.{needs}
 use Rattle.eval.specs.FlagRule.{base-rule, board-rule}
@@ -9,20 +8,17 @@ use Rattle.eval.proofs.CountedLaws.{keeps-as}
 use Rattle.eval.proofs.counted.kept.Statement.{statement}
 use Rattle.eval.proofs.counted.kept.Tie as tie
 
-both : {a b c d : Bool} → _≡_ {A = Bool × Bool} (a, b) (c, d) → (a ≡ c) × (b ≡ d)
-both e = (ap (λ x. x .0) e, ap (λ x. x .1) e)
-
 returns : tie.Need-returns
 unfolding touched open-after
 returns c =
     let start = c .before .before in
-    rw (c .enum-told .given .1) (both (keeps-as base-rule _ (start .args .kind) (start .args .was) (start .pre .0) (start .pre .1) refl))
+    rw (c .enum-told .given .1) (keeps-as base-rule _ (start .args .kind) (start .args .was) (start .pre .0) (start .pre .1) refl)
 
 returns-2 : tie.Need-returns-2
 unfolding touched open-after
 returns-2 c =
     let start = c .before .before in
-    rw (c .enum-told2 .given .1) (both (keeps-as board-rule _ (start .args .kind) (start .args .was) (start .pre .0) (start .pre .1) refl))
+    rw (c .enum-told2 .given .1) (keeps-as board-rule _ (start .args .kind) (start .args .was) (start .pre .0) (start .pre .1) refl)
 
 pub kept-spec : {M : Type 1} → statement M
 kept-spec =
