@@ -27,6 +27,7 @@ use Rattle.eval.specs.Config.{Env, Config, with-flags, Outcome, done, fault, st
 use Rattle.eval.specs.Watch.{touched}
 use Rattle.eval.specs.Instructions.{two-word, two-flags, quads-flags, Act, to-operand, ruled, set-regs, set-xmms, cell-of, valid-operand, eval-operand, valid-dst-operand, update-operand, readable, written, perform, act, run-ins, valid-ocmp, ocmp-number, eval-ocmp}
 use Rattle.eval.specs.Running.{run-ocmp}
+use Rattle.demands.specs.Watching.{Says}
 use Rattle.eval.specs.Promises.{environment}
 
 -- ---- ends that differ in flags
@@ -54,17 +55,15 @@ pub turned-flags : (h g : ℕ) (e : End) → e .how ≡ done → turned h g e .c
 unfolding turned flags-at
 turned-flags h g e is = rw is
 
+pub turned-how : (h g : ℕ) (e r : End) → r ≡ turned h g e → r .how ≡ e .how
+unfolding turned
+turned-how h g e r is = ap (λ (x : End). x .how) is
+
 -- an act with other flags
 abbrev pub with-act-flags : ℕ → Act → Act
 with-act-flags h a = record { sources = a .sources; rules = a .rules; words = a .words; regs = a .regs; quads = a .quads; flags = h }
 
 -- ---- flags
--- what a touch says of a flag, where flags f become h under a fill word and g become j under another: it is kept, it is the fill word's, it is the same
-abbrev pub Between : (ℕ → Bool) → (fill other f g : ℕ) → Touch → (h j : ℕ) → Type 0
-Between flag fill other f g keeps h j = (flag h ≡ flag f) × (flag j ≡ flag g)
-Between flag fill other f g opens h j = (flag h ≡ flag fill) × (flag j ≡ flag other)
-Between flag fill other f g closes h j = flag h ≡ flag j
-
 alike : {x y : Bool} → (x ≡ x) × (y ≡ y)
 alike = (refl, refl)
 
@@ -165,11 +164,11 @@ module _ (e : Evaluation) (addresses tags : List ℕ) where
       carry-so : (a b c : ℕ) → cf (flag-rule e .flags fill f a b c) ≡ cf (flag-rule e .flags other g a b c)
       carry-so a b c = rule-carry e fill f a b c ∙ sym (rule-carry e other g a b c)
 
-      overflow-so : (a b c : ℕ) → Between overflow fill other f g (flag-rule e .overflow) (flag-rule e .flags fill f a b c) (flag-rule e .flags other g a b c)
+      overflow-so : (a b c : ℕ) → Says overflow fill other f g (flag-rule e .overflow) (flag-rule e .flags fill f a b c) (flag-rule e .flags other g a b c)
       unfolding base-flags board-flags
       overflow-so a b c = by e
         where
-          by : (e : Evaluation) → Between overflow fill other f g (flag-rule e .overflow) (flag-rule e .flags fill f a b c) (flag-rule e .flags other g a b c)
+          by : (e : Evaluation) → Says overflow fill other f g (flag-rule e .overflow) (flag-rule e .flags fill f a b c) (flag-rule e .flags other g a b c)
           by Base = (overflow-update-cf f _, overflow-update-cf g _)
           by Board = overflow-update-cf _ _ ∙ overflow-update-of fill _ ∙ sym (overflow-update-cf _ _ ∙ overflow-update-of other _)
 
@@ -183,9 +182,9 @@ module _ (e : Evaluation) (addresses tags : List ℕ) where
         pub acts : SameRead (layout i .kind) → act-other i ≡ with-act-flags (act-other i .flags) (act-one i)
         pub hows : perform (under other) p (act-other i) (with-flags g s) .how ≡ perform (under fill) p (act-one i) (with-flags f s) .how
         pub carries : SameRead (layout i .kind)
-            → Between cf fill other f g (touched (flag-rule e) (layout i .kind) .carry) (act-one i .flags) (act-other i .flags)
+            → Says cf fill other f g (touched (flag-rule e) (layout i .kind) .carry) (act-one i .flags) (act-other i .flags)
         pub overflows : SameRead (layout i .kind)
-            → Between overflow fill other f g (touched (flag-rule e) (layout i .kind) .overflow) (act-one i .flags) (act-other i .flags)
+            → Says overflow fill other f g (touched (flag-rule e) (layout i .kind) .overflow) (act-one i .flags) (act-other i .flags)
 
       -- its operands' words are the same
       here : (o : Operand) → eval-operand (under other) o (with-flags g s) ≡ eval-operand (under fill) o (with-flags f s)
@@ -193,8 +192,8 @@ module _ (e : Evaluation) (addresses tags : List ℕ) where
 
       -- an instruction that reads neither carry nor overflow
       plain : (i : Instruction) → act-other i ≡ with-act-flags (act-other i .flags) (act-one i)
-          → Between cf fill other f g (touched (flag-rule e) (layout i .kind) .carry) (act-one i .flags) (act-other i .flags)
-          → Between overflow fill other f g (touched (flag-rule e) (layout i .kind) .overflow) (act-one i .flags) (act-other i .flags) → Steady i
+          → Says cf fill other f g (touched (flag-rule e) (layout i .kind) .carry) (act-one i .flags) (act-other i .flags)
+          → Says overflow fill other f g (touched (flag-rule e) (layout i .kind) .overflow) (act-one i .flags) (act-other i .flags) → Steady i
       unfolding turned
       plain i same c o = record {
         acts = λ _. same;

@@ -28,11 +28,11 @@ use Rattle.eval.specs.Watch.{nothing-open, touched, open-after, reads-open, fir
 use Rattle.eval.specs.Counted.{Counted, nothing-counted, Ended, ended, Part, continue, and-then, used-up, count, step}
 use Rattle.eval.specs.Instructions.{act, run-ins, valid-ocmp, ocmp-number, eval-ocmp}
 use Rattle.eval.specs.Running.{run-ocmp, step-ins, step-ocmp, decide, rounds, run-code, run-codes, run-checked, run-read, run-of}
-use Rattle.stores.proofs.OnlyStores.{never-refused}
+use Rattle.stores.proofs.OnlyStores.{never-refused, runs-tree}
 use Rattle.demands.specs.Stepping.{DoneOrFails, is-done, fails}
-use Rattle.demands.specs.Watching.{Says, Right, SameButOpen, WatchingBy, Watching}
+use Rattle.demands.specs.Watching.{Says, ReadsSame, Right, SameButOpen, WatchingBy, Watching}
 use Rattle.demands.proofs.Stepping.{stepping}
-use Rattle.demands.proofs.Filling.{under, turned, turned-done, turned-fault, turned-flags, SameRead, Between, steady, done-flags, ins-how, ins-turned, same-ocmp, ocmp-turned}
+use Rattle.demands.proofs.Filling.{under, turned, turned-done, turned-fault, turned-flags, turned-how, SameRead, steady, done-flags, ins-how, ins-turned, same-ocmp, ocmp-turned}
 
 -- ---- marks
 -- what reads no open flag keeps the mark, and a mark stays
@@ -50,13 +50,13 @@ marked-stays true p q m e = rw e
 -- ---- flags
 -- a flag that is not open behind what touches it is the same, if it was where it was not open
 module _ (flag : ℕ → Bool) (fill other f g h j : ℕ) where
-  closed-same : (t : Touch) (was : Bool) → Between flag fill other f g t h j → (was ≡ false → flag g ≡ flag f) → open-after t was ≡ false → flag j ≡ flag h
+  closed-same : (t : Touch) (was : Bool) → Says flag fill other f g t h j → (was ≡ false → flag g ≡ flag f) → open-after t was ≡ false → flag j ≡ flag h
   unfolding open-after
   closed-same keeps was k same e = k .1 ∙ same e ∙ sym (k .0)
   closed-same opens was k same e = absurd (false≢true (sym e))
   closed-same closes was k same e = sym k
 
-  open-fill : (t : Touch) (was : Bool) → Between flag fill other f g t h j → (was ≡ true → flag f ≡ flag fill) → open-after t was ≡ true → flag h ≡ flag fill
+  open-fill : (t : Touch) (was : Bool) → Says flag fill other f g t h j → (was ≡ true → flag f ≡ flag fill) → open-after t was ≡ true → flag h ≡ flag fill
   unfolding open-after
   open-fill keeps was k same e = k .0 ∙ same e
   open-fill opens was k same e = k .0
@@ -513,62 +513,72 @@ same-but-open x y z = record {
 }
 
 -- ---- the table
--- what a touch says, of one start under all fill words
-says : (flag : ℕ → Bool) (t : Touch) (f : ℕ) (left : ℕ → ℕ) → ((fill other : ℕ) → Between flag fill other f f t (left fill) (left other)) → Says flag t f left
-says flag keeps f left h = λ fill. h fill fill .0
-says flag opens f left h = λ fill. h fill fill .0
-says flag closes f left h = h
+both-false : (x : Bool) → x && false || true && true ≡ true
+both-false true = refl
+both-false false = refl
+
+not-done-fault : {n p : ℕ} {o : Outcome} → o ≡ done → o ≡ fault n p → ⊥
+not-done-fault d f = not-fault (sym d ∙ f)
 
 module _ (e : Evaluation) (addresses tags : List ℕ) where
   abbrev by-fill : ℕ → Env
   by-fill = under e addresses tags
 
-  module _ (p : ℕ) (i : Instruction) (s : Config) (fill : ℕ) (completes : run-ins (by-fill fill) p i s .how ≡ done) where
-    -- it completes under every fill word, and leaves the flags of its act
-    leaves-act : (other : ℕ) → run-ins (by-fill other) p i s .config .flags ≡ act (by-fill other) i s .flags
-    leaves-act other = go (stepping .instruction (by-fill other) p i s)
-      where
-        go : DoneOrFails p s (run-ins (by-fill other) p i s) → run-ins (by-fill other) p i s .config .flags ≡ act (by-fill other) i s .flags
-        go (is-done u d) = ap (λ (x : End). x .config .flags) d ∙ done-flags e addresses tags other p i s u d
-        go (fails n d) =
-            absurd (not-fault (sym completes ∙ sym (ins-how e addresses tags fill other p s (s .flags) (s .flags) i) ∙ ap (λ (x : End). x .how) d))
-
-    row : (x y : ℕ)
-        → Between cf x y (s .flags) (s .flags) (touched (flag-rule e) (layout i .kind) .carry)
-        (act (by-fill x) i s .flags) (act (by-fill y) i s .flags)
-        × Between overflow x y (s .flags) (s .flags) (touched (flag-rule e) (layout i .kind) .overflow)
-        (act (by-fill x) i s .flags) (act (by-fill y) i s .flags)
-    row x y =
-        let w = steady e addresses tags x y p s (s .flags) (s .flags) i in
-        let same : SameRead e addresses tags x y p s (s .flags) (s .flags) (layout i .kind) = record { carry = λ _. refl; over = λ _. refl } in
-        (w .carries same, w .overflows same)
-
-    left : ℕ → ℕ
-    left x = run-ins (by-fill x) p i s .config .flags
-
-    ins-right : Right (touched (flag-rule e) (layout i .kind)) (s .flags) (λ fill. run-ins (by-fill fill) p i s)
-    unfolding left
-    ins-right =
-        let t = touched (flag-rule e) (layout i .kind) in
-        record {
-          carry = says cf (t .carry) (s .flags) left (λ x y. rw (leaves-act x, leaves-act y) (row x y .0));
-          over = says overflow (t .overflow) (s .flags) left (λ x y. rw (leaves-act x, leaves-act y) (row x y .1));
-        }
-
-  ocmp-right : (c : Ocmp) (q : ℕ) (s : Config) (fill : ℕ) → run-ocmp (by-fill fill) q c s .how ≡ done
-      → Right (touched (flag-rule e) (ocmp-layout c .kind)) (s .flags) (λ fill. run-ocmp (by-fill fill) q c s)
-  ocmp-right c q s fill completes = record {
-    carry = subst⁻¹ (λ t. Says cf t (s .flags) left) (ocmp-opens e addresses tags fill fill c .0) (λ x. ap cf (left-is x));
-    over = subst⁻¹ (λ t. Says overflow t (s .flags) left) (ocmp-opens e addresses tags fill fill c .1) (λ x. ap overflow (left-is x));
-  }
+  -- an instruction that is done leaves the flags of its act
+  leaves-act : (fill p : ℕ) (i : Instruction) (s : Config) → run-ins (by-fill fill) p i s .how ≡ done
+      → run-ins (by-fill fill) p i s .config .flags ≡ act (by-fill fill) i s .flags
+  leaves-act fill p i s completes = go (stepping .instruction (by-fill fill) p i s)
     where
-      left : ℕ → ℕ
-      left x = run-ocmp (by-fill x) q c s .config .flags
+      go : DoneOrFails p s (run-ins (by-fill fill) p i s) → run-ins (by-fill fill) p i s .config .flags ≡ act (by-fill fill) i s .flags
+      go (is-done u d) = ap (λ (x : End). x .config .flags) d ∙ done-flags e addresses tags fill p i s u d
+      go (fails n d) = absurd (not-done-fault completes (ap (λ (x : End). x .how) d))
 
-      left-is : (x : ℕ) → left x ≡ x
-      left-is x =
-          ap (λ (r : End). r .config .flags) (ocmp-turned e addresses tags fill x q s (s .flags) (s .flags) c)
-          ∙ turned-flags x (s .flags) (run-ocmp (by-fill fill) q c s) completes
+  module _ (i : Instruction) (p : ℕ) (s : Config) (fill other g : ℕ) where
+    same-read : ReadsSame (layout i .kind) (s .flags) g → SameRead e addresses tags fill other p s (s .flags) g (layout i .kind)
+    unfolding reads-open
+    same-read r = record { carry = λ h. r .carry (rw h); over = λ h. r .over (rw h (both-false _)) }
+
+    ins-right : run-ins (by-fill fill) p i s .how ≡ done → ReadsSame (layout i .kind) (s .flags) g
+        → Right (touched (flag-rule e) (layout i .kind)) fill other (s .flags) g (run-ins (by-fill fill) p i s) (run-ins (by-fill other) p i (with-flags g s))
+    ins-right completes r =
+        let also = ins-how e addresses tags fill other p s (s .flags) g i ∙ completes in
+        let one = leaves-act fill p i s completes in
+        let two = leaves-act other p i (with-flags g s) also in
+        let row = steady e addresses tags fill other p s (s .flags) g i in
+        record { completes = also; carry = rw (one, two) (row .carries (same-read r)); over = rw (one, two) (row .overflows (same-read r)) }
+
+  module _ (c : Ocmp) (q : ℕ) (s : Config) (fill other g : ℕ) (completes : run-ocmp (by-fill fill) q c s .how ≡ done) where
+    one : End
+    one = run-ocmp (by-fill fill) q c s
+
+    two : End
+    two = run-ocmp (by-fill other) q c (with-flags g s)
+
+    -- both leave their fill words
+    left-one : one .config .flags ≡ fill
+    unfolding one
+    left-one =
+        ap (λ (r : End). r .config .flags) (ocmp-turned e addresses tags fill fill q s (s .flags) (s .flags) c)
+        ∙ turned-flags fill (s .flags) (run-ocmp (by-fill fill) q c s) completes
+
+    left-two : two .config .flags ≡ other
+    unfolding two
+    left-two =
+        ap (λ (r : End). r .config .flags) (ocmp-turned e addresses tags fill other q s (s .flags) g c)
+        ∙ turned-flags other g (run-ocmp (by-fill fill) q c s) completes
+
+    ocmp-right : Right (touched (flag-rule e) (ocmp-layout c .kind)) fill other (s .flags) g (run-ocmp (by-fill fill) q c s)
+        (run-ocmp (by-fill other) q c (with-flags g s))
+    unfolding one two
+    ocmp-right =
+        let opened = ocmp-opens e addresses tags fill other c in
+        record {
+          completes = turned-how other g _ _ (ocmp-turned e addresses tags fill other q s (s .flags) g c) ∙ completes;
+          carry = subst⁻¹ (λ t. Says cf fill other (s .flags) g t (one .config .flags) (two .config .flags)) (opened .0) (ap cf left-one, ap cf left-two);
+          over =
+              subst⁻¹ (λ t. Says overflow fill other (s .flags) g t (one .config .flags) (two .config .flags)) (opened .1)
+              (ap overflow left-one, ap overflow left-two);
+        }
 
 -- ---- what is watched
 module _ (limit : Option ℕ) (p : ℕ) (sees : Watch → Watch) (act : Config → End) (s : Config) (k : Counted) where
@@ -644,7 +654,7 @@ pub watching : Watching
 unfolding reads-open
 watching = record {
   each = λ e addresses tags. record {
-    right = λ i p s fill. ins-right e addresses tags p i s fill;
+    right = ins-right e addresses tags;
     right-compared = ocmp-right e addresses tags;
     unmarked = λ code fuel limit s fill other m. same-but-open _ _ (run-follows e addresses tags fill other limit fuel s code m);
     stays = λ c fuel limit s k fill p. beside-code e addresses tags fill fill limit c fuel .stays s k p;
@@ -662,5 +672,7 @@ watching = record {
   no-comparison = ocmp-reads;
   marks = λ env. marks-so (env .rule);
   marks-none = λ env. marks-none-so (env .rule);
+  marks-once = λ env k p q w. watched-stays (env .rule) k p w q;
+  begins = runs-tree;
   refused-unmarked = refused-so;
 }

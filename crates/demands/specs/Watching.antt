@@ -6,41 +6,46 @@ use mathlib.Core.Bool.{Bool, true, false}
 use mathlib.Core.List.{List}
 use mathlib.Core.Option.{Option}
 use Rattle.words.specs.Flags.{cf, overflow}
+use Rattle.machine.specs.Cells.{accepted, check-cells}
 use Rattle.machine.specs.declared.Operand.{Operand}
 use Rattle.code.specs.declared.tree.Instruction.{Instruction}
 use Rattle.code.specs.declared.tree.Instruction.the-variants.{AddCarry64, Adcx64, Adox64}
 use Rattle.code.specs.declared.tree.Ocmp.{Ocmp}
 use Rattle.code.specs.Layout.{layout, ocmp-layout}
 use Rattle.code.specs.Tree.{Code}
+use Rattle.code.specs.Reader.{got, parse}
 use Rattle.eval.specs.declared.answer.Evaluation.{Evaluation}
 use Rattle.eval.specs.declared.answer.Watch.{Watch}
 use Rattle.eval.specs.declared.answer.Mark.the-variants.{Unmarked, Marked}
 use Rattle.eval.specs.FlagRule.{Touch, keeps, opens, closes, flag-rule}
-use Rattle.eval.specs.Config.{Env, Config, End, done, refused}
-use Rattle.eval.specs.Watch.{nothing-open, Touches, touched, reads-open, watched}
-use Rattle.eval.specs.Counted.{Counted, Ended, used-up}
+use Rattle.eval.specs.Config.{Env, Config, with-flags, End, done, refused}
+use Rattle.eval.specs.Watch.{watch, nothing-open, Touches, touched, reads-open, watched}
+use Rattle.eval.specs.Counted.{Counted, counted, Ended}
 use Rattle.eval.specs.Instructions.{run-ins}
 use Rattle.eval.specs.Running.{run-ocmp, step-ins, step-ocmp, run-code, run-of}
 use Rattle.eval.specs.Promises.{environment}
 
--- what a touch says of a flag, of the flags before and of those that are left under each fill word: it is as it was; it is the fill word's; it is the
--- same under any two fill words
-abbrev pub Says : (ℕ → Bool) → Touch → ℕ → (ℕ → ℕ) → Type 0
-Says flag keeps before left = (fill : ℕ) → flag (left fill) ≡ flag before
-Says flag opens before left = (fill : ℕ) → flag (left fill) ≡ flag fill
-Says flag closes before left = (fill other : ℕ) → flag (left fill) ≡ flag (left other)
+-- what a touch says of a flag, where the flags f become h under a fill word, and g become j under another: each is as it was; each is its fill word's;
+-- they are the same
+abbrev pub Says : (ℕ → Bool) → (fill other f g : ℕ) → Touch → (h j : ℕ) → Type 0
+Says flag fill other f g keeps h j = (flag h ≡ flag f) × (flag j ≡ flag g)
+Says flag fill other f g opens h j = (flag h ≡ flag fill) × (flag j ≡ flag other)
+Says flag fill other f g closes h j = flag h ≡ flag j
 
--- the flags that are left under each fill word
-abbrev pub flags-of : (ℕ → End) → ℕ → ℕ
-flags-of ends fill = ends fill .config .flags
+-- what an instruction of kind k reads is the same in the flags f and g
+pub record ReadsSame (k f g : ℕ) : Type 0 where
+  pub carry : reads-open k (watch true false Unmarked) ≡ true → cf f ≡ cf g
+  pub over : reads-open k (watch false true Unmarked) ≡ true → overflow f ≡ overflow g
 
--- a row of the table is right of an instruction or a comparison: where that completes, what the row says of carry and of overflow holds
-pub record Right (row : Touches) (before : ℕ) (ends : ℕ → End) : Type 0 where
-  pub carry : Says cf (row .carry) before (flags-of ends)
-  pub over : Says overflow (row .overflow) before (flags-of ends)
+-- a row of the table is right of an instruction or a comparison that ends as `one` under a fill word from flags f, and as `two` under another from flags g:
+-- the second completes too, and what the row says of carry and of overflow holds
+pub record Right (row : Touches) (fill other f g : ℕ) (one two : End) : Type 0 where
+  pub completes : two .how ≡ done
+  pub carry : Says cf fill other f g (row .carry) (one .config .flags) (two .config .flags)
+  pub over : Says overflow fill other f g (row .overflow) (one .config .flags) (two .config .flags)
 
--- a second end is the first, but for flags that are open, and for what nothing reads: answer, number and place, registers, xmm, cells, steps and watch
--- are the same, and so are carry and overflow where they are not open
+-- a second end is the first, but for open flags, and for the bits of the flags that nothing reads: answer, number and place, registers, xmm, cells, steps
+-- and watch are the same, and so are carry and overflow where they are not open
 pub record SameButOpen (first second : Ended) : Type 0 where
   pub how : second .end .how ≡ first .end .how
   pub regs : second .end .config .regs ≡ first .end .config .regs
@@ -57,11 +62,11 @@ module _ (e : Evaluation) (addresses tags : List ℕ) where
 
   -- ---- the claims, of one evaluation
   pub record WatchingBy : Type 0 where
-    -- the table is right, of every instruction and every comparison
-    pub right : (i : Instruction) (p : ℕ) (s : Config) (fill : ℕ) → run-ins (under fill) p i s .how ≡ done
-        → Right (touched (flag-rule e) (layout i .kind)) (s .flags) (λ fill. run-ins (under fill) p i s)
-    pub right-compared : (c : Ocmp) (q : ℕ) (s : Config) (fill : ℕ) → run-ocmp (under fill) q c s .how ≡ done
-        → Right (touched (flag-rule e) (ocmp-layout c .kind)) (s .flags) (λ fill. run-ocmp (under fill) q c s)
+    -- the table is right, of every instruction and every comparison, from any two flags in which what it reads is the same
+    pub right : (i : Instruction) (p : ℕ) (s : Config) (fill other g : ℕ) → run-ins (under fill) p i s .how ≡ done → ReadsSame (layout i .kind) (s .flags) g
+        → Right (touched (flag-rule e) (layout i .kind)) fill other (s .flags) g (run-ins (under fill) p i s) (run-ins (under other) p i (with-flags g s))
+    pub right-compared : (c : Ocmp) (q : ℕ) (s : Config) (fill other g : ℕ) → run-ocmp (under fill) q c s .how ≡ done
+        → Right (touched (flag-rule e) (ocmp-layout c .kind)) fill other (s .flags) g (run-ocmp (under fill) q c s) (run-ocmp (under other) q c (with-flags g s))
     -- a run with an unmarked watch is the same under every other fill word, however it ends
     pub unmarked : (code : List ℕ) (fuel : ℕ) (limit : Option ℕ) (s : Config) (fill other : ℕ)
         → run-of code (under fill) fuel limit s .counted .watch .mark ≡ Unmarked
@@ -95,9 +100,14 @@ pub record Watching : Type 0 where
   pub no-other : (i : Instruction) → (layout i .kind ≡ 0x04 → ⊥) → (layout i .kind ≡ 0x05 → ⊥) → (layout i .kind ≡ 0x06 → ⊥)
       → (w : Watch) → reads-open (layout i .kind) w ≡ false
   pub no-comparison : (c : Ocmp) (w : Watch) → reads-open (ocmp-layout c .kind) w ≡ false
-  -- the first that reads an open one makes the mark, with its place, and nothing else makes one or changes it
+  -- the first that reads an open one makes the mark, with its place; what reads none makes none, and a mark that is there stays
   pub marks : (env : Env) (k p : ℕ) (w : Watch) → w .mark ≡ Unmarked → reads-open k w ≡ true → watched (env .rule) k p w .mark ≡ Marked p
   pub marks-none : (env : Env) (k p : ℕ) (w : Watch) → reads-open k w ≡ false → watched (env .rule) k p w .mark ≡ w .mark
-  -- the start's flags are not open, and of a refused run none is, and it is unmarked
+  pub marks-once : (env : Env) (k p q : ℕ) (w : Watch) → w .mark ≡ Marked q → watched (env .rule) k p w .mark ≡ Marked q
+  -- a run begins with no step, neither flag open, and no mark
+  pub begins : (code : List ℕ) (env : Env) (fuel : ℕ) (limit : Option ℕ) (s : Config) (c : Code) (next : ℕ) → parse code ≡ got c next
+      → check-cells (env .addresses) (env .tags) (s .values) ≡ accepted
+      → run-of code env fuel limit s ≡ run-code env limit c fuel s (counted 0 (watch false false Unmarked))
+  -- and one that is refused ends so
   pub refused-unmarked : (code : List ℕ) (env : Env) (fuel : ℕ) (limit : Option ℕ) (s : Config) (n p : ℕ)
       → run-of code env fuel limit s .end .how ≡ refused n p → run-of code env fuel limit s .counted .watch ≡ nothing-open

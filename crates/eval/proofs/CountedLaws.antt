@@ -3,9 +3,9 @@
 use Prim.Native.Nat.{ℕ, _+_, _-_, _*_, _/_, _%_, _^_, _<_}
 use mathlib.Core.Path.{_≡_, refl, sym, ap, _∙_, subst}
 use mathlib.Core.Bool.{Bool, true, false, not, cond}
-use mathlib.Core.List.{List}
+use mathlib.Core.List.{List, [], _∷_}
 use native.Mathlib.Omega.{arith}
-use borrow.Author.Tests.{ne-eqb, lt-ltb, ltb-true}
+use borrow.Author.Tests.{eq-eqb, ne-eqb, lt-ltb, ltb-true}
 use lib.Bits.{bitAnd}
 use lib.Dec.{eqb, ltb}
 use lib.ListN.{length, getD, set, length-set}
@@ -20,7 +20,7 @@ use Rattle.eval.specs.Counted.{Counted, counted, count}
 use Rattle.eval.specs.Promises.{carry-in, overflow-in, mark-of, watch-of, tally, Kept, SetsFlags}
 use Rattle.eval.specs.declared.answer.Watch.{Watch}
 use Rattle.eval.specs.declared.answer.Mark.{Mark}
-use Rattle.eval.specs.declared.answer.Mark.the-variants.{Marked}
+use Rattle.eval.specs.declared.answer.Mark.the-variants.{Unmarked, Marked}
 
 -- bit k of a word
 abbrev bit : ℕ → ℕ → Bool
@@ -84,21 +84,29 @@ module _ (rule : FlagRule) (word k was : ℕ) (l : k < 7) (m : was < 4) where
   abbrev kept-bits : ℕ → ℕ → ℕ
   kept-bits k was = bitAnd was (word / 2 ^ (2 * k))
 
-  -- whether they are two, and carry and overflow are then open, by the bits and by the table
-  abbrev by-bits : ℕ → ℕ → Bool × (Bool × Bool)
-  by-bits k was = let r = kept-bits k was in (ltb r 4, (eqb (r % 2) 1, eqb (r / 2 % 2) 1))
+  -- whether an instruction of a kind reads a bit of was
+  abbrev reads-bit : ℕ → ℕ → Bool
+  reads-bit k was = reads-open k (watch (eqb (was % 2) 1) (eqb (was / 2 % 2) 1) Unmarked)
 
-  abbrev by-table : ℕ → ℕ → Bool × (Bool × Bool)
+  -- whether they are two, carry and overflow are then open, and one was read where all are kept: by the bits and by the table
+  abbrev by-bits : ℕ → ℕ → List Bool
+  by-bits k was =
+      let r = kept-bits k was in ltb r 4 ∷ eqb (r % 2) 1 ∷ eqb (r / 2 % 2) 1 ∷ cond (eqb r was) (reads-bit k was) false ∷ []
+
+  abbrev by-table : ℕ → ℕ → List Bool
   by-table k was =
-      (true, (open-after (touched rule k .carry) (eqb (was % 2) 1), open-after (touched rule k .overflow) (eqb (was / 2 % 2) 1)))
+      true ∷ open-after (touched rule k .carry) (eqb (was % 2) 1) ∷ open-after (touched rule k .overflow) (eqb (was / 2 % 2) 1) ∷ false ∷ []
 
   pub keeps-as : answers (λ k. answers (by-bits k) 0 4) 0 7 ≡ answers (λ k. answers (by-table k) 0 4) 0 7 → Kept rule k was (kept-bits k was)
+  unfolding reads-open
   keeps-as h =
       let z = same-below by-bits by-table 7 4 h k was l m in
+      let entry : (i : ℕ) → getD (by-bits k was) i false ≡ getD (by-table k was) i false = λ i. ap (λ (x : List Bool). getD x i false) z in
       record {
-        below = ltb-true _ _ (ap (λ (x : Bool × (Bool × Bool)). x .0) z);
-        carry = ap (λ (x : Bool × (Bool × Bool)). x .1 .0) z;
-        over = ap (λ (x : Bool × (Bool × Bool)). x .1 .1) z;
+        below = ltb-true _ _ (entry 0);
+        carry = entry 1;
+        over = entry 2;
+        unread = λ same mark. subst (λ (b : Bool). cond b (reads-bit k was) false ≡ false) (eq-eqb _ _ same) (entry 3);
       }
 
 module _ (reads k was : ℕ) (l : k < 7) (m : was < 4) (mark : Mark) where
@@ -175,6 +183,19 @@ module _ (words : List ℕ) (long : 2 < length words) where
         → tally (set words 1 bits) ≡ counted (tally words .steps) (watched rule k at (tally words .watch))
     unfolding watched first-mark
     unread-so r is z = rw (sym (reads-so r is) ∙ z) kept-so
+
+    -- where all of it is kept, nothing changes
+    pub same-so : bits ≡ was → tally words ≡ counted (tally words .steps) (watched rule k at (tally words .watch))
+    unfolding watched first-mark
+    same-so same =
+        let none = sym (reads-so _ (λ m. sym (kept .unread same m))) in
+        let carry : carry-in (getD words 1 0) ≡ open-after (touched rule k .carry) (carry-in (getD words 1 0)) =
+        sym (open-was .0) ∙ ap (λ n. eqb (n % 2) 1) (sym same) ∙ kept .carry ∙ ap (open-after (touched rule k .carry)) (open-was .0)
+        in
+        let over : overflow-in (getD words 1 0) ≡ open-after (touched rule k .overflow) (overflow-in (getD words 1 0)) =
+        sym (open-was .1) ∙ ap (λ n. eqb (n / 2 % 2) 1) (sym same) ∙ kept .over ∙ ap (open-after (touched rule k .overflow)) (open-was .1)
+        in
+        rw (none, sym carry, sym over)
 
     pub read-so : (r : Bool) → ((m : Mark) → r ≡ reads-open k (watch (eqb (was % 2) 1) (eqb (was / 2 % 2) 1) m)) → r ≡ true
         → (l : Counted)

@@ -22,7 +22,7 @@ use Rattle.eval.specs.FlagRule.{FlagRule, base-rule}
 use Rattle.eval.specs.Config.{Env, Config, with-regs, with-flags, with-values, Outcome, done, fault, stopped, spent, End}
 use Rattle.eval.specs.Config as Config
 use Rattle.eval.specs.Instructions.{valid-operand, eval-operand, valid-dst-operand, update-operand, valid-ocmp, ocmp-number, eval-ocmp, run-ins}
-use Rattle.eval.specs.Watch.{watch, touched, open-after, watched}
+use Rattle.eval.specs.Watch.{watch, touched, open-after, reads-open, watched}
 use Rattle.eval.specs.Counted.{Counted, counted, Ended, ended}
 use Rattle.eval.specs.Running.{step-ins, step-ocmp, run-code, run-codes}
 use Rattle.eval.specs.declared.answer.Watch.{Watch}
@@ -145,7 +145,8 @@ ComparesAt env bs at s r = (e : ℕ) → Stands is-ocmp bs at e → Compares env
 abbrev pub mark-of : ℕ → Mark
 mark-of word = cond (eqb word 0) Unmarked (Marked (word - 1))
 
--- whether carry is open, as a word says it: below 4 its bit 0, else as it is behind the instruction, of this kind, that set both flags last
+-- whether carry is open, as a word says it: below 4 its bit 0, else as it is behind the instruction, of this kind, that set both flags last. No row of the
+-- table behind 06 asks the rule, and a kind is below 32
 abbrev pub carry-in : ℕ → Bool
 carry-in word = cond (ltb word 4) (eqb (word % 2) 1) (open-after (touched base-rule (word % 32) .carry) false)
 
@@ -174,6 +175,8 @@ pub record Kept (rule : FlagRule) (k was r : ℕ) : Type 0 where
   pub below : r < 4
   pub carry : eqb (r % 2) 1 ≡ open-after (touched rule k .carry) (eqb (was % 2) 1)
   pub over : eqb (r / 2 % 2) 1 ≡ open-after (touched rule k .overflow) (eqb (was / 2 % 2) 1)
+  -- where all of it is kept, none was read
+  pub unread : r ≡ was → (mark : Mark) → reads-open k (watch (eqb (was % 2) 1) (eqb (was / 2 % 2) 1) mark) ≡ false
 
 -- an exit that leaves t, with l counted, ends as a part of a run does, and goes on at the place behind
 pub record Reached (end : Ended) (behind : ℕ) (r : Exit) (t : Config) (l : Counted) : Type 0 where

@@ -42,7 +42,7 @@ const BOARD_KEEPS: u64 = 0b00011000_11001111;
 // The same where one of them reads them.
 const READS: u64 = 0b00100101_00000000;
 
-// Most instructions keep the flags, and are done with the watch here. Those behind the first six that do not keep them set both.
+// What keeps both flags and reads none is done with the watch here. Behind the first six kinds, what does not keep them sets both.
 fn touches(kind: u8) -> bool
     requires { ⌜ kind < 32 ⌝ }
     ensures { λ r. ⌜ (r ≡ false → KeepsFlags kind) ⌝ }
@@ -61,7 +61,7 @@ fn open_bits(word: u64) -> u64
     (OPENS >> (2 * (word % 32))) % 4
 }
 
-// What of the open flags is open behind one of the first six, none of which opens one.
+// What of the open flags is open behind one of the first six kinds, none of which opens one.
 fn kept(kind: u8, evaluation: Evaluation, was: u64) -> u64
     requires { ⌜ (kind < 7) × (was < 4) ⌝ }
     ensures { λ r. ⌜ Kept (flag-rule evaluation) kind was r ⌝ }
@@ -104,7 +104,12 @@ fn watch_sum(kind: u8, at: usize, evaluation: Evaluation, counted: &mut [u64; CO
         tally (now (counted .exit)) ≡ Counted.counted (before .steps) (watched (flag-rule evaluation) kind at (before .watch))) ⌝ }
 {
     let was = open_bits(counted[OPEN]);
-    counted[OPEN] = kept(kind, evaluation, was);
+    let left = kept(kind, evaluation, was);
+    // What reads a flag closes it: where all that was open is kept, none was read.
+    if left == was {
+        return;
+    }
+    counted[OPEN] = left;
     if reads_open(kind, was) {
         mark(at, counted);
         return;
