@@ -1,7 +1,8 @@
 /*
- * Does the end hang on the fill word? A kernel subtracts, which leaves the fill word in the flags, and then adds carry to
- * Rax: under the fill words 0 and 1 it ends with two different Rax, and the watch has the place of what added. With an
- * Add64 in between, which sets carry by its own sum, one end is promised, and the program fails where there are two.
+ * Where the fill word decides the end: a kernel subtracts, which leaves the fill word in the flags, and then adds carry to
+ * Rax. Under the fill words 0 and 1 it ends with two different Rax, and the watch has the place of what added. With an
+ * Add64 in between, which sets carry by its own sum, one end is promised. The program fails where a watch is not so, and
+ * where an unmarked one's promise is not kept.
  */
 #include <inttypes.h>
 #include <stdio.h>
@@ -84,7 +85,7 @@ int main(void)
                 return 1;
             print_end(fill, &ends[fill]);
         }
-        if (!keeps_promise(&ends[0], &ends[1]))
+        if (ends[0].marked == closes || !keeps_promise(&ends[0], &ends[1]))
             return 1;
     }
     return 0;

@@ -64,8 +64,8 @@ enum pokchrei_fault {
 };
 
 /*
- * The watch of a run: does its end hang on the fill word? Carry, bit 0 of the flags, or overflow, bit 11, is open while
- * it is a bit of the fill word, put there by what set it last. By what completes, it opens and closes so:
+ * The watch of a run tells whether its end can hang on the fill word. Carry, bit 0 of the flags, or overflow, bit 11, is
+ * open while it is a bit of the fill word, put there by what set it last. What completes opens and closes them so:
  *
  *     every comparison, SUB64, MUL64, IMUL64, AND64, SHR64, SHL64, PADDD    opens both
  *     XOR64, POPCNT64                                                       closes both
@@ -75,14 +75,16 @@ enum pokchrei_fault {
  *     ADOX64                                                                closes overflow
  *     every other instruction                                               changes neither
  *
- * The start's flags are not open, whatever they are. What fails a check, or is not tried, opens and closes nothing.
+ * A run begins with neither open, whatever flags it starts from. What fails a check, or is not tried, opens, closes and
+ * marks nothing.
  *
  * ADD_CARRY64 and ADCX64 add carry, and ADOX64 overflow. The first of these that completes while what it adds is open
  * marks the watch with its place. A mark stays where it is, and behind it flags open and close by the same rules.
  *
- * An unmarked watch promises that under every other fill word the run has the same kind, number and place, steps,
- * registers, xmm words, cells and watch; and carry and overflow are the same too, unless they are open at the end, where
- * each is that fill word's bit. A marked watch promises nothing: the end may differ, or not.
+ * An unmarked watch promises that under every other fill word the run, from the same start, has the same kind, number and
+ * place, steps, registers, xmm words, cells and watch; and carry and overflow are the same too, unless they are open at the
+ * end, where each is that fill word's bit. The other bits of the flags, which no instruction reads, may differ. A marked
+ * watch promises nothing: the end may differ, or not.
  */
 enum pokchrei_open {
     POKCHREI_OPEN_CARRY = 1,

@@ -105,10 +105,10 @@ impl Default for Setting {
     }
 }
 
-/// Whether the end of a run hangs on the fill word.
+/// Whether the end of a run can hang on the fill word.
 ///
 /// Carry (bit 0 of the flags) or overflow (bit 11) is open while it is a bit of the fill word, put there by what set it
-/// last. The start's flags are not open. By what completes, it opens and closes so:
+/// last. A run begins with neither open. What completes opens and closes them so:
 ///
 /// - every comparison, Sub64, Mul64, IMul64, And64, Shr64, Shl64 and Paddd: opens both
 /// - Xor64 and Popcnt64: closes both
@@ -120,9 +120,10 @@ impl Default for Setting {
 ///
 /// What fails a check, or is not tried, opens, closes and marks nothing. So a refused run is unmarked with nothing open.
 ///
-/// Where `mark` is `None`, the run has under every other fill word the same answer, steps, registers, xmm words, cells and
-/// watch; and carry and overflow are the same too, unless they are open at the end, where each is that fill word's bit. A
-/// mark promises nothing: the end may differ, or not.
+/// Where `mark` is `None`, the run has under every other fill word, from the same start, the same answer, steps, registers,
+/// xmm words, cells and watch; and carry and overflow are the same too, unless they are open at the end, where each is that
+/// fill word's bit. The other bits of the flags, which no instruction reads, may differ. A mark promises nothing: the end
+/// may differ, or not.
 #[derive(Clone, Copy, Debug, PartialEq, Eq)]
 pub struct Watch {
     /// The place of the first instruction that completed and added an open flag: AddCarry64 and Adcx64 add carry, Adox64

@@ -1,4 +1,4 @@
-//! The watch of request 2026-07 through the wrapper: whether the end of a run hangs on the fill word.
+//! The watch of request 2026-07 through the wrapper: whether the end of a run can hang on the fill word.
 
 use pokchrei::Comparison::OEq;
 use pokchrei::Instruction::*;

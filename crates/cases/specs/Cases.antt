@@ -1,5 +1,5 @@
--- The kernels tried of document 01, P1 to P14, and P2 on the board, as one table from inputs to outcomes, and one claim: Running gives these ends.
--- Its examples of code, of cells and of a job stand behind it.
+-- The kernels tried of document 01, P1 to P14, and P2 on the board, as one table from inputs to outcomes; then limits, and kernels that read a flag. Of each
+-- table there is one claim: Running gives these ends. Examples of code, of cells and of a job stand behind them.
 use Prim.Native.Nat.{ℕ}
 use mathlib.Core.Path.{_≡_, refl}
 use mathlib.Core.Bool.{true, false, xor}
@@ -8,6 +8,8 @@ use mathlib.Core.Option.{some}
 use lib.ListN.{length, set, replicate}
 use Rattle.words.specs.Words.{nat-to-four, two-select, two-to-nat, four-select, four-insert}
 use Rattle.words.specs.Bits.{to-vec, from-vec, map2, ixor, ishl}
+use Rattle.words.specs.Counts.{tzcnt}
+use Rattle.words.specs.Counts.{zeros as zeros-first}
 use Rattle.words.specs.Types.{shl-lanes, shuffle-lanes, shift-quad}
 use Rattle.words.specs.Sums.{sum-mod, sum-carry, sub-mod, mul-div, mul-mod}
 use Rattle.words.specs.Signed.{signed-word, signed-sum, leaves}
@@ -187,7 +189,7 @@ block bytes = 0x20 ∷ length bytes ∷ replicate 3 0 ++ bytes
 abbrev behind-sub : List ℕ → List ℕ
 behind-sub bytes = block (with-reg 0x07 0x01 1 ++ bytes)
 
--- the start, Rbx 1; and what Sub64 leaves of it
+-- the start: Rbx 1, of which Sub64 leaves 0
 abbrev rbx : Config
 rbx = reg 1 1 zeros
 
@@ -198,9 +200,12 @@ watching =
     row (behind-sub (with-reg 0x05 0x00 0)) (no-cells 0) 0 rbx done (rax 0) 2 (watch false true (Marked 17))
     ∷ row (behind-sub (with-reg 0x05 0x00 0)) (no-cells 1) 0 rbx done (rax 1) 2 (watch false true (Marked 17))
     -- the same with AddCarry64; on the board it closes overflow too
+    ∷ row (behind-sub (with-reg 0x04 0x00 0)) (no-cells 0) 0 rbx done (rax 0) 2 (watch false true (Marked 17))
     ∷ row (behind-sub (with-reg 0x04 0x00 0)) (no-cells 1) 0 rbx done (rax 1) 2 (watch false true (Marked 17))
+    ∷ row (behind-sub (with-reg 0x04 0x00 0)) (on-board (no-cells 0)) 0 rbx done (rax 0) 2 (watch false false (Marked 17))
     ∷ row (behind-sub (with-reg 0x04 0x00 0)) (on-board (no-cells 1)) 0 rbx done (rax 1) 2 (watch false false (Marked 17))
-    -- with Adox64, fill 2048: it reads overflow
+    -- with Adox64, which reads overflow
+    ∷ row (behind-sub (with-reg 0x06 0x00 0)) (no-cells 0) 0 rbx done (rax 0) 2 (watch true false (Marked 17))
     ∷ row (behind-sub (with-reg 0x06 0x00 0)) (no-cells 2048) 0 rbx done (rax 1) 2 (watch true false (Marked 17))
     -- with Add64 of 0 to Rbx between, which closes carry: Rax is the same under both
     ∷ row (behind-sub (with-reg 0x02 0x01 0 ++ with-reg 0x05 0x00 0)) (no-cells 0) 0 rbx done (rax 0) 3 (watch false true Unmarked)
@@ -208,6 +213,10 @@ watching =
     -- it keeps overflow by the base's rule, and closes it by the board's
     ∷ row (behind-sub (with-reg 0x02 0x01 0 ++ with-reg 0x06 0x00 0)) (no-cells 2048) 0 rbx done (rax 1) 3 (watch false false (Marked 29))
     ∷ row (behind-sub (with-reg 0x02 0x01 0 ++ with-reg 0x06 0x00 0)) (on-board (no-cells 2048)) 0 rbx done (rax 0) 3 (watch false false Unmarked)
+    -- Xor64 of 0 to Rbx closes both, and Tzcnt64 to Rbx closes carry and opens overflow: fill 2049
+    ∷ row (behind-sub (with-reg 0x0b 0x01 0 ++ with-reg 0x05 0x00 0 ++ with-reg 0x06 0x00 0)) (no-cells 2049) 0 rbx done (rax 0) 4 nothing-open
+    ∷ row (behind-sub (with-reg 0x1b 0x01 1 ++ with-reg 0x05 0x00 0 ++ with-reg 0x06 0x00 0)) (no-cells 2049) 0 rbx done (rax 1) 4
+    (watch false false (Marked 41))
     -- two that read an open carry: the mark is at the first
     ∷ row (behind-sub (with-reg 0x05 0x00 0 ++ with-reg 0x07 0x01 0 ++ with-reg 0x05 0x00 0)) (no-cells 1) 0 rbx done (rax 2) 4 (watch false true (Marked 17))
     -- an Adox64 to Rsp faults, and marks nothing
@@ -229,7 +238,7 @@ unfolding run-of run-read run-checked run-code rounds decide run-ocmp continue u
     find-cell eqℤ eval-maddr wild wild-operand valid-dst xmm-at set-xmm
     cf overflow update-cf update-of
     signed-word signed-sum leaves sum-mod sum-carry sub-mod mul-div mul-mod shl-lanes shuffle-lanes shift-quad
-    to-vec from-vec map2 xor ixor ishl nat-to-four two-select two-to-nat four-select four-insert
+    tzcnt zeros-first to-vec from-vec map2 xor ixor ishl nat-to-four two-select two-to-nat four-select four-insert
     followed with-fields read-record read-operands read-with read-ocmp read-part read-codes
     read-block read-if read-while read-structure read-body read-code parse verdict-of check-code
     body-length operand-count register-fields number-at spelled signed-at operand-at behind operands-at ins-at ocmp-at
@@ -247,7 +256,7 @@ unfoldable pub named : List Kernel → List Ended
 named [] = []
 named (k ∷ ks) = k .end ∷ named ks
 
--- the one claim
+-- the claim of the kernels tried
 pub kernels-hold : ends-of kernels ≡ named kernels
 unfolding ends-of named kernels ran
 kernels-hold = refl
@@ -257,7 +266,7 @@ pub limited-hold : ends-of limited ≡ named limited
 unfolding ends-of named limited ran
 limited-hold = refl
 
--- and of the watch
+-- and of the watch: the kernel of the first two rows has another Rax under each of its fill words
 pub watching-holds : ends-of watching ≡ named watching
 unfolding ends-of named watching ran
 watching-holds = refl

@@ -278,17 +278,35 @@ module _ (e : Evaluation) (addresses tags : List ℕ) where
       pub same-ocmp : (c : Ocmp) → SameOcmp c
       unfolding valid-ocmp ocmp-number eval-ocmp
       same-ocmp (OEq a b) = record {
-        valid = rw (valid-same g (with-flags f s) a, valid-same g (with-flags f s) b); numbered = number-same a b; answer = rw (here a, here b); }
+        valid = rw (valid-same g (with-flags f s) a, valid-same g (with-flags f s) b);
+        numbered = number-same a b;
+        answer = rw (here a, here b);
+      }
       same-ocmp (ONe a b) = record {
-        valid = rw (valid-same g (with-flags f s) a, valid-same g (with-flags f s) b); numbered = number-same a b; answer = rw (here a, here b); }
+        valid = rw (valid-same g (with-flags f s) a, valid-same g (with-flags f s) b);
+        numbered = number-same a b;
+        answer = rw (here a, here b);
+      }
       same-ocmp (OLe a b) = record {
-        valid = rw (valid-same g (with-flags f s) a, valid-same g (with-flags f s) b); numbered = number-same a b; answer = rw (here a, here b); }
+        valid = rw (valid-same g (with-flags f s) a, valid-same g (with-flags f s) b);
+        numbered = number-same a b;
+        answer = rw (here a, here b);
+      }
       same-ocmp (OGe a b) = record {
-        valid = rw (valid-same g (with-flags f s) a, valid-same g (with-flags f s) b); numbered = number-same a b; answer = rw (here a, here b); }
+        valid = rw (valid-same g (with-flags f s) a, valid-same g (with-flags f s) b);
+        numbered = number-same a b;
+        answer = rw (here a, here b);
+      }
       same-ocmp (OLt a b) = record {
-        valid = rw (valid-same g (with-flags f s) a, valid-same g (with-flags f s) b); numbered = number-same a b; answer = rw (here a, here b); }
+        valid = rw (valid-same g (with-flags f s) a, valid-same g (with-flags f s) b);
+        numbered = number-same a b;
+        answer = rw (here a, here b);
+      }
       same-ocmp (OGt a b) = record {
-        valid = rw (valid-same g (with-flags f s) a, valid-same g (with-flags f s) b); numbered = number-same a b; answer = rw (here a, here b); }
+        valid = rw (valid-same g (with-flags f s) a, valid-same g (with-flags f s) b);
+        numbered = number-same a b;
+        answer = rw (here a, here b);
+      }
 
       pub ocmp-turned : (c : Ocmp) → run-ocmp (under other) p c (with-flags g s) ≡ turned other g (run-ocmp (under fill) p c (with-flags f s))
       unfolding run-ocmp turned flags-at

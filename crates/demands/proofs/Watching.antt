@@ -366,7 +366,9 @@ module _ (e : Evaluation) (addresses tags : List ℕ) (fill other : ℕ) where
               with-flags other u,
               compares ∙ ap (turned other (t .flags)) d ∙ turned-done other (t .flags) u,
               record {
-                regs = refl; xmms = refl; values = refl;
+                regs = refl;
+                xmms = refl;
+                values = refl;
                 carry = λ z. absurd (never-closed (w .carry) _ (ocmp-opens c .0) z);
                 over = λ z. absurd (never-closed (w .overflow) _ (ocmp-opens c .1) z);
               },
@@ -536,7 +538,9 @@ module _ (e : Evaluation) (addresses tags : List ℕ) where
   module _ (i : Instruction) (p : ℕ) (s : Config) (fill other g : ℕ) where
     same-read : ReadsSame (layout i .kind) (s .flags) g → SameRead e addresses tags fill other p s (s .flags) g (layout i .kind)
     unfolding reads-open
-    same-read r = record { carry = λ h. r .carry (rw h); over = λ h. r .over (rw h (both-false _)) }
+    same-read r =
+        let k = layout i .kind in
+        record { carry = λ h. r .carry (rw h); over = λ h. r .over (rw h (both-false (among (0x04 ∷ 0x05 ∷ []) k))) }
 
     ins-right : run-ins (by-fill fill) p i s .how ≡ done → ReadsSame (layout i .kind) (s .flags) g
         → Right (touched (flag-rule e) (layout i .kind)) fill other (s .flags) g (run-ins (by-fill fill) p i s) (run-ins (by-fill other) p i (with-flags g s))
@@ -548,35 +552,37 @@ module _ (e : Evaluation) (addresses tags : List ℕ) where
         record { completes = also; carry = rw (one, two) (row .carries (same-read r)); over = rw (one, two) (row .overflows (same-read r)) }
 
   module _ (c : Ocmp) (q : ℕ) (s : Config) (fill other g : ℕ) (completes : run-ocmp (by-fill fill) q c s .how ≡ done) where
-    one : End
-    one = run-ocmp (by-fill fill) q c s
+    ocmp-one : End
+    ocmp-one = run-ocmp (by-fill fill) q c s
 
-    two : End
-    two = run-ocmp (by-fill other) q c (with-flags g s)
+    ocmp-two : End
+    ocmp-two = run-ocmp (by-fill other) q c (with-flags g s)
 
     -- both leave their fill words
-    left-one : one .config .flags ≡ fill
-    unfolding one
+    left-one : ocmp-one .config .flags ≡ fill
+    unfolding ocmp-one
     left-one =
         ap (λ (r : End). r .config .flags) (ocmp-turned e addresses tags fill fill q s (s .flags) (s .flags) c)
         ∙ turned-flags fill (s .flags) (run-ocmp (by-fill fill) q c s) completes
 
-    left-two : two .config .flags ≡ other
-    unfolding two
+    left-two : ocmp-two .config .flags ≡ other
+    unfolding ocmp-two
     left-two =
         ap (λ (r : End). r .config .flags) (ocmp-turned e addresses tags fill other q s (s .flags) g c)
         ∙ turned-flags other g (run-ocmp (by-fill fill) q c s) completes
 
     ocmp-right : Right (touched (flag-rule e) (ocmp-layout c .kind)) fill other (s .flags) g (run-ocmp (by-fill fill) q c s)
         (run-ocmp (by-fill other) q c (with-flags g s))
-    unfolding one two
+    unfolding ocmp-one ocmp-two
     ocmp-right =
         let opened = ocmp-opens e addresses tags fill other c in
         record {
           completes = turned-how other g _ _ (ocmp-turned e addresses tags fill other q s (s .flags) g c) ∙ completes;
-          carry = subst⁻¹ (λ t. Says cf fill other (s .flags) g t (one .config .flags) (two .config .flags)) (opened .0) (ap cf left-one, ap cf left-two);
+          carry =
+              subst⁻¹ (λ t. Says cf fill other (s .flags) g t (ocmp-one .config .flags) (ocmp-two .config .flags)) (opened .0)
+              (ap cf left-one, ap cf left-two);
           over =
-              subst⁻¹ (λ t. Says overflow fill other (s .flags) g t (one .config .flags) (two .config .flags)) (opened .1)
+              subst⁻¹ (λ t. Says overflow fill other (s .flags) g t (ocmp-one .config .flags) (ocmp-two .config .flags)) (opened .1)
               (ap overflow left-one, ap overflow left-two);
         }
 

@@ -66,7 +66,8 @@ module _ (e : Evaluation) (addresses tags : List ℕ) where
     pub right : (i : Instruction) (p : ℕ) (s : Config) (fill other g : ℕ) → run-ins (under fill) p i s .how ≡ done → ReadsSame (layout i .kind) (s .flags) g
         → Right (touched (flag-rule e) (layout i .kind)) fill other (s .flags) g (run-ins (under fill) p i s) (run-ins (under other) p i (with-flags g s))
     pub right-compared : (c : Ocmp) (q : ℕ) (s : Config) (fill other g : ℕ) → run-ocmp (under fill) q c s .how ≡ done
-        → Right (touched (flag-rule e) (ocmp-layout c .kind)) fill other (s .flags) g (run-ocmp (under fill) q c s) (run-ocmp (under other) q c (with-flags g s))
+        → Right (touched (flag-rule e) (ocmp-layout c .kind)) fill other (s .flags) g (run-ocmp (under fill) q c s)
+        (run-ocmp (under other) q c (with-flags g s))
     -- a run with an unmarked watch is the same under every other fill word, however it ends
     pub unmarked : (code : List ℕ) (fuel : ℕ) (limit : Option ℕ) (s : Config) (fill other : ℕ)
         → run-of code (under fill) fuel limit s .counted .watch .mark ≡ Unmarked

@@ -70,7 +70,8 @@ module _ (opens word : ℕ) (far : ltb word 4 ≡ false) where
   by-kind k = (open-after (touched base-rule k .carry) false, open-after (touched base-rule k .overflow) false)
 
   pub told-as :
-      answers by-opens 0 32 ≡ answers by-kind 0 32 → let r = told-bits (word % 32) in (r < 4) × ((eqb (r % 2) 1 ≡ carry-in word) × (eqb (r / 2 % 2) 1 ≡ overflow-in word))
+      answers by-opens 0 32 ≡ answers by-kind 0 32 → let r = told-bits (word % 32) in
+      (r < 4) × ((eqb (r % 2) 1 ≡ carry-in word) × (eqb (r / 2 % 2) 1 ≡ overflow-in word))
   told-as h =
       let z = same-within by-opens by-kind 32 0 h (word % 32) (omega arith) (omega arith) in
       rw far (omega arith, (ap (λ (x : Bool × Bool). x .0) z, ap (λ (x : Bool × Bool). x .1) z))
@@ -150,10 +151,12 @@ module _ (words : List ℕ) (long : 2 < length words) where
   -- what a mark changes
   pub stays-so : (at : ℕ) → (getD words 2 0 ≡ 0 → ⊥)
       → let w = tally words .watch in tally words ≡ counted (tally words .steps) (watch (w .carry) (w .overflow) (first-mark true at (w .mark)))
-  stays-so at z = ap (λ (m : Mark). counted (getD words 0 0) (watch (carry-in (getD words 1 0)) (overflow-in (getD words 1 0)) m)) (stays-marked at (getD words 2 0) z)
+  stays-so at z =
+      let w = tally words .watch in
+      ap (λ (m : Mark). counted (getD words 0 0) (watch (w .carry) (w .overflow) m)) (stays-marked at (getD words 2 0) z)
 
-  pub marks-so : (at : ℕ) → getD words 2 0 ≡ 0
-      → let w = tally words .watch in tally (set words 2 (at + 1)) ≡ counted (tally words .steps) (watch (w .carry) (w .overflow) (first-mark true at (w .mark)))
+  pub marks-so : (at : ℕ) → getD words 2 0 ≡ 0 → let w = tally words .watch in
+      tally (set words 2 (at + 1)) ≡ counted (tally words .steps) (watch (w .carry) (w .overflow) (first-mark true at (w .mark)))
   marks-so at z =
       let steps = getD-set-other words 2 0 (at + 1) 0 (λ e. omega (arith, e)) in
       let bits = getD-set-other words 2 1 (at + 1) 0 (λ e. omega (arith, e)) in
@@ -161,14 +164,13 @@ module _ (words : List ℕ) (long : 2 < length words) where
       rw (steps, bits, mark, marks at (getD words 2 0) z)
 
   -- what is kept open, of the word that says what was
-  module _ (rule : FlagRule) (k at was bits : ℕ) (open-was : (eqb (was % 2) 1 ≡ carry-in (getD words 1 0)) × (eqb (was / 2 % 2) 1 ≡ overflow-in (getD words 1 0)))
+  module _ (rule : FlagRule) (k at was bits : ℕ)
+      (open-was : (eqb (was % 2) 1 ≡ carry-in (getD words 1 0)) × (eqb (was / 2 % 2) 1 ≡ overflow-in (getD words 1 0)))
       (kept : Kept rule k was bits) where
-    kept-words : List ℕ
-    kept-words = set words 1 bits
-
     -- the watch, but for the mark
     kept-so : let w = tally words .watch in
-        tally (set words 1 bits) ≡ counted (getD words 0 0) (watch (open-after (touched rule k .carry) (w .carry)) (open-after (touched rule k .overflow) (w .overflow)) (w .mark))
+        tally (set words 1 bits)
+        ≡ counted (getD words 0 0) (watch (open-after (touched rule k .carry) (w .carry)) (open-after (touched rule k .overflow) (w .overflow)) (w .mark))
     kept-so =
         let steps = getD-set-other words 1 0 bits 0 (λ e. omega (arith, e)) in
         let opened = getD-set-same words 1 bits 0 (omega arith) in

@@ -56,7 +56,7 @@ unfoldable pub used-up : Option ℕ → Counted → Bool
 used-up none k = false
 used-up (some limit) k = leb limit (k .steps)
 
--- what is counted behind an instruction or a comparison: where it is done one step more, and the watch as it sees to it
+-- what is counted behind an instruction or a comparison: where it is done one step more, and the watch as `sees` makes it
 unfoldable pub count : Outcome → (Watch → Watch) → Counted → Counted
 count done sees k = counted (suc (k .steps)) (sees (k .watch))
 count (fault n p) sees k = k

@@ -17,7 +17,7 @@ pub data Touch : Type 0 where
 abbrev pub NewFlags : Type 0
 NewFlags = (fill flags a b c : ℕ) → ℕ
 
--- the new flags, and what becomes of overflow; carry is closed by every rule
+-- the new flags, and what becomes of overflow; both rules close carry
 pub record FlagRule : Type 0 where
   pub flags : NewFlags
   pub overflow : Touch

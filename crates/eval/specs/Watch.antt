@@ -1,4 +1,4 @@
--- The watch: whether the end of a run hangs on the fill word. It says which of carry and overflow are open, the fill word's, and where an open one was
+-- The watch: whether the end of a run can hang on the fill word. It says which of carry and overflow are open, the fill word's, and where an open one was
 -- read first. It stands with what is counted: no instruction knows of it.
 use Prim.Native.Nat.{ℕ}
 use mathlib.Core.Bool.{Bool, true, false, cond, _&&_, _||_}

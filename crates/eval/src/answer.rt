@@ -15,7 +15,7 @@ pub enum Mark {
     Marked(usize),
 }
 
-// Whether an end hangs on the fill word: the mark, and whether carry and overflow are open, which is to say the fill word's.
+// Whether an end can hang on the fill word: the mark, and whether carry and overflow are open, which is to say the fill word's.
 pub struct Watch {
     pub mark: Mark,
     pub carry: bool,

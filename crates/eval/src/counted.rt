@@ -116,12 +116,7 @@ fn watch_sum(kind: u8, at: usize, evaluation: Evaluation, counted: &mut [u64; CO
     }
 }
 
-pub fn count_instruction(
-    kind: u8,
-    at: usize,
-    evaluation: Evaluation,
-    counted: &mut [u64; COUNTED],
-)
+pub fn count_instruction(kind: u8, at: usize, evaluation: Evaluation, counted: &mut [u64; COUNTED])
     requires { ⌜ 2 < length (now counted) ⌝ }
     requires { ⌜ kind < 32 ⌝ }
     requires { ⌜ at + 1 < 2 ^ 64 ⌝ }

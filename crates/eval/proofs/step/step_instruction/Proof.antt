@@ -15,6 +15,6 @@ step-instruction-spec =
     (tie.spec
     (λ c κs. search needs) (λ c. search ins-stopped)
     (λ c κs. search needs) (λ c. search needs) (λ c. search ins-ended)
-    (λ c. search ins-starts) 
+    (λ c. search ins-starts)
     (λ c κs. let asked = start (c .before .before) .pre in (search needs, (ins-below _ _ (asked .0), (search place-fits, search step-fits))))
     (λ c. search needs) (λ c. search ins-counted))
