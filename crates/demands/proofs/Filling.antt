@@ -1,12 +1,11 @@
 -- One instruction, and one comparison, under two fill words and from two configurations that differ in flags alone: what it reads, checks and writes is
 -- the same where the bits are that it reads, and what becomes of carry and of overflow the table says. Assumes nothing.
 use Prim.Native.Nat.{ℕ, _+_}
-use mathlib.Core.Path.{_≡_, refl, sym, ap, _∙_, subst}
-use mathlib.Core.Bool.{Bool, true, false, cond}
+use mathlib.Core.Path.{_≡_, refl, sym, ap, _∙_}
+use mathlib.Core.Bool.{Bool, true, false}
 use mathlib.Core.List.{List, [], _∷_}
 use lib.Dec.{eqb}
 use Rattle.words.specs.Words.{Four}
-use Rattle.words.specs.Bits.{bit}
 use Rattle.words.specs.Flags.{cf, overflow, update-cf, update-of}
 use Rattle.words.specs.Sums.{sum-carry}
 use Rattle.words.proofs.FlagLaws.{cf-update-cf, overflow-update-cf, overflow-update-of, cf-update-of}
@@ -22,7 +21,7 @@ use Rattle.code.specs.Families.{among}
 use Rattle.code.specs.Layout.{layout}
 use Rattle.eval.specs.declared.answer.Evaluation.{Evaluation}
 use Rattle.eval.specs.declared.answer.Evaluation.the-variants.{Base, Board}
-use Rattle.eval.specs.FlagRule.{Touch, keeps, opens, closes, base-flags, board-flags, flag-rule}
+use Rattle.eval.specs.FlagRule.{base-flags, board-flags, flag-rule}
 use Rattle.eval.specs.Config.{Env, Config, with-flags, Outcome, done, fault, stopped, spent, refused, End, ends, check}
 use Rattle.eval.specs.Watch.{touched}
 use Rattle.eval.specs.Instructions.{two-word, two-flags, quads-flags, Act, to-operand, ruled, set-regs, set-xmms, cell-of, valid-operand, eval-operand, valid-dst-operand, update-operand, readable, written, perform, act, run-ins, valid-ocmp, ocmp-number, eval-ocmp}

@@ -13,7 +13,7 @@ use Rattle.code.specs.Tree.{Code, Ins, Block, IfElse, While, Codes, ⟨⟩, _�
 use Rattle.code.specs.Reader.{Read, got, trouble, parse}
 use Rattle.eval.specs.Config.{Env, Config, Outcome, done, fault, stopped, spent, refused}
 use Rattle.eval.specs.Counted.{Counted, nothing-counted, Ended, ended, Part, continue, and-then}
-use Rattle.eval.specs.Instructions.{run-ins, eval-ocmp}
+use Rattle.eval.specs.Instructions.{eval-ocmp}
 use Rattle.eval.specs.Running.{step-ins, step-ocmp, decide, rounds, run-code, run-codes, run-checked, run-read, run-of}
 use Rattle.demands.specs.Somewhere.{Somewhere, SomewhereIn}
 

@@ -7,7 +7,6 @@ use mathlib.Core.List.{List, [], _∷_}
 use mathlib.Core.Option.{Option}
 use native.Mathlib.Omega.{arith}
 use borrow.Author.Tests.{ne-eqb}
-use lib.Dec.{eqb}
 use Rattle.words.specs.Flags.{cf, overflow}
 use Rattle.machine.specs.Cells.{Verdict, accepted, check-cells}
 use Rattle.machine.specs.Cells.{refused as cells-refused}
@@ -30,7 +29,7 @@ use Rattle.eval.specs.Instructions.{act, run-ins, valid-ocmp, ocmp-number, eval
 use Rattle.eval.specs.Running.{run-ocmp, step-ins, step-ocmp, decide, rounds, run-code, run-codes, run-checked, run-read, run-of}
 use Rattle.stores.proofs.OnlyStores.{never-refused, runs-tree}
 use Rattle.demands.specs.Stepping.{DoneOrFails, is-done, fails}
-use Rattle.demands.specs.Watching.{Says, ReadsSame, Right, SameButOpen, WatchingBy, Watching}
+use Rattle.demands.specs.Watching.{Says, ReadsSame, Right, SameButOpen, Watching}
 use Rattle.demands.proofs.Stepping.{stepping}
 use Rattle.demands.proofs.Filling.{under, turned, turned-done, turned-fault, turned-flags, turned-how, SameRead, steady, done-flags, ins-how, ins-turned, same-ocmp, ocmp-turned}
 

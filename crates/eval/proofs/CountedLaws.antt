@@ -20,7 +20,7 @@ use Rattle.eval.specs.Counted.{Counted, counted, count}
 use Rattle.eval.specs.Promises.{carry-in, overflow-in, mark-of, watch-of, tally, Kept, SetsFlags}
 use Rattle.eval.specs.declared.answer.Watch.{Watch}
 use Rattle.eval.specs.declared.answer.Mark.{Mark}
-use Rattle.eval.specs.declared.answer.Mark.the-variants.{Unmarked, Marked}
+use Rattle.eval.specs.declared.answer.Mark.the-variants.{Unmarked}
 
 -- bit k of a word
 abbrev bit : ℕ → ℕ → Bool

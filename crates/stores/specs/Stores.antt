@@ -10,7 +10,7 @@ use Rattle.code.specs.declared.tree.Instruction.{Instruction}
 use Rattle.code.specs.declared.tree.Ocmp.{Ocmp}
 use Rattle.code.specs.Tree.{Code, Ins, Block, IfElse, While, Codes, ⟨⟩, _∷ᶜ_}
 use Rattle.eval.specs.Config.{Env, Config, Outcome, done, fault, stopped, spent, refused}
-use Rattle.eval.specs.Instructions.{cell-of, update-operand, act, run-ins, eval-ocmp}
+use Rattle.eval.specs.Instructions.{cell-of, update-operand, act, eval-ocmp}
 use Rattle.eval.specs.Counted.{Counted, Part}
 use Rattle.eval.specs.Running.{step-ins, step-ocmp, run-code}
 

@@ -1,5 +1,4 @@
 -- `count_comparison` meets its contract: one step more, and both are open. Assumes nothing.
-use native.Mathlib.Omega.{arith}
 use borrow.Author.Needs.{needs}
 use Rattle.eval.proofs.CountedLaws.{compared-so}
 use Rattle.eval.proofs.counted.count_comparison.Statement.{statement}

@@ -1,7 +1,6 @@
 -- `open_bits` meets its contract: a word below 4 is the bits, and any other a kind, of which the word of the code has them. Assumes nothing.
 use mathlib.Core.Path.{refl}
 use native.Mathlib.Omega.{arith}
-use borrow.Author.Needs.{needs}
 use borrow.Author.Tests.{le-ltb}
 use Rattle.eval.specs.Watch.{touched, open-after}
 use Rattle.eval.proofs.CountedLaws.{told-so, told-as}

@@ -1,7 +1,6 @@
 -- `reads_open` meets its contract: the bits of each kind say what it reads. Assumes nothing.
 use mathlib.Core.Path.{refl}
 use native.Mathlib.Omega.{arith}
-use borrow.Author.Needs.{needs}
 use Rattle.eval.specs.Watch.{reads-open}
 use Rattle.eval.proofs.CountedLaws.{reads-as}
 use Rattle.eval.proofs.counted.reads_open.Statement.{statement}

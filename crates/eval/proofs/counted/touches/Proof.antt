@@ -1,7 +1,6 @@
 -- `touches` meets its contract: where the bit of a kind is clear, the watch stays as it is, and behind the first six kinds it is else told by the kind.
 -- Assumes nothing.
 use mathlib.Core.Path.{refl}
-use native.Mathlib.Omega.{arith}
 use borrow.Author.Needs.{needs}
 use Rattle.eval.specs.Watch.{nothing-open, touched, open-after, reads-open, first-mark, watched}
 use Rattle.eval.proofs.CountedLaws.{not-touched, sets-both}
