@@ -29,12 +29,13 @@ stored job that is not refused:
 - plain (`bench/src/plain.rs`): safe Rust that reads the bytes as it goes and checks nothing beforehand. It is the
   yardstick: but for what a request adds it stays as it is, so that the ratios of two landings can be held side by side.
   Request 2026-04 added the count of steps and its limit to each step, so that ratios from before it are of another one;
-  2026-06 the choice between two evaluations to Add64 and AddCarry64, with which it takes 5 to 12 hundredths longer.
+  2026-06 the choice between two evaluations to Add64 and AddCarry64, with which it takes 5 to 12 hundredths longer;
+  2026-07 the watch, behind each instruction and comparison (`bench/src/watch.rs`).
 - decoded (`bench/src/decoded.rs`): safe Rust that first decodes the code into an array, with operands as values and
   structures as indexes, and runs from that. It checks nothing beforehand either.
 
-A step is one instruction or comparison. All three count the steps that they make and hold them to a limit, which is
-2^64 - 1 here; the steps of a kernel are those that they count. Each time is the least processor time of several runs,
+A step is one instruction or comparison. All three watch over the flags that the fill word sets, count the steps that they
+make and hold them to a limit, which is 2^64 - 1 here; the steps of a kernel are those that they count. Each time is the least processor time of several runs,
 with the checking or decoding in it. Numbers are the machine's, and its pace may change from one row to the next where
 others use it too: read along a row, the ratios.
 """
