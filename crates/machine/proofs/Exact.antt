@@ -2,14 +2,14 @@
 -- `exact` is a `subℕ`, and whether that is a word is a comparison of natural numbers.
 use Prim.Native.Nat.{ℕ, suc, _+_, _*_, _-_, _^_, _≤_, _<_}
 use mathlib.Core.Path.{_≡_, refl, sym, _∙_, ap, ap₂, subst, subst⁻¹}
-use mathlib.Core.Bool.{Bool, true, false}
+use mathlib.Core.Bool.{Bool, true, false, _||_, false≢true}
 use mathlib.Core.Option.{Option, none, some}
 use native.Mathlib.Nat.{mul-le-mul}
 use native.Mathlib.Omega.{arith}
-use borrow.Author.Tests.{ltb-true, ltb-false, lt-ltb, le-ltb, lt-leb, le-leb}
-use lib.Dec.{ltb}
+use borrow.Author.Tests.{ltb-true, ltb-false, lt-ltb, le-ltb, lt-leb, le-leb, ne-eqb}
+use lib.Dec.{T, eqb, ltb}
 use lib.IntN.{ℤ, pos, negsuc, subℕ, natAbs, _+ℤ_}
-use lib.Signed.{ltZ, mag}
+use lib.Signed.{ltZ, nonNeg}
 use mir.Syntax.{Width, w16, w64}
 use mir.Val.{SFits, toZ, ofZ}
 use mir.ValLaws.{toZ-ofZ}
@@ -20,7 +20,7 @@ use Rattle.words.proofs.BitLaws.{bit-lt}
 use Rattle.words.proofs.Differences.{sub-eq, pos-sub, neg-sub, sub-plus, sub-minus}
 use Rattle.words.proofs.SumLaws.{sub-mod-lt, subtracted-number}
 use Rattle.machine.specs.Registers.{reg-at}
-use Rattle.machine.specs.Operands.{in-range, wild, exact, eval-maddr}
+use Rattle.machine.specs.Operands.{in-range, wild, exact, is-scale, eval-maddr}
 use Rattle.machine.specs.declared.reg.Reg.{Reg}
 use Rattle.machine.specs.declared.Maddr.{Maddr}
 use Rattle.machine.specs.declared.Maddr.the-variants.{MConst, MReg, MIndex}
@@ -40,26 +40,18 @@ above : (n m : ℕ) → m + 2 ^ 64 ≤ n → in-range (subℕ n m) ≡ none
 unfolding in-range wild
 above n m h = rw (le-ltb n m (omega arith), le-leb (2 ^ 64) (n - m) (omega arith))
 
--- ---- the four signs of scale and offset, by the tests that the code makes
-pub plus-plus : (base index : ℕ) (s o : ℤ) → ltZ s (pos 0) ≡ false → ltZ o (pos 0) ≡ false → exact base s index o ≡ subℕ (natAbs s * index + base + natAbs o) 0
+-- ---- both signs of the offset, by the test that the code makes
+pub plus-plus : (base index : ℕ) (s o : ℤ) → is-scale s ≡ true → ltZ o (pos 0) ≡ false → exact base s index o ≡ subℕ (natAbs s * index + base + natAbs o) 0
+unfolding is-scale
 plus-plus base index (pos s) (pos o) p q = ap pos (omega arith) ∙ pos-sub (s * index + base + o)
 plus-plus base index (pos s) (negsuc o) p q = cc
 plus-plus base index (negsuc s) o p q = cc
 
-pub plus-minus : (base index : ℕ) (s o : ℤ) → ltZ s (pos 0) ≡ false → ltZ o (pos 0) ≡ true → exact base s index o ≡ subℕ (natAbs s * index + base) (natAbs o)
+pub plus-minus : (base index : ℕ) (s o : ℤ) → is-scale s ≡ true → ltZ o (pos 0) ≡ true → exact base s index o ≡ subℕ (natAbs s * index + base) (natAbs o)
+unfolding is-scale
 plus-minus base index (pos s) (pos o) p q = absurd (omega (arith, ltb-true o 0 q))
 plus-minus base index (pos s) (negsuc o) p q = sub-eq (base + s * index) (suc o) (s * index + base) (suc o) (omega arith)
 plus-minus base index (negsuc s) o p q = cc
-
-pub minus-plus : (base index : ℕ) (s o : ℤ) → ltZ s (pos 0) ≡ true → ltZ o (pos 0) ≡ false → exact base s index o ≡ subℕ (base + natAbs o) (natAbs s * index)
-minus-plus base index (pos s) o p q = absurd (omega (arith, ltb-true s 0 p))
-minus-plus base index (negsuc s) (pos o) p q = ap (λ (z : ℤ). z +ℤ pos o) (neg-sub base (suc s * index)) ∙ sub-plus base (suc s * index) o
-minus-plus base index (negsuc s) (negsuc o) p q = cc
-
-pub minus-minus : (base index : ℕ) (s o : ℤ) → ltZ s (pos 0) ≡ true → ltZ o (pos 0) ≡ true → exact base s index o ≡ subℕ base (natAbs s * index + natAbs o)
-minus-minus base index (pos s) o p q = absurd (omega (arith, ltb-true s 0 p))
-minus-minus base index (negsuc s) (pos o) p q = absurd (omega (arith, ltb-true o 0 q))
-minus-minus base index (negsuc s) (negsuc o) p q = ap (λ (z : ℤ). z +ℤ negsuc o) (neg-sub base (suc s * index)) ∙ sub-minus base (suc s * index) o
 
 pub base-plus : (base : ℕ) (o : ℤ) → ltZ o (pos 0) ≡ false → pos base +ℤ o ≡ subℕ (base + natAbs o) 0
 base-plus base (pos o) p = pos-sub (base + o)
@@ -69,38 +61,39 @@ pub base-minus : (base : ℕ) (o : ℤ) → ltZ o (pos 0) ≡ true → pos base 
 base-minus base (pos o) p = absurd (omega (arith, ltb-true o 0 p))
 base-minus base (negsuc o) p = refl
 
--- a test of a sign, on a value that the machine reads back from its bits
+-- a comparison with a bound, of a value that the machine reads back from its bits; with 0, its sign
+pub under-bound : (w : Width) (bound z : ℤ) → SFits w z → (b : Bool) → ltZ (toZ w (ofZ w z)) bound ≡ b → ltZ z bound ≡ b
+under-bound w bound z f b = subst (λ (y : ℤ). ltZ y bound ≡ b) (toZ-ofZ w z f)
+
 pub sign : (w : Width) (z : ℤ) → SFits w z → (b : Bool) → ltZ (toZ w (ofZ w z)) (pos 0) ≡ b → ltZ z (pos 0) ≡ b
-sign w z f b = subst (λ (y : ℤ). ltZ y (pos 0) ≡ b) (toZ-ofZ w z f)
+sign w z f b = under-bound w (pos 0) z f b
 
 -- and its magnitude
 pub size-of : (w : Width) (z : ℤ) → SFits w z → (n : ℕ) → n ≡ natAbs (toZ w (ofZ w z)) → n ≡ natAbs z
 size-of w z f n e = e ∙ ap natAbs (toZ-ofZ w z f)
 
--- a scale, read as a wider number
-pub widened : (z : ℤ) → SFits w16 z → SFits w64 (toZ w16 (ofZ w16 z))
-widened z f = subst⁻¹ (SFits w64) (toZ-ofZ w16 z f) (record { sfits = go (mag z) (f .sfits) })
+-- a scale is a small number
+pub scale-small : (z : ℤ) → is-scale z ≡ true → T (nonNeg z) × (natAbs z ≤ 8)
+unfolding is-scale
+scale-small (pos n) h = (tt, among n h)
   where
-    go : (n : ℕ) → n < 2 ^ 15 → n < 2 ^ 63
-    go n h = omega arith
+    among : (n : ℕ) → (eqb n 1 || (eqb n 2 || (eqb n 4 || eqb n 8))) ≡ true → n ≤ 8
+    among n h = go (ltb 8 n) refl
+      where
+        go : (t : Bool) → ltb 8 n ≡ t → n ≤ 8
+        go false p = ltb-false 8 n p
+        go true p =
+            let l = ltb-true 8 n p in
+            absurd (false≢true (rw (ne-eqb n 1 (omega arith), ne-eqb n 2 (omega arith), ne-eqb n 4 (omega arith), ne-eqb n 8 (omega arith)) at h))
+scale-small (negsuc n) h = absurd (false≢true h)
 
-pub scale-of : (z : ℤ) → SFits w16 z → (n : ℕ) → n ≡ natAbs (toZ w64 (ofZ w64 (toZ w16 (ofZ w16 z)))) → n ≡ natAbs z
-scale-of z f n e = size-of w16 z f n (size-of w64 (toZ w16 (ofZ w16 z)) (widened z f) n e)
-
-scale-small : (z : ℤ) → SFits w16 z → natAbs z ≤ 2 ^ 15
-scale-small (pos n) f = omega (arith, f .sfits)
-scale-small (negsuc n) f = omega (arith, f .sfits)
-
-pub factor-small : (z : ℤ) → SFits w16 z → (n : ℕ) → n ≡ natAbs z → n ≤ 2 ^ 15
-factor-small z f n e = omega (arith, scale-small z f)
-
-pub product-small : (n f i : ℕ) → n ≡ f * i → f ≤ 2 ^ 15 → i < 2 ^ 64 → n < 2 ^ 79
-product-small n f i e h k =
+pub product-small : (n s i : ℕ) → n ≡ s * i → s ≤ 8 → i < 2 ^ 64 → n < 2 ^ 67
+product-small n s i e h k =
     let m : i ≤ 2 ^ 64 - 1 = omega arith in
-    let l : f * i ≤ 2 ^ 15 * (2 ^ 64 - 1) = mul-le-mul h m in
+    let l : s * i ≤ 8 * (2 ^ 64 - 1) = mul-le-mul h m in
     omega arith
 
-pub sum-small : (s n b : ℕ) → s ≡ n + b → n < 2 ^ 79 → b < 2 ^ 64 → s < 2 ^ 80
+pub sum-small : (s n b : ℕ) → s ≡ n + b → n < 2 ^ 67 → b < 2 ^ 64 → s < 2 ^ 80
 sum-small s n b e h k = omega arith
 
 -- ---- numbers of two words

@@ -1,6 +1,7 @@
 -- Operands and exact addresses.
 use Prim.Native.Nat.{ℕ, _^_, _<_}
-use mathlib.Core.Bool.{Bool, true, false, not, cond}
+use mathlib.Core.Path.{_≡_}
+use mathlib.Core.Bool.{Bool, true, false, not, _||_, cond}
 use mathlib.Core.List.{List, [], _∷_}
 use mathlib.Core.Option.{Option, none, some}
 use lib.Dec.{eqb, leb}
@@ -17,11 +18,16 @@ use Rattle.machine.specs.declared.Address.the-variants.{Inside, Outside}
 abbrev pub exact : ℕ → ℤ → ℕ → ℤ → ℤ
 exact base scale index offset = pos base +ℤ scale *ℤ pos index +ℤ offset
 
--- the registers of a memory operand are numbered below 16
-abbrev pub NamesRegisters : Maddr → Type 0
-NamesRegisters (MConst n) = Unit {0}
-NamesRegisters (MReg r offset) = r .number < 16
-NamesRegisters (MIndex base scale index offset) = (base .number < 16) × (index .number < 16)
+-- the scales that machine code has: 1, 2, 4 and 8
+unfoldable pub is-scale : ℤ → Bool
+is-scale (pos n) = eqb n 1 || (eqb n 2 || (eqb n 4 || eqb n 8))
+is-scale (negsuc n) = false
+
+-- a memory operand that machine code has: its registers are numbered below 16, and its scale is one of the four
+abbrev pub Encodable : Maddr → Type 0
+Encodable (MConst n) = Unit {0}
+Encodable (MReg r offset) = r .number < 16
+Encodable (MIndex base scale index offset) = (base .number < 16) × (is-scale scale ≡ true) × (index .number < 16)
 
 -- the exact address of a memory operand
 unfoldable pub eval-maddr : Maddr → List ℕ → ℤ

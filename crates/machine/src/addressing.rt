@@ -8,8 +8,19 @@ use crate::wide::of_word;
 use crate::wide::plus;
 use crate::wide::times;
 ghost use mathlib.Core.Path.{_≡_};
+ghost use mathlib.Core.Bool.{true};
 ghost use lib.IntN.{pos, natAbs, _+ℤ_};
-ghost use Rattle.machine.specs.Operands.{word-of, in-range, exact, eval-maddr, NamesRegisters};
+ghost use Rattle.machine.specs.Operands.{word-of, in-range, exact, is-scale, eval-maddr, Encodable};
+
+// Whether a scale is one that machine code has.
+pub fn is_scale(scale: i16) -> bool
+    ensures { λ r. ⌜ r ≡ is-scale scale ⌝ }
+{
+    match scale {
+        1 | 2 | 4 | 8 => true,
+        _ => false,
+    }
+}
 
 // The number without its sign.
 pub fn magnitude(x: i64) -> u64
@@ -36,29 +47,21 @@ pub fn register_address(base: u64, offset: i64) -> Address
 
 // The address of an MIndex.
 pub fn exact_address(base: u64, scale: i16, index: u64, offset: i64) -> Address
+    requires { ⌜ is-scale scale ≡ true ⌝ }
     ensures { λ r. ⌜ word-of r ≡ in-range (exact base scale index offset) ⌝ }
 {
-    let product = times(magnitude(scale as i64), index);
+    let sum = plus(times(scale as u64, index), base);
     let size = magnitude(offset);
-    if scale < 0 {
-        if offset < 0 {
-            difference(of_word(base), plus(product, size))
-        } else {
-            difference(plus(of_word(base), size), product)
-        }
+    if offset < 0 {
+        difference(sum, of_word(size))
     } else {
-        let sum = plus(product, base);
-        if offset < 0 {
-            difference(sum, of_word(size))
-        } else {
-            difference(plus(sum, size), of_word(0))
-        }
+        difference(plus(sum, size), of_word(0))
     }
 }
 
-// The address of a memory operand whose registers are numbered as registers.
+// The address of a memory operand that machine code has.
 pub fn operand_address(m: Maddr, regs: &[u64; 16]) -> Address
-    requires { ⌜ NamesRegisters m ⌝ }
+    requires { ⌜ Encodable m ⌝ }
     ensures { λ r. ⌜ word-of r ≡ in-range (eval-maddr m (now (regs .entry))) ⌝ }
 {
     match m {

@@ -7,6 +7,7 @@ mod wide;
 mod xmm;
 
 pub use addressing::exact_address;
+pub use addressing::is_scale;
 pub use addressing::magnitude;
 pub use addressing::operand_address;
 pub use addressing::register_address;

@@ -34,15 +34,15 @@ pub fn plus(w: Wide, x: u64) -> Wide
     }
 }
 
-// One multiplication serves every index below 2^49, since a factor is at most 2^15.
-pub fn times(factor: u64, index: u64) -> Wide
-    requires { ⌜ factor ≤ 2 ^ 15 ⌝ }
-    ensures { λ r. ⌜ number r ≡ factor * index ⌝ }
+// One multiplication serves every index below 2^61, since a scale is at most 8.
+pub fn times(scale: u64, index: u64) -> Wide
+    requires { ⌜ scale ≤ 8 ⌝ }
+    ensures { λ r. ⌜ number r ≡ scale * index ⌝ }
 {
-    if index < 562949953421312 {
-        return of_word(factor * index);
+    if index < 2305843009213693952 {
+        return of_word(scale * index);
     }
-    let product = mul_wide(factor, index);
+    let product = mul_wide(scale, index);
     Wide {
         high: product.high,
         low: product.low,

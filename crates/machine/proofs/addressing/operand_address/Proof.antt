@@ -1,8 +1,12 @@
 -- `machine::addressing::operand_address` meets its contract, operand by operand.
-use mathlib.Core.Path.{subst}
+use mathlib.Core.Path.{_≡_, subst, subst⁻¹}
+use mathlib.Core.Bool.{true}
 use mathlib.Core.Option.{none}
+use lib.IntN.{ℤ}
+use mir.Syntax.{w16}
+use mir.ValLaws.{toZ-ofZ}
 use denote.Ref.{now}
-use Rattle.machine.specs.Operands.{NamesRegisters}
+use Rattle.machine.specs.Operands.{is-scale, Encodable}
 use Rattle.machine.proofs.Exact.{at-const, at-register, at-index}
 use borrow.Author.Needs.{needs}
 use Rattle.machine.proofs.addressing.operand_address.Statement.{statement}
@@ -21,7 +25,7 @@ mul-register-address : tie.Need-mul-register-address
 mul-register-address c = search needs
 
 element-copy-out-register-address : tie.Need-element-copy-out-register-address
-element-copy-out-register-address c = subst NamesRegisters (c .before .before .m2 .given .1) (c .before .before .before .before .pre)
+element-copy-out-register-address c = subst Encodable (c .before .before .m2 .given .1) (c .before .before .before .before .pre)
 
 register-address-requires : tie.Need-register-address-requires
 register-address-requires c κs = search needs
@@ -41,7 +45,7 @@ mul-exact-address c = search needs
 element-copy-out-exact-address : tie.Need-element-copy-out-exact-address
 element-copy-out-exact-address c =
     let k = c .before .before .before in
-    subst NamesRegisters (k .m3 .given .1) (k .before .before .pre) .0
+    subst Encodable (k .m3 .given .1) (k .before .before .pre) .0
 
 mul-exact-address-2 : tie.Need-mul-exact-address-2
 mul-exact-address-2 c = search needs
@@ -49,10 +53,13 @@ mul-exact-address-2 c = search needs
 element-copy-out-exact-address-2 : tie.Need-element-copy-out-exact-address-2
 element-copy-out-exact-address-2 c =
     let k = c .before .before .before .before in
-    subst NamesRegisters (k .m3 .given .1) (k .before .before .pre) .1
+    subst Encodable (k .m3 .given .1) (k .before .before .pre) .2
 
 exact-address-requires : tie.Need-exact-address-requires
-exact-address-requires c κs = search needs
+exact-address-requires c κs =
+    let k = c .before .before .before .before .before in
+    subst⁻¹ (λ (z : ℤ). is-scale z ≡ true) (toZ-ofZ w16 _ (record { sfits = c .before .before .before .before .known-told3 .given .1 .0 .1 }))
+    (subst Encodable (k .m3 .given .1) (k .before .before .pre) .1)
 
 returns : tie.Need-returns
 returns c =
