@@ -21,7 +21,7 @@ use Rattle.machine.specs.Cells.{Verdict, accepted, refused, is-tag, cell-rule, 
 use Rattle.machine.specs.declared.Operand.the-variants.{OConst, OReg}
 use Rattle.code.specs.declared.tree.Instruction.the-variants.{Add64}
 use Rattle.code.specs.Tree.{Ins}
-use Rattle.code.specs.Records.{body-length, operand-count, register-fields, number-at, signed-at, operand-at, behind, operands-at, ins-at, ocmp-at}
+use Rattle.code.specs.Records.{body-length, operand-count, judged-fields, number-at, signed-at, operand-at, behind, operands-at, ins-at, ocmp-at}
 use Rattle.code.specs.Reader.{got, followed, with-fields, read-record, read-operands, read-with, read-ocmp, read-part, read-codes, read-block, read-if, read-while, read-structure, read-body, read-code, parse, verdict-of, check-code}
 use Rattle.eval.specs.declared.answer.Evaluation.the-variants.{Base, Board}
 use Rattle.eval.specs.FlagRule.{base-flags, board-flags, flag-rule}
@@ -241,7 +241,7 @@ unfolding run-of run-read run-checked run-code rounds decide run-ocmp continue u
     tzcnt zeros-first to-vec from-vec map2 xor ixor ishl nat-to-four two-select two-to-nat four-select four-insert
     followed with-fields read-record read-operands read-with read-ocmp read-part read-codes
     read-block read-if read-while read-structure read-body read-code parse verdict-of check-code
-    body-length operand-count register-fields number-at spelled signed-at operand-at behind operands-at ins-at ocmp-at
+    body-length operand-count judged-fields number-at spelled signed-at operand-at behind operands-at ins-at ocmp-at
     is-tag cell-rule check-from check-cells
 ran k = run-of (k .code) (k .env) (k .fuel) (some (k .limit)) (k .start)
 

@@ -12,13 +12,14 @@ use lib.ListN.{length, getD}
 use lib.Pow.{pow-pos}
 use Rattle.words.specs.Signed.{signed-word, leaves}
 use Rattle.words.proofs.SignedLaws.{is-outside, word-within}
+use Rattle.machine.specs.Operands.{is-scale}
 use Rattle.machine.specs.declared.Operand.{Operand}
 use Rattle.code.specs.Layout.{Byte, number, amount, numbers-from, shape}
 use Rattle.code.specs.Tree.{Code, Ins, Block, IfElse, While, Codes, ⟨⟩, _∷ᶜ_}
-use Rattle.code.specs.Records.{is-ins, is-ocmp, is-operand, body-length, operand-count, register-fields, byte-at, number-at, signed-at, operand-at, behind, bytes-at, operands-at, ins-at, ocmp-at}
+use Rattle.code.specs.Records.{is-ins, is-ocmp, is-operand, body-length, operand-count, judged-fields, byte-at, number-at, signed-at, operand-at, behind, bytes-at, operands-at, ins-at, ocmp-at}
 use Rattle.code.specs.Reader.{got, parse}
 use Rattle.code.specs.Spells.{Fields, IsRecord, Operands, Stands, Spells, SpellsAll}
-use Rattle.code.specs.WellFormed.{Bytes, Signed, WfOperand, WfIns, WfOcmp, WfCode, WfCodes}
+use Rattle.code.specs.WellFormed.{Bytes, Signed, WfScale, WfOperand, WfIns, WfOcmp, WfCode, WfCodes}
 use Rattle.code.proofs.Passing.{never, between-true}
 use Rattle.code.proofs.NumberLaws.{number-lt}
 use Rattle.code.proofs.KindLaws.{each, _▹_}
@@ -51,29 +52,28 @@ module _ (bs : List ℕ) (bytes : Bytes bs) where
   pub word-lt : (at : ℕ) → number-at 8 bs at < 2 ^ 64
   word-lt at = number-lt bs bytes 8 at
 
-  pub signed2 : (at : ℕ) → Signed 16 (signed-at 2 bs at)
-  unfolding signed-at
-  signed2 at = signed-of 16 (number-at 2 bs at) refl (number-lt bs bytes 2 at)
-
   pub signed8 : (at : ℕ) → Signed 64 (signed-at 8 bs at)
   unfolding signed-at
   signed8 at = signed-of 64 (number-at 8 bs at) refl (number-lt bs bytes 8 at)
 
   -- an operand, by its kind
   operand-forms-wf :
-      (at k : ℕ) → 0x40 ≤ k → k < 0x45 → byte-at bs at ≡ k → Fields (register-fields k) bs at → WfOperand (operand-at bs at)
-  unfolding operand-at register-fields
+      (at k : ℕ) → 0x40 ≤ k → k < 0x45 → byte-at bs at ≡ k → Fields (judged-fields k) bs at → WfOperand (operand-at bs at)
+  unfolding operand-at judged-fields
   operand-forms-wf at =
-      each (λ k. byte-at bs at ≡ k → Fields (register-fields k) bs at → WfOperand (operand-at bs at)) 5 0x40
+      each (λ k. byte-at bs at ≡ k → Fields (judged-fields k) bs at → WfOperand (operand-at bs at)) 5 0x40
       ((λ h f. rw h (word-lt (at + 1)))
       ▹ (λ h f. rw h (omega (arith, f .0)))
       ▹ (λ h f. rw h (word-lt (at + 1)))
       ▹ (λ h f. rw h (omega (arith, f .0), signed8 (at + 1 + 1)))
-      ▹ (λ h f. rw h (omega (arith, f .0), signed2 (at + 1 + 1), omega (arith, f .1, fourth at), signed8 (at + 1 + 4)))
+      ▹ (λ h f. rw h (omega (arith, f .0), scaled at (f .1 .0), omega (arith, f .1 .1, fourth at), signed8 (at + 1 + 4)))
       ▹ tt)
     where
       fourth : (at : ℕ) → byte-at bs (at + 1 + 3) ≡ byte-at bs (at + 4)
       fourth at = ap (byte-at bs) (omega arith)
+
+      scaled : (at : ℕ) → WfScale (signed-at 2 bs (at + 2)) → WfScale (signed-at 2 bs (at + 1 + 1))
+      scaled at h = ap (λ (p : ℕ). is-scale (signed-at 2 bs p)) (omega arith) ∙ h
 
   pub operand-wf : (at e : ℕ) → IsRecord is-operand bs at e → WfOperand (operand-at bs at)
   operand-wf at e s =

@@ -8,7 +8,7 @@ use borrow.Author.Tests.{eq-eqb, ne-eqb, le-ltb, lt-leb}
 use lib.ListN.{length}
 use Rattle.code.specs.declared.tree.Ocmp.{Ocmp}
 use Rattle.code.specs.Tree.{Code, Ins, Block, IfElse, While, Codes, ⟨⟩, _∷ᶜ_}
-use Rattle.code.specs.Records.{is-ins, is-code, is-ocmp, is-operand, body-length, operand-count, register-fields, byte-at, number-at, behind, ins-at, ocmp-at}
+use Rattle.code.specs.Records.{is-ins, is-code, is-ocmp, is-operand, body-length, operand-count, judged-fields, byte-at, number-at, behind, ins-at, ocmp-at}
 use Rattle.code.specs.Reader.{Read, got, followed, with-kind, read-record, read-operands, read-with, read-ocmp, One, read-part, read-codes, read-block, read-if, read-while, read-structure, read-body, read-code, parse}
 use Rattle.code.specs.Spells.{IsRecord, Operands, Stands, IsBlock, IsOcmp, IsIfElse, IsWhile, Spells, SpellsAll, Nests, NestsAll, Parsed}
 use Rattle.code.proofs.Passing.{fields-pass}
@@ -39,7 +39,7 @@ record-complete :
 unfolding read-record
 record-complete allowed bs e at s =
     kind-pass allowed bs e at _ (omega (arith, behind-past bs at, s .inside)) (s .kind)
-    ∙ rw (le-ltb e (behind bs at) (s .inside)) (fields-pass (register-fields (byte-at bs at)) bs at (got tt (behind bs at)) (s .fields))
+    ∙ rw (le-ltb e (behind bs at) (s .inside)) (fields-pass (judged-fields (byte-at bs at)) bs at (got tt (behind bs at)) (s .fields))
 
 wider :
     (allowed : ℕ → Bool) (bs : List ℕ) (at m e : ℕ) → m ≤ e → IsRecord allowed bs at m → IsRecord allowed bs at e

@@ -12,12 +12,12 @@ use lib.ListN.{length}
 use Rattle.machine.specs.declared.Operand.{Operand}
 use Rattle.code.specs.declared.tree.Instruction.{Instruction}
 use Rattle.code.specs.declared.tree.Instruction.the-variants.{AddLea64, Mul64, Mulx64, Paddd, Pxor, Pslld, Psrld, Pshufd, Pcmpeqd, Pextrq, Pinsrd, Pinsrq, VPSLLDQ}
-use Rattle.code.specs.Layout.{last-ins, ins-of}
-use Rattle.code.specs.Records.{between, is-ins, body-length, operand-count, register-fields, byte-at, operand-at, behind, bytes-at, operands-at, ins-at}
+use Rattle.code.specs.Layout.{Field, register, last-ins, ins-of}
+use Rattle.code.specs.Records.{between, is-ins, body-length, operand-count, judged-fields, byte-at, operand-at, behind, bytes-at, operands-at, ins-at}
 use Rattle.code.specs.Spells.{Fields, Operands, OperandsFrom, Stands}
 use Rattle.code.specs.Families.{among, twos, is-two, two-ins, quads, is-quads, quads-ins, shifts, is-shifts, shifts-ins, inserts, is-inserts, inserts-ins}
 use Rattle.code.proofs.Passing.{and-both, or-right, between-true, never}
-use Rattle.code.proofs.KindLaws.{within, _▹_, same}
+use Rattle.code.proofs.KindLaws.{within, _▹_, same, same-field}
 use Rattle.code.proofs.Layouts.{Shape, shaped, shape-of}
 use Rattle.code.proofs.Frames.{inside}
 
@@ -123,7 +123,7 @@ by-inserts-ins P dst src index p q k h = by-among (λ (k : ℕ). P k (inserts-in
 
 -- ---- the shape of the kinds of a family
 shape-among :
-    (ns : List ℕ) (size count : ℕ) (fields : List ℕ) → passes (shaped size count fields) ns ≡ true →
+    (ns : List ℕ) (size count : ℕ) (fields : List Field) → passes (shaped size count fields) ns ≡ true →
     (k : ℕ) → among ns k ≡ true → Shape k size count fields
 shape-among ns size count fields h k m = shape-of k size count fields (among-passes (shaped size count fields) ns h k m)
 
@@ -162,7 +162,7 @@ module _ (bs : List ℕ) (at e : ℕ) (st : Stands is-ins bs at e) (l : e ≤ le
   three = operand-at bs (behind bs (behind bs (at + 1)))
 
   -- an instruction of a kind of some shape, its operands from a place on
-  module _ (k size count : ℕ) (fields : List ℕ) (shape : Shape k size count fields) (q : byte-at bs at ≡ k)
+  module _ (k size count : ℕ) (fields : List Field) (shape : Shape k size count fields) (q : byte-at bs at ≡ k)
       (from : ℕ) (place : at + 1 + size ≡ from) where
     behind-is : behind bs at ≡ from
     unfolding behind
@@ -188,22 +188,28 @@ module _ (bs : List ℕ) (at e : ℕ) (st : Stands is-ins bs at e) (l : e ≤ le
   behind-kind = omega arith
 
   pub two-stood : (k : ℕ) → is-two k ≡ true → byte-at bs at ≡ k → Stood bs at (two-ins k one two) 2 (at + 1)
-  unfolding two-ins operands-at shaped same body-length operand-count register-fields
+  unfolding two-ins operands-at shaped same same-field body-length operand-count judged-fields
   two-stood k w q = stood k 0 2 [] (shape-among twos 0 2 [] refl k w) q (at + 1) behind-kind
 
   pub lea-stood : byte-at bs at ≡ 0x03 → Stood bs at (AddLea64 one two three) 3 (at + 1)
-  unfolding operands-at shaped same body-length operand-count register-fields
+  unfolding operands-at shaped same same-field body-length operand-count judged-fields
   lea-stood q = stood 0x03 0 3 [] (shape-of 0x03 0 3 [] refl) q (at + 1) behind-kind
 
   pub mul-stood : byte-at bs at ≡ 0x08 → Stood bs at (Mul64 one) 1 (at + 1)
-  unfolding operands-at shaped same body-length operand-count register-fields
+  unfolding operands-at shaped same same-field body-length operand-count judged-fields
   mul-stood q = stood 0x08 0 1 [] (shape-of 0x08 0 1 [] refl) q (at + 1) behind-kind
 
   pub mulx-stood : byte-at bs at ≡ 0x09 → Stood bs at (Mulx64 one two three) 3 (at + 1)
-  unfolding operands-at shaped same body-length operand-count register-fields
+  unfolding operands-at shaped same same-field body-length operand-count judged-fields
   mulx-stood q = stood 0x09 0 3 [] (shape-of 0x09 0 3 [] refl) q (at + 1) behind-kind
 
   -- ---- a body of bytes: the first is an xmm number, and in some the second
+  abbrev one-field : List Field
+  one-field = register 1 ∷ []
+
+  abbrev two-fields : List Field
+  two-fields = register 1 ∷ register 2 ∷ []
+
   abbrev byte : ℕ → ℕ
   byte i = byte-at bs (at + i)
 
@@ -225,56 +231,56 @@ module _ (bs : List ℕ) (at e : ℕ) (st : Stands is-ins bs at e) (l : e ≤ le
 
   module _ (k count : ℕ) (q : byte-at bs at ≡ k) where
     one-xmm :
-        Shape k 2 count (1 ∷ []) → OneXmm (ins-of k (byte 1 ∷ byte 2 ∷ []) (operands-at count bs (at + 3))) count (at + 3)
+        Shape k 2 count one-field → OneXmm (ins-of k (byte 1 ∷ byte 2 ∷ []) (operands-at count bs (at + 3))) count (at + 3)
     one-xmm shape =
         let place : at + 1 + 2 ≡ at + 3 = omega arith in
-        let fits = registers-fit k 2 count (1 ∷ []) shape q (at + 3) place in
-        record { stood = rw second at (stood k 2 count (1 ∷ []) shape q (at + 3) place); xmm = omega (arith, fits .0) }
+        let fits = registers-fit k 2 count one-field shape q (at + 3) place in
+        record { stood = rw second at (stood k 2 count one-field shape q (at + 3) place); xmm = omega (arith, fits .0) }
 
     two-xmms :
-        Shape k 2 count (1 ∷ 2 ∷ []) → TwoXmms (ins-of k (byte 1 ∷ byte 2 ∷ []) (operands-at count bs (at + 3))) count (at + 3)
+        Shape k 2 count two-fields → TwoXmms (ins-of k (byte 1 ∷ byte 2 ∷ []) (operands-at count bs (at + 3))) count (at + 3)
     two-xmms shape =
         let place : at + 1 + 2 ≡ at + 3 = omega arith in
-        let fits = registers-fit k 2 count (1 ∷ 2 ∷ []) shape q (at + 3) place in
+        let fits = registers-fit k 2 count two-fields shape q (at + 3) place in
         record {
-          stood = rw second at (stood k 2 count (1 ∷ 2 ∷ []) shape q (at + 3) place);
+          stood = rw second at (stood k 2 count two-fields shape q (at + 3) place);
           xmm = omega (arith, fits .0);
           other = omega (arith, fits .1 .0);
         }
 
     two-and-imm8 :
-        Shape k 3 count (1 ∷ 2 ∷ []) → TwoXmms (ins-of k (byte 1 ∷ byte 2 ∷ byte 3 ∷ []) (operands-at count bs (at + 4))) count (at + 4)
+        Shape k 3 count two-fields → TwoXmms (ins-of k (byte 1 ∷ byte 2 ∷ byte 3 ∷ []) (operands-at count bs (at + 4))) count (at + 4)
     two-and-imm8 shape =
         let place : at + 1 + 3 ≡ at + 4 = omega arith in
-        let fits = registers-fit k 3 count (1 ∷ 2 ∷ []) shape q (at + 4) place in
+        let fits = registers-fit k 3 count two-fields shape q (at + 4) place in
         record {
-          stood = rw (second, third) at (stood k 3 count (1 ∷ 2 ∷ []) shape q (at + 4) place);
+          stood = rw (second, third) at (stood k 3 count two-fields shape q (at + 4) place);
           xmm = omega (arith, fits .0);
           other = omega (arith, fits .1 .0);
         }
 
   pub quads-stood :
       (k : ℕ) → is-quads k ≡ true → byte-at bs at ≡ k → TwoXmms (quads-ins k (byte 1) (byte 2)) 0 (at + 3)
-  unfolding quads-ins operands-at shaped same body-length operand-count register-fields
-  quads-stood k h q = two-xmms k 0 q (shape-among quads 2 0 (1 ∷ 2 ∷ []) refl k h)
+  unfolding quads-ins operands-at shaped same same-field body-length operand-count judged-fields
+  quads-stood k h q = two-xmms k 0 q (shape-among quads 2 0 two-fields refl k h)
 
   pub shifts-stood : (k : ℕ) → is-shifts k ≡ true → byte-at bs at ≡ k → OneXmm (shifts-ins k (byte 1) (byte 2)) 0 (at + 3)
-  unfolding shifts-ins operands-at shaped same body-length operand-count register-fields
-  shifts-stood k h q = one-xmm k 0 q (shape-among shifts 2 0 (1 ∷ []) refl k h)
+  unfolding shifts-ins operands-at shaped same same-field body-length operand-count judged-fields
+  shifts-stood k h q = one-xmm k 0 q (shape-among shifts 2 0 one-field refl k h)
 
   pub shuffle-stood : byte-at bs at ≡ 0x13 → TwoXmms (Pshufd (byte 1) (byte 2) (byte 3)) 0 (at + 4)
-  unfolding operands-at shaped same body-length operand-count register-fields
-  shuffle-stood q = two-and-imm8 0x13 0 q (shape-of 0x13 3 0 (1 ∷ 2 ∷ []) refl)
+  unfolding operands-at shaped same same-field body-length operand-count judged-fields
+  shuffle-stood q = two-and-imm8 0x13 0 q (shape-of 0x13 3 0 two-fields refl)
 
   pub word-shift-stood : byte-at bs at ≡ 0x18 → TwoXmms (VPSLLDQ (byte 1) (byte 2) (byte 3)) 0 (at + 4)
-  unfolding operands-at shaped same body-length operand-count register-fields
-  word-shift-stood q = two-and-imm8 0x18 0 q (shape-of 0x18 3 0 (1 ∷ 2 ∷ []) refl)
+  unfolding operands-at shaped same same-field body-length operand-count judged-fields
+  word-shift-stood q = two-and-imm8 0x18 0 q (shape-of 0x18 3 0 two-fields refl)
 
   pub extract-stood : byte-at bs at ≡ 0x15 → OneXmm (Pextrq (operand-at bs (at + 3)) (byte 1) (byte 2)) 1 (at + 3)
-  unfolding operands-at shaped same body-length operand-count register-fields
-  extract-stood q = one-xmm 0x15 1 q (shape-of 0x15 2 1 (1 ∷ []) refl)
+  unfolding operands-at shaped same same-field body-length operand-count judged-fields
+  extract-stood q = one-xmm 0x15 1 q (shape-of 0x15 2 1 one-field refl)
 
   pub inserts-stood :
       (k : ℕ) → is-inserts k ≡ true → byte-at bs at ≡ k → OneXmm (inserts-ins k (byte 1) (operand-at bs (at + 3)) (byte 2)) 1 (at + 3)
-  unfolding inserts-ins operands-at shaped same body-length operand-count register-fields
-  inserts-stood k h q = one-xmm k 1 q (shape-among inserts 2 1 (1 ∷ []) refl k h)
+  unfolding inserts-ins operands-at shaped same same-field body-length operand-count judged-fields
+  inserts-stood k h q = one-xmm k 1 q (shape-among inserts 2 1 one-field refl k h)

@@ -1,12 +1,13 @@
--- What is decoded of an operand says which operand it is, and an operand that stands in the bytes names registers below 16. By the kind of
--- its record. Assumes nothing.
+-- What is decoded of an operand says which operand it is, and an operand that stands in the bytes names registers below 16 and one of the
+-- four scales. By the kind of its record. Assumes nothing.
 use Prim.Native.Nat.{ℕ, _+_, _<_, _≤_}
 use mathlib.Core.Path.{_≡_, refl, ap, subst⁻¹}
+use mathlib.Core.Bool.{true}
 use mathlib.Core.List.{List}
 use native.Mathlib.Omega.{arith}
 use lib.ListN.{length}
 use Rattle.machine.specs.Registers.{reg}
-use Rattle.machine.specs.Operands.{NamesRegisters}
+use Rattle.machine.specs.Operands.{is-scale, Encodable}
 use Rattle.machine.specs.declared.reg.Reg.{Reg}
 use Rattle.machine.specs.declared.Maddr.{Maddr}
 use Rattle.machine.specs.declared.Maddr.the-variants.{MIndex}
@@ -39,11 +40,11 @@ memory-is (OMem m) e = (m, refl)
 pub one-memory : (o : Operand) (m n : Maddr) → o ≡ OMem m → o ≡ OMem n → m ≡ n
 one-memory o m n e f = cc
 
--- ---- the registers that an operand names
+-- ---- the registers and the scale that an operand names
 abbrev Names : Operand → Type 0
 Names (OConst n) = Unit {0}
 Names (OReg r) = r .number < 16
-Names (OMem m) = NamesRegisters m
+Names (OMem m) = Encodable m
 
 module _ (bs : List ℕ) (at : ℕ) (stands : OperandBytes bs at) where
   names : Names (operand-at bs at)
@@ -54,13 +55,13 @@ module _ (bs : List ℕ) (at : ℕ) (stands : OperandBytes bs at) where
       (λ h. subst⁻¹ Names (w .o-reg h .3) (w .o-reg h .2))
       (λ h. subst⁻¹ Names (w .m-const h .2) tt)
       (λ h. subst⁻¹ Names (w .m-reg h .3) (w .m-reg h .2))
-      (λ h. subst⁻¹ Names (w .m-index h .4) (w .m-index h .2, w .m-index h .3))
+      (λ h. subst⁻¹ Names (w .m-index h .5) (w .m-index h .2, w .m-index h .3, w .m-index h .4))
 
   pub register-below : (r : Reg) → operand-at bs at ≡ OReg r → r .number < 16
   register-below r e = rw e at names
 
-  pub names-registers : (m : Maddr) → operand-at bs at ≡ OMem m → NamesRegisters m
-  names-registers m e = rw e at names
+  pub encodable : (m : Maddr) → operand-at bs at ≡ OMem m → Encodable m
+  encodable m e = rw e at names
 
   -- ---- from the kind to the form
   pub else-memory : (byte-at bs at ≡ 0x40 → ⊥) → (byte-at bs at ≡ 0x41 → ⊥) → form-of (operand-at bs at) ≡ Memory
@@ -71,7 +72,7 @@ module _ (bs : List ℕ) (at : ℕ) (stands : OperandBytes bs at) where
       (λ h. absurd (y h))
       (λ h. ap form-of (w .m-const h .2))
       (λ h. ap form-of (w .m-reg h .3))
-      (λ h. ap form-of (w .m-index h .4))
+      (λ h. ap form-of (w .m-index h .5))
 
   module _ (memory : form-of (operand-at bs at) ≡ Memory) where
     no-constant : byte-at bs at ≡ 0x40 → ⊥
@@ -94,6 +95,6 @@ module _ (bs : List ℕ) (at : ℕ) (stands : OperandBytes bs at) where
     -- memory that is neither that nor a register with an offset is indexed
     pub indexed :
         (byte-at bs at ≡ 0x42 → ⊥) → (byte-at bs at ≡ 0x43 → ⊥) →
-        (behind bs at ≡ at + 13) × (at + 13 ≤ length bs) × (byte-at bs (at + 1) < 16) × (byte-at bs (at + 4) < 16)
+        (behind bs at ≡ at + 13) × (at + 13 ≤ length bs) × (byte-at bs (at + 1) < 16) × (is-scale (signed-at 2 bs (at + 2)) ≡ true) × (byte-at bs (at + 4) < 16)
         × (operand-at bs at ≡ OMem (MIndex (reg (byte-at bs (at + 1))) (signed-at 2 bs (at + 2)) (reg (byte-at bs (at + 4))) (signed-at 8 bs (at + 5))))
     indexed x y = let w = operand-frame bs at stands in w .m-index (w .kinds no-constant no-register x y)

@@ -1,14 +1,15 @@
 -- What the bytes of an operand's record say, by its kind byte: where it ends, which registers it names and what it spells. Assumes nothing.
 use Prim.Native.Nat.{ℕ, _+_, _≤_, _<_}
 use mathlib.Core.Path.{_≡_, refl, subst, _∙_}
-use mathlib.Core.Bool.{Bool}
+use mathlib.Core.Bool.{Bool, true}
 use mathlib.Core.List.{List}
 use native.Mathlib.Omega.{arith}
 use lib.ListN.{length}
 use Rattle.machine.specs.Registers.{reg}
+use Rattle.machine.specs.Operands.{is-scale}
 use Rattle.machine.specs.declared.Maddr.the-variants.{MConst, MReg, MIndex}
 use Rattle.machine.specs.declared.Operand.the-variants.{OConst, OReg, OMem}
-use Rattle.code.specs.Records.{is-operand, body-length, register-fields, byte-at, number-at, signed-at, operand-at, behind}
+use Rattle.code.specs.Records.{is-operand, body-length, judged-fields, byte-at, number-at, signed-at, operand-at, behind}
 use Rattle.code.specs.Spells.{Fields, IsRecord, OperandBytes, Operands}
 use Rattle.code.proofs.Passing.{between-true}
 use Rattle.code.proofs.Sound.{behind-past}
@@ -42,7 +43,7 @@ pub record OperandFrame (bs : List ℕ) (at : ℕ) : Type 0 where
       × (operand-at bs at ≡ OMem (MReg (reg (byte-at bs (at + 1))) (signed-at 8 bs (at + 2))))
   pub m-index :
       byte-at bs at ≡ 0x44 →
-      (behind bs at ≡ at + 13) × (at + 13 ≤ length bs) × (byte-at bs (at + 1) < 16) × (byte-at bs (at + 4) < 16)
+      (behind bs at ≡ at + 13) × (at + 13 ≤ length bs) × (byte-at bs (at + 1) < 16) × (is-scale (signed-at 2 bs (at + 2)) ≡ true) × (byte-at bs (at + 4) < 16)
       × (operand-at bs at ≡ OMem (MIndex (reg (byte-at bs (at + 1))) (signed-at 2 bs (at + 2)) (reg (byte-at bs (at + 4))) (signed-at 8 bs (at + 5))))
   -- a constant and a constant address take eight bytes
   pub eight :
@@ -53,11 +54,11 @@ pub record OperandFrame (bs : List ℕ) (at : ℕ) : Type 0 where
       byte-at bs at ≡ 0x44
 
 module _ (bs : List ℕ) (at : ℕ) where
-  fields-of : (k : ℕ) → byte-at bs at ≡ k → Fields (register-fields (byte-at bs at)) bs at → Fields (register-fields k) bs at
-  fields-of k h f = subst (λ (x : ℕ). Fields (register-fields x) bs at) h f
+  fields-of : (k : ℕ) → byte-at bs at ≡ k → Fields (judged-fields (byte-at bs at)) bs at → Fields (judged-fields k) bs at
+  fields-of k h f = subst (λ (x : ℕ). Fields (judged-fields x) bs at) h f
 
   pub operand-frame : OperandBytes bs at → OperandFrame bs at
-  unfolding operand-at body-length register-fields
+  unfolding operand-at body-length judged-fields
   operand-frame s =
       let w = between-true 0x40 0x44 (byte-at bs at) (s .kind) in
       let i = s .inside in
@@ -83,7 +84,7 @@ module _ (bs : List ℕ) (at : ℕ) where
         m-index = λ h.
             let e : behind bs at ≡ at + 13 = behind-structure bs at 0x44 h ∙ omega arith in
             let f = fields-of 0x44 h (s .fields) in
-            (e, omega arith, omega (arith, f .0), omega (arith, f .1 .0), rw (h, a, b, d));
+            (e, omega arith, omega (arith, f .0), f .1 .0, omega (arith, f .1 .1 .0), rw (h, a, b, d));
         eight = λ x y z.
             let e : behind bs at ≡ at + 9 =
             by-kind bs at s (λ h. behind-structure bs at 0x40 h ∙ omega arith) (λ h. absurd (x h))

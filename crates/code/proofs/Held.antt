@@ -9,16 +9,19 @@ use lib.ListN.{length, length-append}
 use lib.Seq.{getD-append-seam}
 use Rattle.words.proofs.SignedLaws.{not-negative, is-negative}
 use Rattle.machine.specs.Bytes.{byte}
+use Rattle.machine.specs.Operands.{is-scale}
+use Rattle.machine.proofs.Exact.{scale-small}
 use Rattle.machine.proofs.SpellLaws.{byte-first, byte-next}
 use Rattle.machine.specs.declared.Maddr.{Maddr}
 use Rattle.machine.specs.declared.Maddr.the-variants.{MConst, MReg, MIndex}
 use Rattle.machine.specs.declared.Operand.{Operand}
 use Rattle.machine.specs.declared.Operand.the-variants.{OConst, OReg, OMem}
 use Rattle.code.specs.Layout.{Byte, number, amount, values, numbers-from}
-use Rattle.code.specs.Records.{is-operand, body-length, register-fields, byte-at, number-at, signed-at, operand-at, behind, bytes-at, operands-at}
+use Rattle.code.specs.Records.{is-operand, body-length, judged-fields, byte-at, number-at, signed-at, operand-at, behind, bytes-at, operands-at}
 use Rattle.code.specs.Spells.{Fields, Operands}
 use Rattle.code.specs.WellFormed.{Signed, WfMaddr, WfOperand}
 use Rattle.code.specs.Writer.{bytes-of, signed-bytes, bytes-of-maddr, bytes-of-operand, bytes-of-operands}
+use Rattle.code.proofs.Passing.{clash}
 use Rattle.code.proofs.NumberLaws.{number-is}
 use Rattle.code.proofs.Layouts.{WfBytes, WfOperands}
 use Rattle.code.proofs.Complete.{behind-structure}
@@ -84,6 +87,12 @@ signed-held n full twice (negsuc k) bs at h l =
     let m : 2 ^ (8 * n - 1) ≤ x = omega arith in
     rw (e, is-negative (8 * n) x m (omega arith)) (ap negsuc (omega arith))
 
+-- a scale takes two bytes
+scale-signed : (z : ℤ) → is-scale z ≡ true → Signed 16 z
+unfolding is-scale
+scale-signed (pos n) h = let w = scale-small (pos n) h in omega (arith, w .1)
+scale-signed (negsuc n) h = clash (cc)
+
 -- operands; a record has at most 13 bytes
 maddr-length-le : (m : Maddr) → length (bytes-of-maddr m) ≤ 13
 unfolding bytes-of-maddr
@@ -99,7 +108,7 @@ operand-length-le (OMem m) = maddr-length-le m
 
 pub record Held (bs : List ℕ) (at : ℕ) (o : Operand) : Type 0 where
   pub kind : is-operand (byte-at bs at) ≡ true
-  pub fields : Fields (register-fields (byte-at bs at)) bs at
+  pub fields : Fields (judged-fields (byte-at bs at)) bs at
   pub ends : behind bs at ≡ at + length (bytes-of-operand o)
   pub says : operand-at bs at ≡ o
 
@@ -112,7 +121,7 @@ module _ (bs : List ℕ) (at : ℕ) where
   one-byte x h = rw next at h
 
   maddr-held : (m : Maddr) → Holds bs at (bytes-of-maddr m) → WfMaddr m → Held bs at (OMem m)
-  unfolding bytes-of-maddr bytes-of-operand operand-at body-length register-fields
+  unfolding bytes-of-maddr bytes-of-operand operand-at body-length judged-fields
   maddr-held (MConst n) h l =
       let e : number-at 8 bs (at + 1) ≡ n = number-held 8 n bs (at + 1) (holds-from bs (suc at) (at + 1) (bytes-of 8 n) (h .1) next) l in
       record {
@@ -135,14 +144,15 @@ module _ (bs : List ℕ) (at : ℕ) where
       let b = one-byte (base .number) (h .1 .0) in
       let w = split bs (suc (suc at)) (signed-bytes 2 s) (index .number ∷ signed-bytes 8 z) (h .1 .1) (at + 1 + 3) (omega (arith, length-signed 2 s)) in
       let d : signed-at 2 bs (at + 1 + 1) ≡ s =
-      signed-held 2 refl refl s bs (at + 1 + 1) (holds-from bs (suc (suc at)) (at + 1 + 1) (signed-bytes 2 s) (w .0) (omega arith)) (l .1) in
+      signed-held 2 refl refl s bs (at + 1 + 1) (holds-from bs (suc (suc at)) (at + 1 + 1) (signed-bytes 2 s) (w .0) (omega arith)) (scale-signed s (l .1)) in
       let i : byte-at bs (at + 1 + 3) ≡ index .number = w .1 .0 in
       let e : signed-at 8 bs (at + 1 + 4) ≡ z =
       signed-held 8 refl refl z bs (at + 1 + 4) (holds-from bs (suc (at + 1 + 3)) (at + 1 + 4) (signed-bytes 8 z) (w .1 .1) (omega arith)) (l .3) in
       let f : byte-at bs (at + 4) ≡ index .number = ap (byte-at bs) (omega arith) ∙ i in
+      let scaled : is-scale (signed-at 2 bs (at + 2)) ≡ true = ap is-scale (ap (signed-at 2 bs) (omega arith) ∙ d) ∙ l .1 in
       record {
         kind = rw (h .0);
-        fields = rw (h .0) (omega (arith, b, l .0), (omega (arith, f, l .2), tt));
+        fields = rw (h .0) (omega (arith, b, l .0), (scaled, (omega (arith, f, l .2), tt)));
         ends =
             behind-structure bs at 0x44 (h .0)
             ∙ omega (arith, length-append (signed-bytes 2 s) (index .number ∷ signed-bytes 8 z), length-signed 2 s, length-signed 8 z);
@@ -150,7 +160,7 @@ module _ (bs : List ℕ) (at : ℕ) where
       }
 
   pub operand-held : (o : Operand) → Holds bs at (bytes-of-operand o) → WfOperand o → Held bs at o
-  unfolding bytes-of-operand operand-at body-length register-fields
+  unfolding bytes-of-operand operand-at body-length judged-fields
   operand-held (OConst n) h l =
       let e : number-at 8 bs (at + 1) ≡ n = number-held 8 n bs (at + 1) (holds-from bs (suc at) (at + 1) (bytes-of 8 n) (h .1) next) l in
       record {

@@ -1,7 +1,7 @@
 -- The kinds: each law holds at every byte, by the ranges of the definition or by one test that antt computes.
 -- Assumes nothing.
 use Prim.Native.Nat.{ℕ, zero, suc, _+_, _*_, _/_, _%_, _≤_, _<_}
-use mathlib.Core.Path.{_≡_, refl, subst}
+use mathlib.Core.Path.{_≡_, refl, ap, subst}
 use mathlib.Core.Bool.{Bool, true, false, not, _&&_, _||_}
 use mathlib.Core.List.{List, [], _∷_}
 use mathlib.Core.Logic.{_⊎_, inl, inr, ⊎-elim}
@@ -9,8 +9,8 @@ use native.Mathlib.Nat.{eq-or-lt-of-le}
 use native.Mathlib.Omega.{arith}
 use borrow.Author.Tests.{lt-leb, ne-eqb, leb-true, eqb-true, not-true}
 use lib.Dec.{eqb, leb}
-use Rattle.code.specs.Layout.{last-ins}
-use Rattle.code.specs.Records.{between, is-ins, is-structure, is-code, is-ocmp, is-operand, body-length, operand-count, register-fields}
+use Rattle.code.specs.Layout.{Field, register, scale, last-ins}
+use Rattle.code.specs.Records.{between, is-ins, is-structure, is-code, is-ocmp, is-operand, body-length, operand-count, judged-fields}
 use Rattle.code.specs.Kinds.{class, is-used, entry-of, fields-to, LastField}
 use Rattle.code.specs.declared.kinds.Class.the-variants.{Instruction, Structure, Comparison, Operand, Unused}
 use Rattle.code.proofs.Passing.{clash, and-both, or-right, or-none, between-true}
@@ -126,31 +126,44 @@ entry-count k r l u h =
     omega arith
 
 -- the register fields of a range of kinds, by a test of each
-unfoldable pub same : List ℕ → List ℕ → Bool
+unfoldable pub same-field : Field → Field → Bool
+same-field (register m) (register n) = eqb m n
+same-field (register m) (scale n) = false
+same-field (scale m) (register n) = false
+same-field (scale m) (scale n) = eqb m n
+
+same-field-true : (x y : Field) → same-field x y ≡ true → x ≡ y
+unfolding same-field
+same-field-true (register m) (register n) h = ap register (eqb-true m n h)
+same-field-true (register m) (scale n) h = clash (cc)
+same-field-true (scale m) (register n) h = clash (cc)
+same-field-true (scale m) (scale n) h = ap scale (eqb-true m n h)
+
+unfoldable pub same : List Field → List Field → Bool
 same [] [] = true
 same [] (y ∷ ys) = false
 same (x ∷ xs) [] = false
-same (x ∷ xs) (y ∷ ys) = eqb x y && same xs ys
+same (x ∷ xs) (y ∷ ys) = same-field x y && same xs ys
 
-pub same-true : (xs ys : List ℕ) → same xs ys ≡ true → xs ≡ ys
+pub same-true : (xs ys : List Field) → same xs ys ≡ true → xs ≡ ys
 unfolding same
 same-true [] [] h = refl
 same-true [] (y ∷ ys) h = clash (cc)
 same-true (x ∷ xs) [] h = clash (cc)
 same-true (x ∷ xs) (y ∷ ys) h =
-    let w = and-both (eqb x y) (same xs ys) h in
-    let e : x ≡ y = eqb-true x y (w .0) in
+    let w = and-both (same-field x y) (same xs ys) h in
+    let e : x ≡ y = same-field-true x y (w .0) in
     let f : xs ≡ ys = same-true xs ys (w .1) in
     cc
 
 unfoldable pub last-is : ℕ → ℕ → Bool
-last-is r k = same (register-fields k) (fields-to r) && leb r (body-length k)
+last-is r k = same (judged-fields k) (fields-to r) && leb r (body-length k)
 
 last-of : (r k : ℕ) → last-is r k ≡ true → LastField k r
 unfolding last-is
 last-of r k h =
     let w = and-both _ _ h in
-    record { fields = same-true (register-fields k) (fields-to r) (w .0); inside = leb-true r (body-length k) (w .1) }
+    record { fields = same-true (judged-fields k) (fields-to r) (w .0); inside = leb-true r (body-length k) (w .1) }
 
 pub last-in : (r low n k : ℕ) → all-from (last-is r) low n ≡ true → low ≤ k → k < low + n → LastField k r
 last-in r low n k h l m = last-of r k (within (last-is r) n low h k l m)
@@ -164,7 +177,7 @@ last-or k = eqb k 0x18 || (eqb k 0x41 || (eqb k 0x43 || (eqb k 0x44 || last-is 0
 
 pub last-none :
     (k : ℕ) → 0x18 ≤ k → k < 256 → (k ≡ 0x18 → ⊥) → (k ≡ 0x41 → ⊥) → (k ≡ 0x43 → ⊥) → (k ≡ 0x44 → ⊥) → LastField k 0
-unfolding last-or last-is same register-fields body-length
+unfolding last-or last-is same same-field judged-fields body-length
 last-none k l m a b c d =
     last-of 0 k
     (or-right _ _

@@ -14,22 +14,22 @@ use Rattle.code.specs.declared.tree.Instruction.{Instruction}
 use Rattle.code.specs.declared.tree.Instruction.the-variants.{Mov64, Add64, AddLea64, AddCarry64, Adcx64, Adox64, Sub64, Mul64, Mulx64, IMul64, Xor64, And64, Shr64, Shl64, Paddd, Pxor, Pslld, Psrld, Pshufd, Pcmpeqd, Pextrq, Pinsrd, Pinsrq, VPSLLDQ, Popcnt64, Lzcnt64, Tzcnt64}
 use Rattle.code.specs.declared.tree.Ocmp.{Ocmp}
 use Rattle.code.specs.declared.tree.Ocmp.the-variants.{OEq, ONe, OLe, OGe, OLt, OGt}
-use Rattle.code.specs.Layout.{Byte, number, amount, Layout, laid, layout, ocmp-layout, values, numbers-from, ins-forms, last-ins, ins-of, ocmp-of, shape}
-use Rattle.code.specs.Records.{is-ins, is-ocmp, body-length, operand-count, register-fields}
+use Rattle.code.specs.Layout.{Byte, number, amount, Field, Layout, laid, layout, ocmp-layout, values, numbers-from, ins-forms, last-ins, ins-of, ocmp-of, shape}
+use Rattle.code.specs.Records.{is-ins, is-ocmp, body-length, operand-count, judged-fields}
 use Rattle.code.specs.WellFormed.{WfByte, WfOperand, All, WfLayout}
 use Rattle.code.proofs.Passing.{and-both, between-true}
-use Rattle.code.proofs.KindLaws.{answers, same-within, same, same-true}
+use Rattle.code.proofs.KindLaws.{answers, same-within, same, same-field, same-true}
 
 -- ---- the shape of a kind: its body's length, its number of operands, its register fields
-pub record Shape (k size count : ℕ) (fields : List ℕ) : Type 0 where
+pub record Shape (k size count : ℕ) (fields : List Field) : Type 0 where
   pub sized : body-length k ≡ size
   pub counted : operand-count k ≡ count
-  pub registers : register-fields k ≡ fields
+  pub registers : judged-fields k ≡ fields
 
-unfoldable pub shaped : ℕ → ℕ → List ℕ → ℕ → Bool
-shaped size count fields k = eqb (body-length k) size && (eqb (operand-count k) count && same (register-fields k) fields)
+unfoldable pub shaped : ℕ → ℕ → List Field → ℕ → Bool
+shaped size count fields k = eqb (body-length k) size && (eqb (operand-count k) count && same (judged-fields k) fields)
 
-pub shape-of : (k size count : ℕ) (fields : List ℕ) → shaped size count fields k ≡ true → Shape k size count fields
+pub shape-of : (k size count : ℕ) (fields : List Field) → shaped size count fields k ≡ true → Shape k size count fields
 unfolding shaped
 shape-of k size count fields h =
     let a = and-both _ _ h in
@@ -57,7 +57,7 @@ abbrev Told : Instruction → Type 0
 Told i = (agrees is-ins (layout i) ≡ true) × (ins-of (layout i .kind) (values (layout i .body)) (layout i .operands) ≡ i)
 
 told : (i : Instruction) → Told i
-unfolding agrees shaped body-length operand-count register-fields same
+unfolding agrees shaped body-length operand-count judged-fields same same-field
 told (Mov64 a b) = (refl, refl)
 told (Add64 a b) = (refl, refl)
 told (AddLea64 a b c) = (refl, refl)
@@ -90,7 +90,7 @@ abbrev OcmpTold : Ocmp → Type 0
 OcmpTold c = (agrees is-ocmp (ocmp-layout c) ≡ true) × (ocmp-of (ocmp-layout c .kind) (ocmp-layout c .operands) ≡ c)
 
 ocmp-told : (c : Ocmp) → OcmpTold c
-unfolding agrees shaped body-length operand-count register-fields same
+unfolding agrees shaped body-length operand-count judged-fields same same-field
 ocmp-told (OEq a b) = (refl, refl)
 ocmp-told (ONe a b) = (refl, refl)
 ocmp-told (OLe a b) = (refl, refl)
@@ -117,8 +117,8 @@ module _ (k : ℕ) (is : is-ins k ≡ true) where
   unfolding body-length
   ins-body = rw is
 
-  pub ins-fields : register-fields k ≡ numbers-from 1 (shape k .body)
-  unfolding register-fields
+  pub ins-fields : judged-fields k ≡ numbers-from 1 (shape k .body)
+  unfolding judged-fields
   ins-fields = rw is
 
 -- bytes of the same sorts as some

@@ -1,13 +1,15 @@
 -- What a reading went through that got something: every test on the way passed. Assumes nothing.
 use Prim.Native.Nat.{ℕ, _+_, _≤_}
 use mathlib.Core.Path.{_≡_, refl}
-use mathlib.Core.Bool.{Bool, true, false, _&&_, _||_, cond}
+use mathlib.Core.Bool.{Bool, true, false, not, _&&_, _||_, cond}
 use mathlib.Core.List.{List, [], _∷_}
 use mathlib.Core.Logic.{_⊎_, inl, inr}
 use native.Mathlib.Omega.{arith}
-use borrow.Author.Tests.{ltb-false, leb-true, le-ltb, le-leb}
+use borrow.Author.Tests.{ltb-false, leb-true, le-ltb, le-leb, not-false}
 use lib.Dec.{ltb, leb}
-use Rattle.code.specs.Records.{between, byte-at}
+use Rattle.machine.specs.Operands.{is-scale}
+use Rattle.code.specs.Layout.{Field, register, scale}
+use Rattle.code.specs.Records.{between, byte-at, signed-at}
 use Rattle.code.specs.Reader.{Read, got, trouble, followed, unless, with-fields}
 use Rattle.code.specs.Spells.{Fields}
 
@@ -28,20 +30,25 @@ module _ {A : Type 0} where
   either false x y r h = inr (refl, h)
 
   pub fields-passed :
-      (fs bs : List ℕ) (at : ℕ) (k : Read A) (a : A) (m : ℕ) →
+      (fs : List Field) (bs : List ℕ) (at : ℕ) (k : Read A) (a : A) (m : ℕ) →
       with-fields fs bs at k ≡ got a m → Fields fs bs at × (k ≡ got a m)
   unfolding with-fields
   fields-passed [] bs at k a m h = (tt, h)
-  fields-passed (f ∷ fs) bs at k a m h =
+  fields-passed (register f ∷ fs) bs at k a m h =
       let w = passed (ltb 15 (byte-at bs (at + f))) 4 (at + f) (with-fields fs bs at k) a m h in
       let r = fields-passed fs bs at k a m (w .1) in
       ((ltb-false _ _ (w .0), r .0), r .1)
+  fields-passed (scale f ∷ fs) bs at k a m h =
+      let w = passed (not (is-scale (signed-at 2 bs (at + f)))) 7 (at + f) (with-fields fs bs at k) a m h in
+      let r = fields-passed fs bs at k a m (w .1) in
+      ((not-false _ (w .0), r .0), r .1)
 
-  pub fields-pass : (fs bs : List ℕ) (at : ℕ) (k : Read A) → Fields fs bs at → with-fields fs bs at k ≡ k
+  pub fields-pass : (fs : List Field) (bs : List ℕ) (at : ℕ) (k : Read A) → Fields fs bs at → with-fields fs bs at k ≡ k
   unfolding with-fields
   fields-pass [] bs at k h = refl
-  fields-pass (f ∷ fs) bs at k h =
+  fields-pass (register f ∷ fs) bs at k h =
       rw (le-ltb 15 (byte-at bs (at + f)) (h .0)) (fields-pass fs bs at k (h .1))
+  fields-pass (scale f ∷ fs) bs at k h = rw (h .0) (fields-pass fs bs at k (h .1))
 
 pub went-on :
     {A B : Type 0} (r : Read A) (k : A → ℕ → Read B) (b : B) (n : ℕ) →

@@ -6,7 +6,8 @@ use mathlib.Core.List.{List}
 use native.Mathlib.Omega.{arith}
 use native.Mathlib.Numerals.{sub-one}
 use borrow.Author.Tests.{lt-ltb, le-ltb, le-leb, lt-leb}
-use Rattle.code.specs.Records.{is-ocmp, is-operand, body-length, operand-count, byte-at, behind, ocmp-at}
+use Rattle.machine.specs.Operands.{is-scale}
+use Rattle.code.specs.Records.{is-ocmp, is-operand, body-length, operand-count, byte-at, signed-at, behind, ocmp-at}
 use Rattle.code.specs.Kinds.{fields-to, LastField}
 use Rattle.code.specs.Reader.{Read, got, trouble, followed, with-kind, with-fields, read-record, read-operands, read-with, read-ocmp}
 use Rattle.code.specs.Reached.{reached, reach, rest-of-record, rest-of-all}
@@ -53,7 +54,11 @@ module _ {A : Type 0} (allowed : ℕ → Bool) (bs : List ℕ) (e at : ℕ) (k :
   pub kind-right : at < e → allowed (byte-at bs at) ≡ true → with-kind allowed bs e at k ≡ k
   kind-right l h = rw (lt-leb e at l, h)
 
--- the register fields up to a last one
+-- the scale is right, where there is one between the first field and the last
+abbrev pub RightScale : List ℕ → ℕ → ℕ → Type 0
+RightScale bs at last = 2 < last → is-scale (signed-at 2 bs (at + 2)) ≡ true
+
+-- the judged fields up to a last one
 module _ {A : Type 0} (bs : List ℕ) (at : ℕ) (k : Read A) where
   fields-none : (last : ℕ) → last ≡ 0 → with-fields (fields-to last) bs at k ≡ k
   unfolding with-fields
@@ -64,7 +69,8 @@ module _ {A : Type 0} (bs : List ℕ) (at : ℕ) (k : Read A) where
   unfolding with-fields
   fields-first zero h l = absurd (h refl)
   fields-first (suc zero) h l = rw (lt-ltb 15 (byte-at bs (at + 1)) l)
-  fields-first (suc (suc n)) h l = rw (lt-ltb 15 (byte-at bs (at + 1)) l)
+  fields-first (suc (suc zero)) h l = rw (lt-ltb 15 (byte-at bs (at + 1)) l)
+  fields-first (suc (suc (suc n))) h l = rw (lt-ltb 15 (byte-at bs (at + 1)) l)
 
   fields-one : (last : ℕ) → last ≡ 1 → byte-at bs (at + 1) ≤ 15 → with-fields (fields-to last) bs at k ≡ k
   unfolding with-fields
@@ -72,21 +78,34 @@ module _ {A : Type 0} (bs : List ℕ) (at : ℕ) (k : Read A) where
   fields-one (suc zero) h l = rw (le-ltb 15 (byte-at bs (at + 1)) l)
   fields-one (suc (suc n)) h l = absurd (omega arith)
 
-  fields-second :
-      (last : ℕ) → (last ≡ 0 → ⊥) → (last ≡ 1 → ⊥) → byte-at bs (at + 1) ≤ 15 → 15 < byte-at bs (at + last) →
+  fields-scale :
+      (last : ℕ) → 2 < last → byte-at bs (at + 1) ≤ 15 → is-scale (signed-at 2 bs (at + 2)) ≡ false →
+      with-fields (fields-to last) bs at k ≡ trouble 7 (at + 2)
+  unfolding with-fields
+  fields-scale zero g l s = absurd (omega arith)
+  fields-scale (suc zero) g l s = absurd (omega arith)
+  fields-scale (suc (suc zero)) g l s = absurd (omega arith)
+  fields-scale (suc (suc (suc n))) g l s = rw (le-ltb 15 (byte-at bs (at + 1)) l, s)
+
+  fields-last :
+      (last : ℕ) → (last ≡ 0 → ⊥) → (last ≡ 1 → ⊥) → byte-at bs (at + 1) ≤ 15 → RightScale bs at last → 15 < byte-at bs (at + last) →
       with-fields (fields-to last) bs at k ≡ trouble 4 (at + last)
   unfolding with-fields
-  fields-second zero h g l m = absurd (h refl)
-  fields-second (suc zero) h g l m = absurd (g refl)
-  fields-second (suc (suc n)) h g l m = rw (le-ltb 15 (byte-at bs (at + 1)) l, lt-ltb 15 (byte-at bs (at + suc (suc n))) m)
+  fields-last zero h g l s m = absurd (h refl)
+  fields-last (suc zero) h g l s m = absurd (g refl)
+  fields-last (suc (suc zero)) h g l s m = rw (le-ltb 15 (byte-at bs (at + 1)) l, lt-ltb 15 (byte-at bs (at + 2)) m)
+  fields-last (suc (suc (suc n))) h g l s m =
+      rw (le-ltb 15 (byte-at bs (at + 1)) l, s (omega arith), lt-ltb 15 (byte-at bs (at + suc (suc (suc n)))) m)
 
-  fields-two :
-      (last : ℕ) → (last ≡ 0 → ⊥) → (last ≡ 1 → ⊥) → byte-at bs (at + 1) ≤ 15 → byte-at bs (at + last) ≤ 15 →
+  fields-all :
+      (last : ℕ) → (last ≡ 0 → ⊥) → (last ≡ 1 → ⊥) → byte-at bs (at + 1) ≤ 15 → RightScale bs at last → byte-at bs (at + last) ≤ 15 →
       with-fields (fields-to last) bs at k ≡ k
   unfolding with-fields
-  fields-two zero h g l m = absurd (h refl)
-  fields-two (suc zero) h g l m = absurd (g refl)
-  fields-two (suc (suc n)) h g l m = rw (le-ltb 15 (byte-at bs (at + 1)) l, le-ltb 15 (byte-at bs (at + suc (suc n))) m)
+  fields-all zero h g l s m = absurd (h refl)
+  fields-all (suc zero) h g l s m = absurd (g refl)
+  fields-all (suc (suc zero)) h g l s m = rw (le-ltb 15 (byte-at bs (at + 1)) l, le-ltb 15 (byte-at bs (at + 2)) m)
+  fields-all (suc (suc (suc n))) h g l s m =
+      rw (le-ltb 15 (byte-at bs (at + 1)) l, s (omega arith), le-ltb 15 (byte-at bs (at + suc (suc (suc n)))) m)
 
 -- `read_body`
 module _ (bs : List ℕ) (e at body : ℕ) (is : body ≡ body-length (byte-at bs at)) (in-part : at < e) where
@@ -117,16 +136,21 @@ module _ (bs : List ℕ) (e at body : ℕ) (is : body ≡ body-length (byte-at b
     pub body-one : last ≡ 1 → byte-at bs (at + 1) ≤ 15 → reach (Next (at + 1 + body)) ≡ rest-of-record bs e at
     body-one h l = ends ∙ sym (inner ∙ fields-one bs at (got tt (behind bs at)) last h l)
 
-    pub body-second :
-        (last ≡ 0 → ⊥) → (last ≡ 1 → ⊥) → byte-at bs (at + 1) ≤ 15 → 15 < byte-at bs (at + last) →
+    pub body-scale :
+        2 < last → byte-at bs (at + 1) ≤ 15 → is-scale (signed-at 2 bs (at + 2)) ≡ false → reach (Trouble 7 (at + 2)) ≡ rest-of-record bs e at
+    unfolding reach
+    body-scale g l s = sym (inner ∙ fields-scale bs at (got tt (behind bs at)) last g l s)
+
+    pub body-last :
+        (last ≡ 0 → ⊥) → (last ≡ 1 → ⊥) → byte-at bs (at + 1) ≤ 15 → RightScale bs at last → 15 < byte-at bs (at + last) →
         reach (Trouble 4 (at + last)) ≡ rest-of-record bs e at
     unfolding reach
-    body-second h g l m = sym (inner ∙ fields-second bs at (got tt (behind bs at)) last h g l m)
+    body-last h g l s m = sym (inner ∙ fields-last bs at (got tt (behind bs at)) last h g l s m)
 
-    pub body-two :
-        (last ≡ 0 → ⊥) → (last ≡ 1 → ⊥) → byte-at bs (at + 1) ≤ 15 → byte-at bs (at + last) ≤ 15 →
+    pub body-all :
+        (last ≡ 0 → ⊥) → (last ≡ 1 → ⊥) → byte-at bs (at + 1) ≤ 15 → RightScale bs at last → byte-at bs (at + last) ≤ 15 →
         reach (Next (at + 1 + body)) ≡ rest-of-record bs e at
-    body-two h g l m = ends ∙ sym (inner ∙ fields-two bs at (got tt (behind bs at)) last h g l m)
+    body-all h g l s m = ends ∙ sym (inner ∙ fields-all bs at (got tt (behind bs at)) last h g l s m)
 
 -- `read_operand`
 module _ (bs : List ℕ) (e at : ℕ) where

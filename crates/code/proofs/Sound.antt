@@ -10,7 +10,7 @@ use lib.Dec.{eqb, ltb, leb}
 use lib.ListN.{length}
 use Rattle.code.specs.declared.tree.Ocmp.{Ocmp}
 use Rattle.code.specs.Tree.{Code, Ins, Block, IfElse, While, Codes, ⟨⟩, _∷ᶜ_}
-use Rattle.code.specs.Records.{is-ins, is-structure, is-code, is-ocmp, is-operand, body-length, operand-count, register-fields, byte-at, number-at, behind, ins-at, ocmp-at}
+use Rattle.code.specs.Records.{is-ins, is-structure, is-code, is-ocmp, is-operand, body-length, operand-count, judged-fields, byte-at, number-at, behind, ins-at, ocmp-at}
 use Rattle.code.specs.Reader.{Read, got, trouble, unless, with-kind, read-record, read-operands, read-with, read-ocmp, One, read-part, read-codes, read-block, read-if, read-while, read-structure, read-body, read-code, parse}
 use Rattle.code.specs.Spells.{IsRecord, Operands, Stands, IsOcmp, Spells, SpellsAll, Nests, NestsAll, Parsed}
 use Rattle.code.proofs.Passing.{clash, got-same, passed, either, fields-passed, went-on, or-right, or-none, between-true}
@@ -49,7 +49,7 @@ module _ (allowed : ℕ → Bool) (bs : List ℕ) (e at : ℕ) where
   record-sound u m h =
       let k = kind-passed _ u m h in
       let b = passed (ltb e (behind bs at)) 3 at _ u m (k .2) in
-      let f = fields-passed (register-fields (byte-at bs at)) bs at (got tt (behind bs at)) u m (b .1) in
+      let f = fields-passed (judged-fields (byte-at bs at)) bs at (got tt (behind bs at)) u m (b .1) in
       (record { kind = k .1; inside = ltb-false _ _ (b .0); fields = f .0 }, got-same tt u _ m (f .1) .1)
 
 operands-sound :

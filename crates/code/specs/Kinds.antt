@@ -3,7 +3,8 @@ use Prim.Native.Nat.{ℕ, zero, suc, _+_, _*_, _≤_}
 use mathlib.Core.Path.{_≡_}
 use mathlib.Core.Bool.{Bool, _||_, cond}
 use mathlib.Core.List.{List, [], _∷_}
-use Rattle.code.specs.Records.{is-ins, is-structure, is-code, is-ocmp, is-operand, body-length, operand-count, register-fields}
+use Rattle.code.specs.Layout.{Field, register, scale}
+use Rattle.code.specs.Records.{is-ins, is-structure, is-code, is-ocmp, is-operand, body-length, operand-count, judged-fields}
 use Rattle.code.specs.declared.kinds.Class.{Class}
 use Rattle.code.specs.declared.kinds.Class.the-variants.{Instruction, Structure, Comparison, Operand, Unused}
 
@@ -21,13 +22,14 @@ is-used k = is-code k || (is-ocmp k || is-operand k)
 unfoldable pub entry-of : ℕ → ℕ
 entry-of k = cond (is-used k) (4 * body-length k + operand-count k) 255
 
--- the register fields up to the last one: none where that is 0; the first stands at 1
-abbrev pub fields-to : ℕ → List ℕ
+-- the judged fields up to the last one: none where that is 0; the first stands at 1, and where there are two bytes between them, a scale
+abbrev pub fields-to : ℕ → List Field
 fields-to zero = []
-fields-to (suc zero) = 1 ∷ []
-fields-to (suc (suc n)) = 1 ∷ suc (suc n) ∷ []
+fields-to (suc zero) = register 1 ∷ []
+fields-to (suc (suc zero)) = register 1 ∷ register 2 ∷ []
+fields-to (suc (suc (suc n))) = register 1 ∷ scale 2 ∷ register (suc (suc (suc n))) ∷ []
 
--- the last register field of a kind
+-- the last judged field of a kind
 pub record LastField (k last : ℕ) : Type 0 where
-  pub fields : register-fields k ≡ fields-to last
+  pub fields : judged-fields k ≡ fields-to last
   pub inside : last ≤ body-length k

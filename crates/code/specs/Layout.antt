@@ -72,10 +72,14 @@ value (amount n) = n
 abbrev pub values : List Byte → List ℕ
 values bytes = map value bytes
 
--- where the register and xmm numbers of a body stand, its first byte at f
-abbrev pub numbers-from : ℕ → List Byte → List ℕ
+-- a field that is judged, by its offset from the kind byte: a register or an xmm number, or a scale
+pub data Field : Type 0 where
+  register scale : ℕ → Field
+
+-- the register and xmm numbers of a body, its first byte at f
+abbrev pub numbers-from : ℕ → List Byte → List Field
 numbers-from f [] = []
-numbers-from f (number n ∷ bytes) = f ∷ numbers-from (suc f) bytes
+numbers-from f (number n ∷ bytes) = register f ∷ numbers-from (suc f) bytes
 numbers-from f (amount n ∷ bytes) = numbers-from (suc f) bytes
 
 -- the instructions in the order of their kinds, of a body's bytes and the operands, both in field order

@@ -4,7 +4,7 @@ use mathlib.Core.Path.{_≡_}
 use mathlib.Core.Bool.{Bool, true}
 use mathlib.Core.List.{List}
 use lib.ListN.{length}
-use Rattle.code.specs.Records.{operand-count, register-fields, byte-at, behind}
+use Rattle.code.specs.Records.{operand-count, judged-fields, byte-at, behind}
 use Rattle.code.specs.Tree.{Code}
 use Rattle.code.specs.Reader.{Read, got, trouble, followed, with-body, with-fields, read-operands, read-structure, read-code}
 use Rattle.code.specs.declared.reader.Reach.{Reach}
@@ -29,7 +29,7 @@ reach (Trouble n p) = trouble n p
 -- a record behind its kind byte: its body and its fields
 unfoldable pub rest-of-record : List ℕ → ℕ → ℕ → Read (Unit {0})
 rest-of-record bs e at =
-    with-body bs e at (with-fields (register-fields (byte-at bs at)) bs at (got tt (behind bs at)))
+    with-body bs e at (with-fields (judged-fields (byte-at bs at)) bs at (got tt (behind bs at)))
 
 -- a record behind its kind byte, with its operands
 unfoldable pub rest-of-all : List ℕ → ℕ → ℕ → Read (Unit {0})

@@ -5,9 +5,11 @@ use mathlib.Core.List.{List, [], _∷_}
 use lib.Dec.{eqb, ltb, leb}
 use lib.ListN.{length}
 use Rattle.machine.specs.Cells.{Verdict, accepted, refused}
+use Rattle.machine.specs.Operands.{is-scale}
 use Rattle.code.specs.declared.tree.Ocmp.{Ocmp}
+use Rattle.code.specs.Layout.{Field, register, scale}
 use Rattle.code.specs.Tree.{Code, Ins, Block, IfElse, While, Codes, ⟨⟩, _∷ᶜ_}
-use Rattle.code.specs.Records.{is-ins, is-code, is-ocmp, is-operand, operand-count, register-fields, byte-at, number-at, behind, ins-at, ocmp-at}
+use Rattle.code.specs.Records.{is-ins, is-code, is-ocmp, is-operand, operand-count, judged-fields, byte-at, number-at, signed-at, behind, ins-at, ocmp-at}
 
 -- what was read and the place behind it, or the first trouble with its number and place
 pub data Read (A : Type 0) : Type 0 where
@@ -31,16 +33,17 @@ with-kind allowed bs e at k = unless (leb e at) 3 at (unless (not (allowed (byte
 abbrev pub with-body : {A : Type 0} → List ℕ → ℕ → ℕ → Read A → Read A
 with-body bs e at k = unless (ltb e (behind bs at)) 3 at k
 
--- 4: each register or xmm number is at most 15
-unfoldable pub with-fields : {A : Type 0} → List ℕ → List ℕ → ℕ → Read A → Read A
+-- 4 and 7, from left to right: each register or xmm number is at most 15, and each scale, of two bytes, is one of the four
+unfoldable pub with-fields : {A : Type 0} → List Field → List ℕ → ℕ → Read A → Read A
 with-fields [] bs at k = k
-with-fields (f ∷ fs) bs at k = unless (ltb 15 (byte-at bs (at + f))) 4 (at + f) (with-fields fs bs at k)
+with-fields (register f ∷ fs) bs at k = unless (ltb 15 (byte-at bs (at + f))) 4 (at + f) (with-fields fs bs at k)
+with-fields (scale f ∷ fs) bs at k = unless (not (is-scale (signed-at 2 bs (at + f)))) 7 (at + f) (with-fields fs bs at k)
 
 -- a record of an allowed kind without its operands: the place behind its body
 unfoldable pub read-record : (ℕ → Bool) → List ℕ → ℕ → ℕ → Read (Unit {0})
 read-record allowed bs e at =
     with-kind allowed bs e at
-    (with-body bs e at (with-fields (register-fields (byte-at bs at)) bs at (got tt (behind bs at))))
+    (with-body bs e at (with-fields (judged-fields (byte-at bs at)) bs at (got tt (behind bs at))))
 
 -- n operand records
 unfoldable pub read-operands : ℕ → List ℕ → ℕ → ℕ → Read (Unit {0})

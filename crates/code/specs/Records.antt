@@ -13,7 +13,7 @@ use Rattle.machine.specs.declared.Operand.{Operand}
 use Rattle.machine.specs.declared.Operand.the-variants.{OConst, OReg, OMem}
 use Rattle.code.specs.declared.tree.Instruction.{Instruction}
 use Rattle.code.specs.declared.tree.Ocmp.{Ocmp}
-use Rattle.code.specs.Layout.{last-ins, ins-of, ocmp-of, shape, ocmp-shape, numbers-from}
+use Rattle.code.specs.Layout.{Field, register, scale, last-ins, ins-of, ocmp-of, shape, ocmp-shape, numbers-from}
 
 -- the kinds of a range
 abbrev pub between : ℕ → ℕ → ℕ → Bool
@@ -50,11 +50,11 @@ body-length k =
 unfoldable pub operand-count : ℕ → ℕ
 operand-count k = cond (is-ins k) (length (shape k .operands)) (cond (is-ocmp k) (length (ocmp-shape k .operands)) 0)
 
--- the register and xmm fields of a kind, as offsets from its kind byte, in field order
-unfoldable pub register-fields : ℕ → List ℕ
-register-fields k =
+-- the fields of a kind that are judged, in field order: of an MIndex the base, the scale and the index
+unfoldable pub judged-fields : ℕ → List Field
+judged-fields k =
     cond (is-ins k) (numbers-from 1 (shape k .body))
-    (cond (eqb k 0x41 || eqb k 0x43) (1 ∷ []) (cond (eqb k 0x44) (1 ∷ 4 ∷ []) []))
+    (cond (eqb k 0x41 || eqb k 0x43) (register 1 ∷ []) (cond (eqb k 0x44) (register 1 ∷ scale 2 ∷ register 4 ∷ []) []))
 
 -- the byte at a place
 abbrev pub byte-at : List ℕ → ℕ → ℕ

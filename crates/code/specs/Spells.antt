@@ -4,21 +4,24 @@ use mathlib.Core.Path.{_≡_}
 use mathlib.Core.Bool.{Bool, true}
 use mathlib.Core.List.{List, [], _∷_}
 use lib.ListN.{length}
+use Rattle.machine.specs.Operands.{is-scale}
 use Rattle.code.specs.declared.tree.Instruction.{Instruction}
 use Rattle.code.specs.declared.tree.Ocmp.{Ocmp}
+use Rattle.code.specs.Layout.{Field, register, scale}
 use Rattle.code.specs.Tree.{Code, Ins, Block, IfElse, While, Codes, ⟨⟩, _∷ᶜ_}
-use Rattle.code.specs.Records.{is-ins, is-ocmp, is-operand, operand-count, register-fields, byte-at, number-at, behind, ins-at, ocmp-at}
+use Rattle.code.specs.Records.{is-ins, is-ocmp, is-operand, operand-count, judged-fields, byte-at, number-at, signed-at, behind, ins-at, ocmp-at}
 
--- each register or xmm number of these fields is at most 15
-abbrev pub Fields : List ℕ → List ℕ → ℕ → Type 0
+-- each register or xmm number of these fields is at most 15, and each scale is one of the four
+abbrev pub Fields : List Field → List ℕ → ℕ → Type 0
 Fields [] bs at = Unit {0}
-Fields (f ∷ fs) bs at = (byte-at bs (at + f) ≤ 15) × Fields fs bs at
+Fields (register f ∷ fs) bs at = (byte-at bs (at + f) ≤ 15) × Fields fs bs at
+Fields (scale f ∷ fs) bs at = (is-scale (signed-at 2 bs (at + f)) ≡ true) × Fields fs bs at
 
 -- a record of an allowed kind, its operands left aside, lies before e
 pub record IsRecord (allowed : ℕ → Bool) (bs : List ℕ) (at e : ℕ) : Type 0 where
   pub kind : allowed (byte-at bs at) ≡ true
   pub inside : behind bs at ≤ e
-  pub fields : Fields (register-fields (byte-at bs at)) bs at
+  pub fields : Fields (judged-fields (byte-at bs at)) bs at
 
 -- an operand record lies in the bytes
 abbrev pub OperandBytes : List ℕ → ℕ → Type 0

@@ -1,8 +1,11 @@
 -- The bounds that every tree of accepted bytes meets: its fields are those of the records.
 use Prim.Native.Nat.{ℕ, _-_, _<_, _^_}
+use mathlib.Core.Path.{_≡_}
+use mathlib.Core.Bool.{true}
 use mathlib.Core.List.{List, [], _∷_, _++_, map}
 use lib.IntN.{ℤ, pos, negsuc}
 use lib.ListN.{getD}
+use Rattle.machine.specs.Operands.{is-scale}
 use Rattle.machine.specs.declared.reg.Reg.{Reg}
 use Rattle.machine.specs.declared.Maddr.{Maddr}
 use Rattle.machine.specs.declared.Maddr.the-variants.{MConst, MReg, MIndex}
@@ -30,11 +33,15 @@ Number n = n < 16
 abbrev pub WfReg : Reg → Type 0
 WfReg r = Number (r .number)
 
+-- a scale that machine code has
+abbrev pub WfScale : ℤ → Type 0
+WfScale z = is-scale z ≡ true
+
 -- a memory operand
 abbrev pub WfMaddr : Maddr → Type 0
 WfMaddr (MConst n) = n < 2 ^ 64
 WfMaddr (MReg r offset) = WfReg r × Signed 64 offset
-WfMaddr (MIndex base scale index offset) = WfReg base × Signed 16 scale × WfReg index × Signed 64 offset
+WfMaddr (MIndex base scale index offset) = WfReg base × WfScale scale × WfReg index × Signed 64 offset
 
 -- an operand
 abbrev pub WfOperand : Operand → Type 0

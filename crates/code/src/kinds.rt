@@ -324,7 +324,7 @@ pub fn operand_count(kind: u8) -> usize
 }
 
 // The last register or xmm field of a kind, as an offset from its kind byte; 0 where it has none.
-// The first of two fields is at 1.
+// The first is at 1, and an MIndex has its scale between the two.
 pub fn last_field(kind: u8) -> usize
     ensures { λ r. ⌜ LastField kind r ⌝ }
 {

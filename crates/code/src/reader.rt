@@ -14,7 +14,9 @@ use crate::kinds::class_of;
 use crate::kinds::last_field;
 use crate::kinds::operand_count;
 use crate::numbers::number4;
+use crate::numbers::signed2;
 use machine::Checked;
+use machine::is_scale;
 
 // Where a reading goes on, or the number and the place of its trouble.
 pub enum Reach {
@@ -42,6 +44,9 @@ fn read_body(code: &[u8], end: usize, at: usize) -> Reach
     }
     if last == 1 {
         return Reach::Next(next);
+    }
+    if last > 2 && !is_scale(signed2(code, at + 2)) {
+        return Reach::Trouble(7, at + 2);
     }
     if 15 < code[at + last] {
         return Reach::Trouble(4, at + last);

@@ -116,7 +116,7 @@ returns-3 c =
     let signed82 = c .signed82 in
     let w = indexed _ _ (pre .0) (pre .1) (if1 .left) (if2 .left) in
     rw (
-      w .4,
+      w .5,
       toZ-ofZ w16 (signed2 .result) (record { sfits = signed2 .ok }),
       toZ-ofZ w64 (signed82 .result) (record { sfits = signed82 .ok }),
       signed2 .ensures,
