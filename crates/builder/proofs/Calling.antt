@@ -14,7 +14,7 @@ use Rattle.code.specs.Layout.{Layout, layout, ocmp-layout}
 use Rattle.code.specs.Writer.{bytes-of, bytes-of-record, bytes-of-ins, bytes-of-ocmp}
 use Rattle.builder.specs.declared.build.Build.{Build}
 use Rattle.builder.specs.declared.record.Record.{Record}
-use Rattle.builder.specs.Calls.{open-block, open-if-else, open-while, add, close, bytes-of-call, record-named, call-named, RecordTyped, CallTyped}
+use Rattle.builder.specs.Calls.{open-block, open-if-else, open-while, add, close, bytes-of-call, record-trouble, call-trouble, RecordTyped, CallTyped}
 use Rattle.builder.specs.Building.{kind-of, field-of, start-of, is-part, takes-code, takes-close, call-fits, depth-of, judge, refusal, longer, opened, turned, shut, build-after, buffer-after, Outcome, outcome, answered, call}
 use Rattle.builder.specs.Rendered.{layout-of, Wrote, Closable}
 use Rattle.builder.proofs.Judged.{both, was-taken, same-judge}
@@ -34,59 +34,59 @@ module _ {m at n : ℕ} {l t a : List ℕ} (w : Wrote m l at t a n) where
       let size : length (take at l ++ t) ≡ n = length-append (take at l) t ∙ omega (arith, length-take-le at l (omega arith)) in
       ap (take n) (w .bytes ∙ sets-eq t l at (omega arith)) ∙ take-at (take at l ++ t) (drop (at + length t) l) n size
 
--- ---- calls that add: the number of bytes, the bytes, and whether they are named, by other names
-module _ (b : Build) (entry : List ℕ) (next : ℕ → Build) {named names : Bool} {n : ℕ} {t text : List ℕ} where
+-- ---- calls that add: the trouble in their fields, the number of bytes, and the bytes, by other names
+module _ (b : Build) (entry : List ℕ) (next : ℕ → Build) {trouble its n : ℕ} {t text : List ℕ} where
   renamed :
-      named ≡ names → n ≡ length text → t ≡ text
-      → answered (judge (takes-code b) named (b .depth + 1) (b .length + n) (length entry)) b (next n) entry (sets entry (b .length) t)
-      ≡ answered (judge (takes-code b) names (b .depth + 1) (b .length + length text) (length entry)) b (next (length text)) entry
+      trouble ≡ its → n ≡ length text → t ≡ text
+      → answered (judge (takes-code b) trouble (b .depth + 1) (b .length + n) (length entry)) b (next n) entry (sets entry (b .length) t)
+      ≡ answered (judge (takes-code b) its (b .depth + 1) (b .length + length text) (length entry)) b (next (length text)) entry
       (sets entry (b .length) text)
   renamed e f g = rw (e, f, g) refl
 
-module _ (b : Build) (entry bytes : List ℕ) (named : Bool) (n : ℕ) where
+module _ (b : Build) (entry bytes : List ℕ) (trouble n : ℕ) where
   -- what is answered where the first n bytes were added
   abbrev added : (ℕ → Build) → Outcome
   added next =
-      answered (judge (takes-code b) named (b .depth + 1) (b .length + n) (length entry)) b (next n) entry
+      answered (judge (takes-code b) trouble (b .depth + 1) (b .length + n) (length entry)) b (next n) entry
       (sets entry (b .length) (take n bytes))
 
-  module _ (given : Record) (e : named ≡ record-named (layout-of given)) {o : Outcome} where
+  module _ (given : Record) (e : trouble ≡ record-trouble (layout-of given)) {o : Outcome} where
     pub add-is :
         (i : Instruction) → layout-of given ≡ layout i → Wrote 43 (replicate 52 0) 0 (bytes-of-record (layout-of given)) bytes n
         → o ≡ added (longer b) → o ≡ call (add i) b entry
-    unfolding call refusal call-fits call-named depth-of build-after buffer-after bytes-of-call bytes-of-ins
+    unfolding call refusal call-fits call-trouble depth-of build-after buffer-after bytes-of-call bytes-of-ins
     add-is i same w h =
         let re = ap bytes-of-record same in
         h
-        ∙ renamed b entry (longer b) (e ∙ ap record-named same)
+        ∙ renamed b entry (longer b) (e ∙ ap record-trouble same)
         (let p = w .place in omega (arith, ap length re))
         (in-front w (omega arith) ∙ re)
 
     pub if-else-is :
         (c : Ocmp) → layout-of given ≡ ocmp-layout c → Wrote 43 (set (replicate 52 0) 0 0x21) 9 (bytes-of-record (layout-of given)) bytes n
         → o ≡ added (opened 1 b) → o ≡ call (open-if-else c) b entry
-    unfolding call refusal call-fits call-named depth-of build-after buffer-after bytes-of-call bytes-of-ocmp bytes-of
+    unfolding call refusal call-fits call-trouble depth-of build-after buffer-after bytes-of-call bytes-of-ocmp bytes-of
     if-else-is c same w h =
         let re = ap bytes-of-record same in
         h
-        ∙ renamed b entry (opened 1 b) (e ∙ ap record-named same)
+        ∙ renamed b entry (opened 1 b) (e ∙ ap record-trouble same)
         (let p = w .place in omega (arith, ap length re))
         (in-front w (omega arith) ∙ ap (λ (x : List ℕ). take 9 (set (replicate 52 0) 0 0x21) ++ x) re)
 
     pub while-is :
         (c : Ocmp) → layout-of given ≡ ocmp-layout c → Wrote 43 (set (replicate 52 0) 0 0x22) 5 (bytes-of-record (layout-of given)) bytes n
         → o ≡ added (opened 2 b) → o ≡ call (open-while c) b entry
-    unfolding call refusal call-fits call-named depth-of build-after buffer-after bytes-of-call bytes-of-ocmp bytes-of
+    unfolding call refusal call-fits call-trouble depth-of build-after buffer-after bytes-of-call bytes-of-ocmp bytes-of
     while-is c same w h =
         let re = ap bytes-of-record same in
         h
-        ∙ renamed b entry (opened 2 b) (e ∙ ap record-named same)
+        ∙ renamed b entry (opened 2 b) (e ∙ ap record-trouble same)
         (let p = w .place in omega (arith, ap length re))
         (in-front w (omega arith) ∙ ap (λ (x : List ℕ). take 5 (set (replicate 52 0) 0 0x22) ++ x) re)
 
 pub block-is :
-    (b : Build) (entry : List ℕ) {o : Outcome} → o ≡ added b entry (set (replicate 52 0) 0 0x20) true 5 (opened 0 b) → o ≡ call open-block b entry
-unfolding call refusal call-fits call-named depth-of build-after buffer-after bytes-of-call bytes-of
+    (b : Build) (entry : List ℕ) {o : Outcome} → o ≡ added b entry (set (replicate 52 0) 0 0x20) 0 5 (opened 0 b) → o ≡ call open-block b entry
+unfolding call refusal call-fits call-trouble depth-of build-after buffer-after bytes-of-call bytes-of
 block-is b entry h = h
 
 -- ---- the call is one of the types
@@ -129,7 +129,7 @@ handed-back {exit} e f = rw (e .0, e .1) f
 
 pub closable :
     (b : Build) (room : ℕ) {r : ℕ} → r ≡ refusal close b room → r ≡ 0 → Closable b room
-unfolding refusal call-fits call-named depth-of bytes-of-call takes-close is-part
+unfolding refusal call-fits call-trouble depth-of bytes-of-call takes-close is-part
 closable b room e z =
     let taken = was-taken _ _ _ _ _ e z in
     let a = both (ltb 0 (b .depth) && is-part b) (eqb (kind-of b) 0 || ltb (start-of b) (b .length)) (taken .it-fits) in
@@ -161,8 +161,8 @@ in-limit c =
 -- a close adds no bytes
 pub close-refusal :
     (b : Build) (room : ℕ) {fits : Bool} {depth length r : ℕ} → fits ≡ takes-close b → depth ≡ b .depth → length ≡ b .length
-    → r ≡ judge fits true depth length room → r ≡ refusal close b room
-unfolding refusal call-fits call-named depth-of bytes-of-call
+    → r ≡ judge fits 0 depth length room → r ≡ refusal close b room
+unfolding refusal call-fits call-trouble depth-of bytes-of-call
 close-refusal b room e f g h = same-judge _ _ _ _ _ _ _ _ e f (omega (arith, g)) h
 
 -- the length that a close stores

@@ -8,7 +8,10 @@ use lib.Dec.{eqb, ltb, leb}
 use Rattle.builder.specs.declared.build.Build.{Build}
 use Rattle.builder.specs.declared.build.Part.{Part}
 use Rattle.builder.specs.Building.{kind-of, field-of, start-of, is-part, takes-code, takes-close}
-use Rattle.builder.proofs.Arms.{and-then, and-else}
+
+-- the first test holds, and r is the second
+and-then : {a r y : Bool} → a ≡ true → r ≡ y → r ≡ (a && y)
+and-then {y} h q = q ∙ ap (λ (b : Bool). b && y) (sym h)
 
 -- what is asked of a part's numbers
 abbrev tests : ℕ → ℕ → ℕ → ℕ → Bool
@@ -21,11 +24,11 @@ module _ (length kind field start : ℕ) where
   pub no-start : kind ≤ 2 → start < field + 4 → false ≡ tests length kind field start
   no-start h k =
       ap (λ (b : Bool). b && leb start length)
-      (and-then refl (le-leb kind 2 h) (sym (lt-leb (field + 4) start k)))
+      (and-then (le-leb kind 2 h) (sym (lt-leb (field + 4) start k)))
 
   pub last-test : kind ≤ 2 → field + 4 ≤ start → leb start length ≡ tests length kind field start
   last-test h k =
-      ap (λ (b : Bool). b && leb start length) (and-then refl (le-leb kind 2 h) (sym (le-leb (field + 4) start k)))
+      ap (λ (b : Bool). b && leb start length) (and-then (le-leb kind 2 h) (sym (le-leb (field + 4) start k)))
 
 -- ---- the innermost part of a build
 

@@ -10,7 +10,7 @@ use lib.Seq.{sets}
 use Rattle.builder.specs.declared.build.Build.{Build}
 use Rattle.builder.specs.declared.build.Built.{Built}
 use Rattle.code.specs.Writer.{bytes-of}
-use Rattle.builder.specs.Calls.{Call, open-block, open-if-else, open-while, add, close, bytes-of-call, call-named}
+use Rattle.builder.specs.Calls.{Call, open-block, open-if-else, open-while, add, close, bytes-of-call, first-of, call-trouble}
 
 -- the build that was begun: no bytes, and nothing is open
 abbrev pub empty : Build
@@ -65,14 +65,14 @@ unfoldable pub unless : Bool → ℕ → ℕ → ℕ
 unless true n next = next
 unless false n next = n
 
--- the refusals in their order: whether the call fits, whether its register and xmm numbers are at most 15, its depth, the build's bytes with its own, the room
-unfoldable pub judge : Bool → Bool → ℕ → ℕ → ℕ → ℕ
-judge fits names depth bytes room =
-    unless fits 51 (unless names 4 (unless (leb depth 32) 53 (unless (leb bytes room && leb bytes 16384) 52 0)))
+-- the refusals in their order: whether the call fits, the trouble in its fields, its depth, the build's bytes with its own, the room
+unfoldable pub judge : Bool → ℕ → ℕ → ℕ → ℕ → ℕ
+judge fits trouble depth bytes room =
+    unless fits 51 (first-of trouble (unless (leb depth 32) 53 (unless (leb bytes room && leb bytes 16384) 52 0)))
 
 -- the number of a call's refusal, 0 where it is taken
 unfoldable pub refusal : Call → Build → ℕ → ℕ
-refusal c b room = judge (call-fits c b) (call-named c) (depth-of c b) (b .length + length (bytes-of-call c)) room
+refusal c b room = judge (call-fits c b) (call-trouble c) (depth-of c b) (b .length + length (bytes-of-call c)) room
 
 -- ---- what a taken call leaves
 

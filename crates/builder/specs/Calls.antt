@@ -1,8 +1,10 @@
 -- The calls of the builder, and the bytes that each adds.
-use Prim.Native.Nat.{ℕ, _<_, _^_}
-use mathlib.Core.Bool.{Bool, true, _&&_}
+use Prim.Native.Nat.{ℕ, zero, suc, _<_, _^_}
+use mathlib.Core.Bool.{cond}
 use mathlib.Core.List.{List, [], _∷_, _++_, map}
 use lib.Dec.{leb}
+use lib.IntN.{ℤ}
+use Rattle.machine.specs.Operands.{is-scale}
 use Rattle.machine.specs.declared.Maddr.{Maddr}
 use Rattle.machine.specs.declared.Maddr.the-variants.{MConst, MReg, MIndex}
 use Rattle.machine.specs.declared.Operand.{Operand}
@@ -28,52 +30,62 @@ bytes-of-call (open-while c) = 0x22 ∷ bytes-of 4 0 ++ bytes-of-ocmp c
 bytes-of-call (add i) = bytes-of-ins i
 bytes-of-call close = []
 
--- ---- register and xmm numbers
+-- ---- the fields that are judged: the number of the first that is wrong, in the order of the record's bytes, and 0 where none is
 
--- a register or an xmm number is at most 15
-abbrev pub named : ℕ → Bool
-named n = leb n 15
+-- the first of two numbers that is not 0
+unfoldable pub first-of : ℕ → ℕ → ℕ
+first-of zero m = m
+first-of (suc n) m = suc n
 
--- so is a byte of a body, if it is one
-unfoldable pub byte-named : Byte → Bool
-byte-named (number n) = named n
-byte-named (amount n) = true
+-- 4: a register or an xmm number is above 15
+unfoldable pub number-trouble : ℕ → ℕ
+number-trouble n = cond (leb n 15) 0 4
 
--- and those of a memory operand
-unfoldable pub maddr-named : Maddr → Bool
-maddr-named (MConst n) = true
-maddr-named (MReg r offset) = named (r .number)
-maddr-named (MIndex base scale index offset) = named (base .number) && named (index .number)
+-- 7: a scale is none of the four
+unfoldable pub scale-trouble : ℤ → ℕ
+scale-trouble z = cond (is-scale z) 0 7
+
+-- of a byte of a body
+unfoldable pub byte-trouble : Byte → ℕ
+byte-trouble (number n) = number-trouble n
+byte-trouble (amount n) = 0
+
+-- of a memory operand
+unfoldable pub maddr-trouble : Maddr → ℕ
+maddr-trouble (MConst n) = 0
+maddr-trouble (MReg r offset) = number-trouble (r .number)
+maddr-trouble (MIndex base scale index offset) =
+    first-of (number-trouble (base .number)) (first-of (scale-trouble scale) (number-trouble (index .number)))
 
 -- of an operand
-unfoldable pub operand-named : Operand → Bool
-operand-named (OConst n) = true
-operand-named (OReg r) = named (r .number)
-operand-named (OMem m) = maddr-named m
+unfoldable pub operand-trouble : Operand → ℕ
+operand-trouble (OConst n) = 0
+operand-trouble (OReg r) = number-trouble (r .number)
+operand-trouble (OMem m) = maddr-trouble m
 
 -- of a body
-unfoldable pub body-named : List Byte → Bool
-body-named [] = true
-body-named (b ∷ bs) = byte-named b && body-named bs
+unfoldable pub body-trouble : List Byte → ℕ
+body-trouble [] = 0
+body-trouble (b ∷ bs) = first-of (byte-trouble b) (body-trouble bs)
 
 -- of operands in a row
-unfoldable pub operands-named : List Operand → Bool
-operands-named [] = true
-operands-named (o ∷ os) = operand-named o && operands-named os
+unfoldable pub operands-trouble : List Operand → ℕ
+operands-trouble [] = 0
+operands-trouble (o ∷ os) = first-of (operand-trouble o) (operands-trouble os)
 
 -- of a record
-unfoldable pub record-named : Layout → Bool
-record-named l = body-named (l .body) && operands-named (l .operands)
+unfoldable pub record-trouble : Layout → ℕ
+record-trouble l = first-of (body-trouble (l .body)) (operands-trouble (l .operands))
 
 -- of what a call adds
-unfoldable pub call-named : Call → Bool
-call-named open-block = true
-call-named (open-if-else c) = record-named (ocmp-layout c)
-call-named (open-while c) = record-named (ocmp-layout c)
-call-named (add i) = record-named (layout i)
-call-named close = true
+unfoldable pub call-trouble : Call → ℕ
+call-trouble open-block = 0
+call-trouble (open-if-else c) = record-trouble (ocmp-layout c)
+call-trouble (open-while c) = record-trouble (ocmp-layout c)
+call-trouble (add i) = record-trouble (layout i)
+call-trouble close = 0
 
--- ---- what every call of the types meets: a register or xmm number is some byte
+-- ---- what every call of the types meets: a register or xmm number is some byte, a scale some number of 16 bits
 
 -- a memory operand
 unfoldable pub MaddrTyped : Maddr → Type 0

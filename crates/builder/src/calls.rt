@@ -20,7 +20,7 @@ use crate::build::opened;
 use crate::build::takes_close;
 use crate::build::takes_code;
 use crate::build::wide;
-use crate::record::is_named;
+use crate::record::trouble_in;
 use crate::record::record_of;
 use crate::record::record_of_ocmp;
 use crate::write::copy;
@@ -30,14 +30,14 @@ use code::Instruction;
 use code::Ocmp;
 
 // The number of the first refusal whose condition holds.
-fn judge(fits: bool, named: bool, depth: usize, bytes: usize, room: usize) -> u8
-    ensures { λ r. ⌜ r ≡ judge fits named depth bytes room ⌝ }
+fn judge(fits: bool, trouble: u8, depth: usize, bytes: usize, room: usize) -> u8
+    ensures { λ r. ⌜ r ≡ judge fits trouble depth bytes room ⌝ }
 {
     if !fits {
         return 51;
     }
-    if !named {
-        return 4;
+    if trouble != 0 {
+        return trouble;
     }
     if depth > 32 {
         return 53;
@@ -59,15 +59,15 @@ fn refused(answer: u8, build: Build) -> Built
 }
 
 // Judges a call that adds the first n of these bytes, and stores them where it is taken.
-fn append(build: Build, buffer: &mut [u8], bytes: &[u8], n: usize, named: bool) -> u8
+fn append(build: Build, buffer: &mut [u8], bytes: &[u8], n: usize, trouble: u8) -> u8
     requires { ⌜ (n ≤ 52) × (n ≤ length (now bytes)) ⌝ }
-    ensures { λ r. ⌜ r ≡ judge (takes-code build) named (build .depth + 1) (build .length + n) (length (now (buffer .entry))) ⌝ }
+    ensures { λ r. ⌜ r ≡ judge (takes-code build) trouble (build .depth + 1) (build .length + n) (length (now (buffer .entry))) ⌝ }
     ensures { λ r. ⌜ now (buffer .exit) ≡ cond (eqb r 0) (sets (now (buffer .entry)) (build .length) (take n (now (bytes .entry)))) (now (buffer .entry)) ⌝ }
 {
     let fits = takes_code(build);
     let depth = wide(build.depth) + 1;
     let length = wide(build.length);
-    let answer = judge(fits, named, depth, length + n, buffer.len());
+    let answer = judge(fits, trouble, depth, length + n, buffer.len());
     if answer == 0 {
         copy(buffer, length, bytes, n);
     }
@@ -80,16 +80,16 @@ fn open_part(
     buffer: &mut [u8],
     bytes: &[u8],
     n: usize,
-    named: bool,
+    trouble: u8,
     kind: u8,
 ) -> Built
     requires { ⌜ (n ≤ 52) × (n ≤ length (now bytes)) ⌝ }
     ensures { λ r. ⌜
         left r (now (buffer .exit))
-        ≡ answered (judge (takes-code build) named (build .depth + 1) (build .length + n) (length (now (buffer .entry))))
+        ≡ answered (judge (takes-code build) trouble (build .depth + 1) (build .length + n) (length (now (buffer .entry))))
         build (opened kind build n) (now (buffer .entry)) (sets (now (buffer .entry)) (build .length) (take n (now (bytes .entry)))) ⌝ }
 {
-    let answer = append(build, buffer, bytes, n, named);
+    let answer = append(build, buffer, bytes, n, trouble);
     if answer == 0 {
         return Built {
             answer,
@@ -104,7 +104,7 @@ pub fn open_block(build: Build, buffer: &mut [u8]) -> Built
 {
     let mut bytes = [0u8; 52];
     bytes[0] = 0x20;
-    open_part(build, buffer, &bytes, 5, true, CODES)
+    open_part(build, buffer, &bytes, 5, 0, CODES)
 }
 
 pub fn open_if_else(build: Build, buffer: &mut [u8], condition: Ocmp) -> Built
@@ -115,7 +115,7 @@ pub fn open_if_else(build: Build, buffer: &mut [u8], condition: Ocmp) -> Built
     let mut bytes = [0u8; 52];
     bytes[0] = 0x21;
     let n = put_record(&mut bytes, 9, given);
-    open_part(build, buffer, &bytes, n, is_named(given), TRUE_PART)
+    open_part(build, buffer, &bytes, n, trouble_in(given), TRUE_PART)
 }
 
 pub fn open_while(build: Build, buffer: &mut [u8], condition: Ocmp) -> Built
@@ -126,7 +126,7 @@ pub fn open_while(build: Build, buffer: &mut [u8], condition: Ocmp) -> Built
     let mut bytes = [0u8; 52];
     bytes[0] = 0x22;
     let n = put_record(&mut bytes, 5, given);
-    open_part(build, buffer, &bytes, n, is_named(given), LAST_PART)
+    open_part(build, buffer, &bytes, n, trouble_in(given), LAST_PART)
 }
 
 pub fn add(build: Build, buffer: &mut [u8], instruction: Instruction) -> Built
@@ -136,7 +136,7 @@ pub fn add(build: Build, buffer: &mut [u8], instruction: Instruction) -> Built
     let given = record_of(instruction);
     let mut bytes = [0u8; 52];
     let n = put_record(&mut bytes, 0, given);
-    let answer = append(build, buffer, &bytes, n, is_named(given));
+    let answer = append(build, buffer, &bytes, n, trouble_in(given));
     if answer == 0 {
         return Built {
             answer,
@@ -151,7 +151,7 @@ fn judge_close(build: Build, room: usize) -> u8
     ensures { λ r. ⌜ r ≡ refusal close build room ⌝ }
 {
     let fits = takes_close(build);
-    judge(fits, true, wide(build.depth), wide(build.length), room)
+    judge(fits, 0, wide(build.depth), wide(build.length), room)
 }
 
 // Stores the length of the innermost part where it is counted.

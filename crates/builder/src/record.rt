@@ -2,12 +2,13 @@
 ghost use mathlib.Core.Path.{_≡_};
 ghost use mathlib.Core.List.{[], _∷_};
 ghost use Rattle.code.specs.Layout.{laid, number, amount, layout, ocmp-layout};
-ghost use Rattle.builder.specs.Calls.{named, maddr-named, operand-named, body-named, operands-named, record-named};
+ghost use Rattle.builder.specs.Calls.{first-of, number-trouble, scale-trouble, maddr-trouble, operand-trouble, body-trouble, operands-trouble, record-trouble};
 ghost use Rattle.builder.specs.Rendered.{body-of, operands-of, layout-of};
 use code::Instruction;
 use code::Ocmp;
 use machine::Maddr;
 use machine::Operand;
+use machine::is_scale;
 
 // The bodies there are: xmm numbers, then an amount or imm8.
 pub enum Body {
@@ -147,66 +148,83 @@ pub fn record_of_ocmp(condition: Ocmp) -> Record
     }
 }
 
-// Whether a register or xmm number is at most 15.
-fn is_number(n: u8) -> bool
-    ensures { λ r. ⌜ r ≡ named n ⌝ }
+// 4 for a register or xmm number above 15, and 0 for one that is right.
+fn number_trouble(n: u8) -> u8
+    ensures { λ r. ⌜ r ≡ number-trouble n ⌝ }
 {
-    n <= 15
+    if n <= 15 { 0 } else { 4 }
 }
 
-fn maddr_named(m: Maddr) -> bool
-    ensures { λ r. ⌜ r ≡ maddr-named m ⌝ }
+// 7 for a scale that machine code does not have.
+fn scale_trouble(scale: i16) -> u8
+    ensures { λ r. ⌜ r ≡ scale-trouble scale ⌝ }
+{
+    if is_scale(scale) { 0 } else { 7 }
+}
+
+// The first of two numbers that is not 0.
+fn first_of(a: u8, b: u8) -> u8
+    ensures { λ r. ⌜ r ≡ first-of a b ⌝ }
+{
+    if a == 0 { b } else { a }
+}
+
+fn maddr_trouble(m: Maddr) -> u8
+    ensures { λ r. ⌜ r ≡ maddr-trouble m ⌝ }
 {
     match m {
-        Maddr::MConst(_) => true,
-        Maddr::MReg(r, _) => is_number(r.number),
-        Maddr::MIndex(base, _, index, _) => is_number(base.number) && is_number(index.number),
+        Maddr::MConst(_) => 0,
+        Maddr::MReg(r, _) => number_trouble(r.number),
+        Maddr::MIndex(base, scale, index, _) => {
+            let behind = first_of(scale_trouble(scale), number_trouble(index.number));
+            first_of(number_trouble(base.number), behind)
+        }
     }
 }
 
-fn operand_named(operand: Operand) -> bool
-    ensures { λ r. ⌜ r ≡ operand-named operand ⌝ }
+fn operand_trouble(operand: Operand) -> u8
+    ensures { λ r. ⌜ r ≡ operand-trouble operand ⌝ }
 {
     match operand {
-        Operand::OConst(_) => true,
-        Operand::OReg(r) => is_number(r.number),
-        Operand::OMem(m) => maddr_named(m),
+        Operand::OConst(_) => 0,
+        Operand::OReg(r) => number_trouble(r.number),
+        Operand::OMem(m) => maddr_trouble(m),
     }
 }
 
-fn body_named(body: Body) -> bool
-    ensures { λ r. ⌜ r ≡ body-named (body-of body) ⌝ }
+fn body_trouble(body: Body) -> u8
+    ensures { λ r. ⌜ r ≡ body-trouble (body-of body) ⌝ }
 {
     match body {
-        Body::Nothing => true,
-        Body::Xmms(a, b) => is_number(a) && is_number(b),
-        Body::XmmAmount(a, _) => is_number(a),
-        Body::XmmsAmount(a, b, _) => is_number(a) && is_number(b),
+        Body::Nothing => 0,
+        Body::Xmms(a, b) => first_of(number_trouble(a), number_trouble(b)),
+        Body::XmmAmount(a, _) => number_trouble(a),
+        Body::XmmsAmount(a, b, _) => first_of(number_trouble(a), number_trouble(b)),
     }
 }
 
-fn both_named(a: Operand, b: Operand) -> bool
-    ensures { λ r. ⌜ r ≡ operands-named (a ∷ b ∷ []) ⌝ }
+fn both_trouble(a: Operand, b: Operand) -> u8
+    ensures { λ r. ⌜ r ≡ operands-trouble (a ∷ b ∷ []) ⌝ }
 {
-    operand_named(a) && operand_named(b)
+    first_of(operand_trouble(a), operand_trouble(b))
 }
 
-fn operands_named(operands: Operands) -> bool
-    ensures { λ r. ⌜ r ≡ operands-named (operands-of operands) ⌝ }
+fn operands_trouble(operands: Operands) -> u8
+    ensures { λ r. ⌜ r ≡ operands-trouble (operands-of operands) ⌝ }
 {
     match operands {
-        Operands::Nothing => true,
-        Operands::One(a) => operand_named(a),
-        Operands::Two(a, b) => both_named(a, b),
-        Operands::Three(a, b, c) => operand_named(a) && both_named(b, c),
+        Operands::Nothing => 0,
+        Operands::One(a) => operand_trouble(a),
+        Operands::Two(a, b) => both_trouble(a, b),
+        Operands::Three(a, b, c) => first_of(operand_trouble(a), both_trouble(b, c)),
     }
 }
 
-// Whether each register and xmm number of a record is at most 15.
-pub fn is_named(given: Record) -> bool
-    ensures { λ r. ⌜ r ≡ record-named (layout-of given) ⌝ }
+// The number of a record's first wrong field, in the order of its bytes; 0 where all are right.
+pub fn trouble_in(given: Record) -> u8
+    ensures { λ r. ⌜ r ≡ record-trouble (layout-of given) ⌝ }
 {
     let body = given.body;
     let operands = given.operands;
-    body_named(body) && operands_named(operands)
+    first_of(body_trouble(body), operands_trouble(operands))
 }

@@ -11,12 +11,13 @@ use lib.Seq.{sets, length-sets}
 use Rattle.code.specs.Writer.{bytes-of}
 use Rattle.code.proofs.Held.{length-bytes}
 use Rattle.builder.specs.declared.build.Build.{Build}
-use Rattle.builder.specs.Calls.{Call, open-block, open-if-else, open-while, add, close, bytes-of-call, call-named}
+use Rattle.builder.specs.Calls.{Call, open-block, open-if-else, open-while, add, close, bytes-of-call, call-trouble}
 use Rattle.builder.specs.Building.{kind-of, field-of, start-of, is-part, takes-close, call-fits, depth-of, refusal, turned, shut, build-after, stored, place-of, buffer-after, Outcome, outcome, call}
 use Rattle.built.specs.Claims.{Judged}
 use Rattle.builder.proofs.Judged.{both}
 use Rattle.built.proofs.Filling.{drop-sets}
-use Rattle.built.proofs.Judging.{judged-51, judged-4, judged-53, judged-52, judged-0}
+use Rattle.built.proofs.Fields.{call-small}
+use Rattle.built.proofs.Judging.{judged-field, judged-51, judged-53, judged-52, judged-0}
 
 module _ (c : Call) (b : Build) (buffer : List ℕ) where
   -- the number of its refusal
@@ -104,22 +105,24 @@ pub judged : (c : Call) (b : Build) (buffer : List ℕ) → Judged c b buffer
 unfolding refusal
 judged c b buffer =
     let fits = call-fits c b in
-    let names = call-named c in
+    let trouble = call-trouble c in
+    let small = call-small c in
     let depth = depth-of c b in
     let bytes = b .length + length (bytes-of-call c) in
     let room = length buffer in
     let e = answer-is c b buffer in
     record {
-      is-51 = rw e (judged-51 fits names depth bytes room);
-      is-4 = rw e (judged-4 fits names depth bytes room);
-      is-53 = rw e (judged-53 fits names depth bytes room);
-      is-52 = rw e (judged-52 fits names depth bytes room);
-      is-taken = rw e (judged-0 fits names depth bytes room);
+      is-51 = rw e (judged-51 fits trouble depth bytes room small);
+      is-4 = rw e (judged-field fits trouble depth bytes room small 4 (omega arith) (omega arith));
+      is-7 = rw e (judged-field fits trouble depth bytes room small 7 (omega arith) (omega arith));
+      is-53 = rw e (judged-53 fits trouble depth bytes room small);
+      is-52 = rw e (judged-52 fits trouble depth bytes room small);
+      is-taken = rw e (judged-0 fits trouble depth bytes room small);
       refused =
           either c b buffer (λ o. (o .answer ≡ 0 → ⊥) → o ≡ outcome (o .answer) b buffer) (λ t k. absurd (k refl)) (λ k h. refl);
-      in-bounds = rw e (λ t. let w = judged-0 fits names depth bytes room .0 t in within c b room (w .0) (w .3 .0));
+      in-bounds = rw e (λ t. let w = judged-0 fits trouble depth bytes room small .0 t in within c b room (w .0) (w .3 .0));
       same-room = either c b buffer (λ o. length (o .buffer) ≡ room) (λ t. stored-length c b buffer) (λ k. refl);
       behind =
           either c b buffer (λ o. drop (o .build .length) (o .buffer) ≡ drop (o .build .length) buffer)
-          (λ t. untouched c b buffer (judged-0 fits names depth bytes room .0 t .0)) (λ k. refl);
+          (λ t. untouched c b buffer (judged-0 fits trouble depth bytes room small .0 t .0)) (λ k. refl);
     }

@@ -22,7 +22,7 @@ use Rattle.built.specs.Sketch.{Open, block, true-part, while-part, false
 use Rattle.built.specs.Claims.{after, taken}
 use Rattle.built.proofs.Parts.{size, size-open}
 use Rattle.built.proofs.Steps.{put, add-code, closed, next, steps, from-none, placed-size, code-added, codes-added}
-use Rattle.built.proofs.Named.{WfCall}
+use Rattle.built.proofs.Fields.{WfCall}
 use Rattle.built.proofs.Fine.{fits-at, depth-at, Fine, adds, next-size}
 use Rattle.built.proofs.Calling.{either}
 use Rattle.built.proofs.Taking.{same-length}

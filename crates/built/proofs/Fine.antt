@@ -15,7 +15,7 @@ use Rattle.built.proofs.Parts.{size}
 use Rattle.built.proofs.Steps.{next, add-bytes, add-calls}
 use Rattle.built.proofs.Sound.{Sound, legal-none, ready, sound-add, sound-close}
 use Rattle.built.proofs.Closing.{closed-calls}
-use Rattle.built.proofs.Named.{WfCall}
+use Rattle.built.proofs.Fields.{WfCall}
 
 -- it adds to the code: every call but a close
 abbrev pub adds : Call → Bool

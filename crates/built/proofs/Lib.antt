@@ -1,7 +1,7 @@
 pub mod Parts
 pub mod Steps
 pub mod Sound
-pub mod Named
+pub mod Fields
 pub mod Filling
 pub mod Closing
 pub mod Fine

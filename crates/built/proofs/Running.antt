@@ -8,13 +8,13 @@ use borrow.Author.Tests.{ne-eqb}
 use lib.Dec.{eqb}
 use lib.ListN.{length}
 use Rattle.builder.specs.declared.build.Build.{Build}
-use Rattle.builder.specs.Calls.{Call, open-block, open-if-else, open-while, add, close, bytes-of-call, call-named, CallTyped}
+use Rattle.builder.specs.Calls.{Call, open-block, open-if-else, open-while, add, close, bytes-of-call, call-trouble, CallTyped}
 use Rattle.builder.specs.Building.{call-fits, depth-of, refusal, build-after, buffer-after, Outcome}
 use Rattle.built.specs.Sketch.{Sketch, calls-so-far}
 use Rattle.built.specs.Claims.{after, taken, AllTyped}
 use Rattle.built.proofs.Steps.{next, steps}
 use Rattle.built.proofs.Sound.{Sound, sound-depth}
-use Rattle.built.proofs.Named.{call-wf, wf-call}
+use Rattle.built.proofs.Fields.{call-wf, wf-call, call-small}
 use Rattle.built.proofs.Fine.{fits-at, depth-at, Fine, next-sound, next-calls}
 use Rattle.built.proofs.Kept.{Kept, code-kept, close-kept}
 use Rattle.built.proofs.Judging.{judged-0}
@@ -50,7 +50,7 @@ module _ {before buffer : List ℕ} (c : Call) (s : Sketch) (b : Build) (st : St
   unfolding refusal
   fine f e =
       let bytes = b .length + length (bytes-of-call c) in
-      let j = judged-0 (call-fits c b) (call-named c) (depth-of c b) bytes (length buffer) .0 e in
+      let j = judged-0 (call-fits c b) (call-trouble c) (depth-of c b) bytes (length buffer) (call-small c) .0 e in
       let l = st .kept .bytes in
       record {
         fits = sym (fits-same s b (st .sound) (st .kept) c) ∙ j .0;
@@ -69,7 +69,7 @@ module _ {before buffer : List ℕ} (c : Call) (s : Sketch) (b : Build) (st : St
       let d = f .shallow in
       let m = f .in-room in
       let n = f .in-limit in
-      judged-0 (call-fits c b) (call-named c) (depth-of c b) bytes (length buffer) .1
+      judged-0 (call-fits c b) (call-trouble c) (depth-of c b) bytes (length buffer) (call-small c) .1
       (fits-same s b (st .sound) (st .kept) c ∙ f .fits, wf-call c (f .wf), omega (arith, depth-same s b (st .sound) (st .kept) c), (omega arith, omega arith))
 
   pub stands-next : Fine (length buffer) c s → Stands before (next c s) (build-after c b) (buffer-after c b buffer)

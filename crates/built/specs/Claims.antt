@@ -13,7 +13,7 @@ use Rattle.code.specs.Spells.{Nests}
 use Rattle.code.specs.WellFormed.{WfCode}
 use Rattle.code.specs.Writer.{bytes-of-code, place-code}
 use Rattle.builder.specs.declared.build.Build.{Build}
-use Rattle.builder.specs.Calls.{Call, bytes-of-call, call-named, CallTyped}
+use Rattle.builder.specs.Calls.{Call, bytes-of-call, call-trouble, CallTyped}
 use Rattle.builder.specs.Building.{empty, takes-code, takes-close, call-fits, depth-of, stored, place-of, Outcome, outcome, call}
 use Rattle.built.specs.Sketch.{Sketch, bytes-so-far, calls-of-code, calls-so-far, parts-open, code-fits, close-fits}
 
@@ -35,9 +35,9 @@ module _ (c : Call) (b : Build) (buffer : List ℕ) where
   abbrev pub Fits : Type 0
   Fits = call-fits c b ≡ true
 
-  -- its register and xmm numbers are at most 15
-  abbrev pub Named : Type 0
-  Named = call-named c ≡ true
+  -- its fields are right: each register and xmm number is at most 15, and each scale one of the four
+  abbrev pub Right : Type 0
+  Right = call-trouble c ≡ 0
 
   -- its code stands at most 32 deep
   abbrev pub Shallow : Type 0
@@ -50,10 +50,12 @@ module _ (c : Call) (b : Build) (buffer : List ℕ) where
   -- each refusal exactly where the call fails its test and passes those before it
   pub record Judged : Type 0 where
     pub is-51 : Exactly (leaves .answer ≡ 51) (Fits → ⊥)
-    pub is-4 : Exactly (leaves .answer ≡ 4) (Fits × (Named → ⊥))
-    pub is-53 : Exactly (leaves .answer ≡ 53) (Fits × Named × (Shallow → ⊥))
-    pub is-52 : Exactly (leaves .answer ≡ 52) (Fits × Named × Shallow × (Short → ⊥))
-    pub is-taken : Exactly (leaves .answer ≡ 0) (Fits × Named × Shallow × Short)
+    -- the first field that is wrong, in the order of the record's bytes, decides between 4 and 7
+    pub is-4 : Exactly (leaves .answer ≡ 4) (Fits × (call-trouble c ≡ 4))
+    pub is-7 : Exactly (leaves .answer ≡ 7) (Fits × (call-trouble c ≡ 7))
+    pub is-53 : Exactly (leaves .answer ≡ 53) (Fits × Right × (Shallow → ⊥))
+    pub is-52 : Exactly (leaves .answer ≡ 52) (Fits × Right × Shallow × (Short → ⊥))
+    pub is-taken : Exactly (leaves .answer ≡ 0) (Fits × Right × Shallow × Short)
     -- after a refusal build and buffer are what they were
     pub refused : (leaves .answer ≡ 0 → ⊥) → leaves ≡ outcome (leaves .answer) b buffer
     -- a taken call stores within the buffer, which keeps its length, and touches no byte behind the build

@@ -24,10 +24,10 @@ returns : tie.Need-returns
 returns c =
     let test = c .before in
     let appended = test .before .before .before .append .ensures in
-    let named = test .before .before .before .before in
-    let written = named .before .before .before in
+    let judged = test .before .before .before .before in
+    let written = judged .before .before .before in
     let given = written .before .before .record-of in (
-      add-is _ _ _ _ _ (given .result) (named .is-named .ensures) _ (given .ensures) (written .put-record .ensures .0)
+      add-is _ _ _ _ _ (given .result) (judged .trouble-in .ensures) _ (given .ensures) (written .put-record .ensures .0)
           (taken-as _ _ _ _ (appended .0) (appended .1) (test .if1 .taken) (c .longer .ensures)),
       add-fits _ (given .ensures) (written .put-record .ensures .1),
     )
@@ -36,10 +36,10 @@ returns-2 : tie.Need-returns-2
 returns-2 c =
     let test = c .before in
     let appended = test .before .before .before .append .ensures in
-    let named = test .before .before .before .before in
-    let written = named .before .before .before in
+    let judged = test .before .before .before .before in
+    let written = judged .before .before .before in
     let given = written .before .before .record-of in (
-      add-is _ _ _ _ _ (given .result) (named .is-named .ensures) _ (given .ensures) (written .put-record .ensures .0)
+      add-is _ _ _ _ _ (given .result) (judged .trouble-in .ensures) _ (given .ensures) (written .put-record .ensures .0)
           (handed-back (c .refused .ensures) (refused-as _ _ _ _ (appended .0) (appended .1) (test .if1 .left))),
       add-fits _ (given .ensures) (written .put-record .ensures .1),
     )

@@ -17,11 +17,11 @@ open-part-requires c κs =
 
 returns : tie.Need-returns
 returns c =
-    let named = c .before .before .before in
-    let written = named .before .before .before in
+    let judged = c .before .before .before in
+    let written = judged .before .before .before in
     let given = written .before .before .record-of-ocmp in
     let record-of = written .put-record .ensures in (
-      while-is _ _ _ _ _ (given .result) (named .is-named .ensures) _ (given .ensures) (record-of .0)
+      while-is _ _ _ _ _ (given .result) (judged .trouble-in .ensures) _ (given .ensures) (record-of .0)
           (c .before .before .open-part .ensures),
       while-fits _ (given .ensures) (record-of .1),
     )
