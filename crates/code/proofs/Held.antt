@@ -89,7 +89,6 @@ signed-held n full twice (negsuc k) bs at h l =
 
 -- a scale takes two bytes
 scale-signed : (z : ℤ) → is-scale z ≡ true → Signed 16 z
-unfolding is-scale
 scale-signed (pos n) h = let w = scale-small (pos n) h in omega (arith, w .1)
 scale-signed (negsuc n) h = clash (cc)
 

@@ -42,13 +42,11 @@ above n m h = rw (le-ltb n m (omega arith), le-leb (2 ^ 64) (n - m) (omega arith
 
 -- ---- both signs of the offset, by the test that the code makes
 pub plus-plus : (base index : ℕ) (s o : ℤ) → is-scale s ≡ true → ltZ o (pos 0) ≡ false → exact base s index o ≡ subℕ (natAbs s * index + base + natAbs o) 0
-unfolding is-scale
 plus-plus base index (pos s) (pos o) p q = ap pos (omega arith) ∙ pos-sub (s * index + base + o)
 plus-plus base index (pos s) (negsuc o) p q = cc
 plus-plus base index (negsuc s) o p q = cc
 
 pub plus-minus : (base index : ℕ) (s o : ℤ) → is-scale s ≡ true → ltZ o (pos 0) ≡ true → exact base s index o ≡ subℕ (natAbs s * index + base) (natAbs o)
-unfolding is-scale
 plus-minus base index (pos s) (pos o) p q = absurd (omega (arith, ltb-true o 0 q))
 plus-minus base index (pos s) (negsuc o) p q = sub-eq (base + s * index) (suc o) (s * index + base) (suc o) (omega arith)
 plus-minus base index (negsuc s) o p q = cc
@@ -74,7 +72,6 @@ size-of w z f n e = e ∙ ap natAbs (toZ-ofZ w z f)
 
 -- a scale is a small number
 pub scale-small : (z : ℤ) → is-scale z ≡ true → T (nonNeg z) × (natAbs z ≤ 8)
-unfolding is-scale
 scale-small (pos n) h = (tt, among n h)
   where
     among : (n : ℕ) → (eqb n 1 || (eqb n 2 || (eqb n 4 || eqb n 8))) ≡ true → n ≤ 8

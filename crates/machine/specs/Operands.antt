@@ -19,7 +19,7 @@ abbrev pub exact : ℕ → ℤ → ℕ → ℤ → ℤ
 exact base scale index offset = pos base +ℤ scale *ℤ pos index +ℤ offset
 
 -- the scales that machine code has: 1, 2, 4 and 8
-unfoldable pub is-scale : ℤ → Bool
+abbrev pub is-scale : ℤ → Bool
 is-scale (pos n) = eqb n 1 || (eqb n 2 || (eqb n 4 || eqb n 8))
 is-scale (negsuc n) = false
 

@@ -5,7 +5,9 @@ use crate::tally::counted;
 use machine::Address;
 use machine::Maddr;
 use machine::Reg;
-ghost use Rattle.machine.specs.Operands.{NamesRegisters};
+ghost use mathlib.Core.Path.{_≡_};
+ghost use mathlib.Core.Bool.{true};
+ghost use Rattle.machine.specs.Operands.{is-scale, Encodable};
 
 const TOP: u64 = 18446744073709551615;
 
@@ -35,7 +37,9 @@ fn based(t: Tally, base: u64, offset: i64, expected: Address) -> Tally {
     )
 }
 
-fn indexed(t: Tally, base: u64, scale: i16, index: u64, offset: i64, expected: Address) -> Tally {
+fn indexed(t: Tally, base: u64, scale: i16, index: u64, offset: i64, expected: Address) -> Tally
+    requires { ⌜ is-scale scale ≡ true ⌝ }
+{
     counted(
         t,
         is_address(machine::exact_address(base, scale, index, offset), expected),
@@ -43,7 +47,7 @@ fn indexed(t: Tally, base: u64, scale: i16, index: u64, offset: i64, expected: A
 }
 
 fn operand(t: Tally, m: Maddr, expected: Address) -> Tally
-    requires { ⌜ NamesRegisters m ⌝ }
+    requires { ⌜ Encodable m ⌝ }
 {
     let regs: [u64; 16] = [1000, 0, 0, 3, 0, 0, 0, 0, 0, 0, 0, 0, 0, 0, 0, TOP];
     counted(t, is_address(machine::operand_address(m, &regs), expected))
@@ -69,65 +73,101 @@ pub fn bases(t: Tally) -> Tally {
     t
 }
 
-// Every field at an end of its range.
+// Fields at the ends of their ranges.
 pub fn extremes(t: Tally) -> Tally {
-    let t = indexed(t, 0, -32768, TOP, LEAST, Address::Outside);
-    let t = indexed(t, TOP, 32767, TOP, MOST, Address::Outside);
-    let t = indexed(t, 0, 32767, TOP, LEAST, Address::Outside);
-    let t = indexed(t, TOP, -32768, TOP, MOST, Address::Outside);
-    let t = indexed(t, TOP, -1, TOP, MOST, Address::Inside(HALF - 1));
+    let t = indexed(t, TOP, 8, TOP, MOST, Address::Outside);
+    let t = indexed(t, 0, 8, TOP, LEAST, Address::Outside);
+    let t = indexed(t, TOP, 8, 0, LEAST, Address::Inside(HALF - 1));
+    let t = indexed(t, TOP, 8, 0, MOST, Address::Outside);
     let t = indexed(t, 0, 1, TOP, LEAST, Address::Inside(HALF - 1));
+    let t = indexed(t, TOP, 1, TOP, LEAST, Address::Outside);
     let t = indexed(t, TOP, 2, HALF, LEAST, Address::Outside);
     let t = indexed(t, TOP, 1, HALF - 1, LEAST, Address::Inside(TOP - 1));
-    let t = indexed(t, TOP, -2, HALF - 1, MOST, Address::Inside(HALF));
+    let t = indexed(t, 0, 4, 2305843009213693952, LEAST, Address::Inside(0));
+    let t = indexed(t, 0, 8, 1152921504606846976, LEAST, Address::Inside(0));
+    let t = indexed(
+        t,
+        0,
+        2,
+        HALF - 1,
+        LEAST,
+        Address::Inside(9223372036854775806),
+    );
+    let t = indexed(t, 0, 1, 0, MOST, Address::Inside(HALF - 1));
     t
 }
 
 // Both sides of 0 and of 2^64.
 pub fn edges(t: Tally) -> Tally {
-    let t = indexed(t, TOP, -1, TOP, 0, Address::Inside(0));
-    let t = indexed(t, TOP, -1, TOP, -1, Address::Outside);
     let t = indexed(t, 0, 1, TOP, 0, Address::Inside(TOP));
     let t = indexed(t, 0, 1, TOP, 1, Address::Outside);
     let t = indexed(t, 1, 1, TOP, -1, Address::Inside(TOP));
     let t = indexed(t, 1, 1, TOP, 0, Address::Outside);
-    let t = indexed(t, 5, -32768, 0, -5, Address::Inside(0));
-    let t = indexed(t, 5, -32768, 0, -6, Address::Outside);
-    let t = indexed(t, 0, -32768, 1, 32768, Address::Inside(0));
-    let t = indexed(t, 0, -32768, 1, 32767, Address::Outside);
-    let t = indexed(t, 4096, 0, TOP, -4096, Address::Inside(0));
-    let t = indexed(t, 4096, 0, TOP, -4097, Address::Outside);
+    let t = indexed(t, 0, 2, HALF, -1, Address::Inside(TOP));
+    let t = indexed(t, 0, 2, HALF, 0, Address::Outside);
+    let t = indexed(t, 0, 2, HALF - 1, 1, Address::Inside(TOP));
+    let t = indexed(t, 0, 2, HALF - 1, 2, Address::Outside);
+    let t = indexed(t, 0, 4, 4611686018427387904, -1, Address::Inside(TOP));
+    let t = indexed(t, 0, 4, 4611686018427387904, 0, Address::Outside);
+    let t = indexed(t, 0, 4, 4611686018427387903, 3, Address::Inside(TOP));
+    let t = indexed(t, 0, 4, 4611686018427387903, 4, Address::Outside);
+    let t = indexed(t, 0, 8, 2305843009213693952, -1, Address::Inside(TOP));
+    let t = indexed(t, 0, 8, 2305843009213693952, 0, Address::Outside);
+    let t = indexed(t, 0, 8, 2305843009213693951, 7, Address::Inside(TOP));
+    let t = indexed(t, 0, 8, 2305843009213693951, 8, Address::Outside);
+    let t = indexed(t, 4096, 8, 3, -4120, Address::Inside(0));
+    let t = indexed(t, 4096, 8, 3, -4121, Address::Outside);
+    let t = indexed(t, 5, 4, 0, -5, Address::Inside(0));
+    let t = indexed(t, 5, 4, 0, -6, Address::Outside);
     t
 }
 
 // Both sides of the index below which one multiplication does, and products with a carry between the halves.
 pub fn products(t: Tally) -> Tally {
+    let t = indexed(t, 0, 8, 2305843009213693951, 0, Address::Inside(TOP - 7));
+    let t = indexed(t, 0, 8, 2305843009213693952, LEAST, Address::Inside(HALF));
+    let t = indexed(t, HALF, 8, 1152921504606846976, -1, Address::Inside(TOP));
+    let t = indexed(t, HALF, 8, 1152921504606846976, 0, Address::Outside);
     let t = indexed(
         t,
         0,
-        32767,
-        562949953421311,
+        1,
+        2305843009213693951,
         0,
-        Address::Inside(18446181123756097537),
+        Address::Inside(2305843009213693951),
     );
     let t = indexed(
         t,
         0,
-        32767,
-        562949953421312,
+        1,
+        2305843009213693952,
         0,
-        Address::Inside(18446181123756130304),
+        Address::Inside(2305843009213693952),
     );
-    let t = indexed(t, 0, 32767, 562967133814800, 15, Address::Inside(TOP));
-    let t = indexed(t, 0, 32767, 562967133814801, 0, Address::Outside);
-    let t = indexed(t, 0, 8192, 2251799813685248, -1, Address::Inside(TOP));
-    let t = indexed(t, 0, 8192, 2251799813685248, 0, Address::Outside);
-    let t = indexed(t, HALF, -32768, 281474976710656, 0, Address::Inside(0));
-    let t = indexed(t, HALF, -32768, 281474976710656, -1, Address::Outside);
-    let t = indexed(t, 0, 3, 6148914691236517205, 0, Address::Inside(TOP));
-    let t = indexed(t, 1, 3, 6148914691236517205, 0, Address::Outside);
+    let t = indexed(
+        t,
+        0,
+        2,
+        2305843009213693952,
+        0,
+        Address::Inside(4611686018427387904),
+    );
+    let t = indexed(t, 0, 4, 2305843009213693952, 0, Address::Inside(HALF));
+    let t = indexed(
+        t,
+        0,
+        4,
+        2305843009213693951,
+        0,
+        Address::Inside(9223372036854775804),
+    );
+    let t = indexed(t, TOP, 8, 2305843009213693952, LEAST, Address::Outside);
+    let t = indexed(t, TOP - 7, 1, 7, 0, Address::Inside(TOP));
+    let t = indexed(t, TOP - 7, 8, 1, 0, Address::Outside);
     let t = indexed(t, 4096, 8, 3, 16, Address::Inside(4136));
-    let t = indexed(t, 4096, -8, 3, -16, Address::Inside(4056));
+    let t = indexed(t, 4096, 4, 3, 16, Address::Inside(4124));
+    let t = indexed(t, 4096, 2, 3, -16, Address::Inside(4086));
+    let t = indexed(t, 4096, 1, 3, -16, Address::Inside(4083));
     t
 }
 
@@ -143,7 +183,7 @@ pub fn operands(t: Tally) -> Tally {
     );
     operand(
         t,
-        Maddr::MIndex(Reg::RDX, -1, Reg::RAX, 996),
+        Maddr::MIndex(Reg::RDX, 1, Reg::RAX, -1004),
         Address::Outside,
     )
 }

@@ -7,7 +7,7 @@ use machine::Found;
 use machine::Maddr;
 use machine::Reg;
 use machine::Target;
-ghost use Rattle.machine.specs.Operands.{NamesRegisters};
+ghost use Rattle.machine.specs.Operands.{Encodable};
 
 const TOP: u64 = 18446744073709551615;
 
@@ -154,7 +154,7 @@ pub fn tops(t: Tally) -> Tally {
 
 // The cell of an operand, of cells that the check accepts. Rax is 1000, Rdx 3 and R15 the largest word.
 fn named(m: Maddr, addresses: &[u64], tags: &[u8], values: &[u64]) -> Target
-    requires { ⌜ NamesRegisters m ⌝ }
+    requires { ⌜ Encodable m ⌝ }
 {
     let regs: [u64; 16] = [1000, 0, 0, 3, 0, 0, 0, 0, 0, 0, 0, 0, 0, 0, 0, TOP];
     let checked = machine::check_cells(addresses, tags, values);
@@ -165,7 +165,7 @@ fn named(m: Maddr, addresses: &[u64], tags: &[u8], values: &[u64]) -> Target
 }
 
 fn operand(t: Tally, m: Maddr, expected: Target) -> Tally
-    requires { ⌜ NamesRegisters m ⌝ }
+    requires { ⌜ Encodable m ⌝ }
 {
     let addresses: [u64; 5] = [0, 992, 1000, 1008, TOP - 7];
     let got = named(m, &addresses, &[64, 64, 64, 32, 64], &[1, 2, 3, 4, 5]);
@@ -200,11 +200,21 @@ pub fn indexed_operands(t: Tally) -> Tally {
     );
     let t = operand(
         t,
-        Maddr::MIndex(Reg::RDX, -1, Reg::RAX, 997),
+        Maddr::MIndex(Reg::RDX, 1, Reg::RAX, -1003),
         Target::Cell(0),
     );
-    let t = operand(t, Maddr::MIndex(Reg::RDX, -1, Reg::RAX, 996), Target::Wild);
-    let t = operand(t, Maddr::MIndex(Reg::RDX, -1, Reg::RAX, 989), Target::Wild);
+    let t = operand(t, Maddr::MIndex(Reg::RDX, 1, Reg::RAX, -1004), Target::Wild);
+    let t = operand(t, Maddr::MIndex(Reg::RDX, 2, Reg::RAX, -2011), Target::Wild);
+    let t = operand(
+        t,
+        Maddr::MIndex(Reg::RAX, 4, Reg::RDX, -20),
+        Target::Cell(1),
+    );
+    let t = operand(
+        t,
+        Maddr::MIndex(Reg::RDX, 4, Reg::RAX, -3003),
+        Target::Cell(2),
+    );
     let t = operand(
         t,
         Maddr::MIndex(Reg::RAX, 1, Reg::R15, -1000),
@@ -219,14 +229,11 @@ pub fn indexed_operands(t: Tally) -> Tally {
     let t = operand(t, Maddr::MIndex(Reg::RAX, 1, Reg::R15, 1), Target::Wild);
     let t = operand(
         t,
-        Maddr::MIndex(Reg::R15, -1, Reg::R15, 992),
-        Target::Cell(1),
+        Maddr::MIndex(Reg::R15, 2, Reg::RDX, -13),
+        Target::Cell(4),
     );
-    let t = operand(
-        t,
-        Maddr::MIndex(Reg::R15, 32767, Reg::R15, 32768),
-        Target::Wild,
-    );
+    let t = operand(t, Maddr::MIndex(Reg::R15, 8, Reg::R15, 9), Target::Wild);
+    let t = operand(t, Maddr::MIndex(Reg::R15, 8, Reg::R15, -1000), Target::Wild);
     t
 }
 

@@ -15,13 +15,11 @@ use Rattle.machine.proofs.addressing.is_scale.Statement.{statement}
 use Rattle.machine.proofs.addressing.is_scale.Tie as tie
 
 below : (z : ℤ) → ltZ z (pos 1) ≡ true → false ≡ is-scale z
-unfolding is-scale
 below (pos zero) t = refl
 below (pos (suc n)) t = absurd (omega (arith, ltb-true (suc n) 1 t))
 below (negsuc n) t = refl
 
 one-or-two : (z : ℤ) → ltZ z (pos 1) ≡ false → ltZ z (pos 3) ≡ true → true ≡ is-scale z
-unfolding is-scale
 one-or-two (pos zero) t u = absurd (omega (arith, ltb-false 0 1 t))
 one-or-two (pos (suc zero)) t u = refl
 one-or-two (pos (suc (suc zero))) t u = refl
@@ -29,14 +27,12 @@ one-or-two (pos (suc (suc (suc n)))) t u = absurd (omega (arith, ltb-true (suc (
 one-or-two (negsuc n) t u = cc
 
 four-or-eight : (z : ℤ) → SFits w16 z → (ofZ w16 z ≡ 4) ⊎ (ofZ w16 z ≡ 8) → true ≡ is-scale z
-unfolding is-scale
 four-or-eight (pos n) f (inl e) = rw e refl
 four-or-eight (pos n) f (inr e) = rw e refl
 four-or-eight (negsuc n) f (inl e) = absurd (omega (arith, f .sfits))
 four-or-eight (negsuc n) f (inr e) = absurd (omega (arith, f .sfits))
 
 other : (z : ℤ) → ltZ z (pos 1) ≡ false → ltZ z (pos 3) ≡ false → ((ofZ w16 z ≡ 4) ⊎ (ofZ w16 z ≡ 8) → ⊥) → false ≡ is-scale z
-unfolding is-scale
 other (pos n) t u k =
     let h = ltb-false n 3 u in
     rw (ne-eqb n 1 (omega (arith, h)), ne-eqb n 2 (omega (arith, h)), ne-eqb n 4 (λ e. k (inl e)), ne-eqb n 8 (λ e. k (inr e))) refl
