@@ -1,5 +1,5 @@
-// Byte examples of checking code. Every number and place below was worked out by hand from document 01 and request 2026-02,
-// and none was taken from the checker: a group whose cases do not all agree prints FAILED.
+// Byte examples of checking code. Every number and place below was worked out by hand from document 01 and requests 2026-02 and
+// 2026-08, and none was taken from the checker: a group whose cases do not all agree prints FAILED.
 ghost use Prim.Native.Nat.{_*_, _≤_};
 use libc::STDOUT_FILENO;
 use machine::Checked;
@@ -130,11 +130,113 @@ fn registers() -> usize {
             2,
         )
         + miss(
-            b"\x08\x44\x00\x00\x00\x10\x00\x00\x00\x00\x00\x00\x00\x00",
+            b"\x08\x44\x00\x01\x00\x10\x00\x00\x00\x00\x00\x00\x00\x00",
             4,
             5,
         )
         + miss(b"\x22\x00\x00\x00\x00\x30\x41\x10\x41\x00", 4, 7)
+}
+
+// Mul64 of an MIndex with this scale, low byte first.
+fn miss_scale(low: u8, high: u8, number: u8, place: usize) -> usize
+    ensures { λ r. ⌜ r ≤ 1 ⌝ }
+{
+    let code = [0x08, 0x44, 0, low, high, 0, 0, 0, 0, 0, 0, 0, 0, 0];
+    miss(&code, number, place)
+}
+
+// 7: a scale is none of 1, 2, 4 and 8, the whole of its two bytes
+fn scales() -> usize {
+    miss_scale(0x01, 0x00, 0, 0)
+        + miss_scale(0x02, 0x00, 0, 0)
+        + miss_scale(0x04, 0x00, 0, 0)
+        + miss_scale(0x08, 0x00, 0, 0)
+        + miss_scale(0x00, 0x00, 7, 3)
+        + miss_scale(0x03, 0x00, 7, 3)
+        + miss_scale(0x05, 0x00, 7, 3)
+        + miss_scale(0x07, 0x00, 7, 3)
+        + miss_scale(0x09, 0x00, 7, 3)
+        + miss_scale(0x10, 0x00, 7, 3)
+        + miss_scale(0x00, 0x01, 7, 3)
+        + miss_scale(0x01, 0x01, 7, 3)
+        + miss_scale(0x08, 0x80, 7, 3)
+        + miss_scale(0x00, 0x80, 7, 3)
+        + miss_scale(0xff, 0x7f, 7, 3)
+        + miss_scale(0xff, 0xff, 7, 3)
+        + miss_scale(0xf8, 0xff, 7, 3)
+}
+
+// Mov64 of an MIndex with this base, scale and index, and of a register.
+fn miss_fields(base: u8, scale: u8, index: u8, source: u8, number: u8, place: usize) -> usize
+    ensures { λ r. ⌜ r ≤ 1 ⌝ }
+{
+    let code = [
+        0x01,
+        0x44,
+        base,
+        scale,
+        0,
+        index,
+        0,
+        0,
+        0,
+        0,
+        0,
+        0,
+        0,
+        0,
+        0x41,
+        source,
+    ];
+    miss(&code, number, place)
+}
+
+// Pinsrq of an MIndex with this scale, to this xmm.
+fn miss_insert(xmm: u8, scale: u8, number: u8, place: usize) -> usize
+    ensures { λ r. ⌜ r ≤ 1 ⌝ }
+{
+    let code = [0x17, xmm, 0, 0x44, 0, scale, 0, 0, 0, 0, 0, 0, 0, 0, 0, 0];
+    miss(&code, number, place)
+}
+
+// 4 and 7 in one record: the first in the order of its bytes
+fn field_order() -> usize {
+    miss_fields(0x0f, 8, 0x0f, 0x0f, 0, 0)
+        + miss_fields(0x10, 8, 0x0f, 0x0f, 4, 2)
+        + miss_fields(0x10, 3, 0x0f, 0x0f, 4, 2)
+        + miss_fields(0x0f, 3, 0x0f, 0x0f, 7, 3)
+        + miss_fields(0x0f, 3, 0x10, 0x0f, 7, 3)
+        + miss_fields(0x10, 3, 0x10, 0x10, 4, 2)
+        + miss_fields(0x0f, 1, 0x10, 0x0f, 4, 5)
+        + miss_fields(0x0f, 3, 0x0f, 0x10, 7, 3)
+        + miss_fields(0x0f, 1, 0x0f, 0x10, 4, 15)
+        + miss_insert(0x10, 3, 4, 1)
+        + miss_insert(0x0f, 3, 7, 5)
+        + miss_insert(0x0f, 4, 0, 0)
+}
+
+// 7 stands behind 3 and 2 of its own record, and ahead of what stands behind it
+fn scale_order() -> usize {
+    miss(
+        b"\x08\x44\x00\x03\x00\x00\x00\x00\x00\x00\x00\x00\x00",
+        3,
+        1,
+    )
+        + miss(
+            b"\x01\x45\x00\x03\x00\x00\x00\x00\x00\x00\x00\x00\x00\x00",
+            2,
+            1,
+        )
+        + miss(
+            b"\x08\x44\x00\x03\x00\x00\x00\x00\x00\x00\x00\x00\x00\x00\x00",
+            7,
+            3,
+        )
+        + miss(
+            b"\x22\xff\x00\x00\x00\x30\x44\x00\x00\x01\x00\x00\x00\x00\x00\x00\x00\x00\x00\x41\x00",
+            7,
+            8,
+        )
 }
 
 // 6: a stated length is too great
@@ -296,7 +398,26 @@ fn report_numbers_and_lengths() {
     );
 }
 
+fn report_scales() {
+    report(
+        scales(),
+        b"7, scales: as expected\n",
+        b"7, scales: FAILED\n",
+    );
+    report(
+        field_order(),
+        b"4 and 7 in one record: as expected\n",
+        b"4 and 7 in one record: FAILED\n",
+    );
+    report(
+        scale_order(),
+        b"7 and other trouble: as expected\n",
+        b"7 and other trouble: FAILED\n",
+    );
+}
+
 fn main() {
     report_kinds_and_cuts();
     report_numbers_and_lengths();
+    report_scales();
 }

@@ -1,1 +1,2 @@
 pub mod Sums
+pub mod Marked

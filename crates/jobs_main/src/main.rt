@@ -2,6 +2,7 @@
 // both evaluations, with the word and the flags that are stored. What is expected is of the separately written evaluator in
 // compare/, whose README says how the files are made. A line that does not say "N of N" is an error.
 
+mod marked;
 mod part;
 mod sums;
 mod tally;
@@ -9,6 +10,8 @@ mod tally;
 ghost use mathlib.Core.Path.{_≡_};
 ghost use mathlib.Core.Bool.{true};
 ghost use Rattle.job.specs.Job.{output};
+use marked::is_marked;
+use marked::refuses_scale;
 use part::read_part;
 use tally::Tally;
 use tally::counted;
@@ -21,6 +24,7 @@ const MOST: u64 = 100_000;
 // What a file holds.
 enum Holds {
     Jobs,
+    Marked,
     Sums,
 }
 
@@ -57,6 +61,20 @@ fn try_job(fd: i32, tally: Tally) -> Trial {
     Trial::Made(counted(tally, agrees(&input[..n], &text[..m])))
 }
 
+// Tries the file's next job of last year's rule: it is refused for its scale, and where today's text says.
+fn try_marked(fd: i32, tally: Tally) -> Trial {
+    let mut input = io::large_buffer();
+    let mut text = io::large_buffer();
+    let n = read_part(fd, &mut input);
+    read_part(fd, &mut text);
+    let m = read_part(fd, &mut text);
+    if m == 0 {
+        return Trial::End;
+    }
+    let agree = refuses_scale(&text[..m]) && agrees(&input[..n], &text[..m]);
+    Trial::Made(counted(tally, agree))
+}
+
 // Tries the file's next sum.
 fn try_sum(fd: i32, tally: Tally) -> Trial {
     let mut row = [0u8; sums::ROW];
@@ -70,6 +88,7 @@ fn try_sum(fd: i32, tally: Tally) -> Trial {
 fn try_next(fd: i32, holds: Holds, tally: Tally) -> Trial {
     match holds {
         Holds::Jobs => try_job(fd, tally),
+        Holds::Marked => try_marked(fd, tally),
         Holds::Sums => try_sum(fd, tally),
     }
 }
@@ -87,9 +106,17 @@ fn try_all(fd: i32, holds: Holds) -> Tally {
     tally
 }
 
+// Whether a file begins as one of its kind does.
+fn begins(fd: i32, holds: Holds) -> bool {
+    match holds {
+        Holds::Marked => is_marked(fd),
+        _ => true,
+    }
+}
+
 fn try_file(name: &[u8], holds: Holds) {
     let fd = os::open_read(name);
-    if fd < 0 {
+    if fd < 0 || !begins(fd, holds) {
         os::fail(name);
         return;
     }
@@ -100,5 +127,7 @@ fn try_file(name: &[u8], holds: Holds) {
 fn main() {
     try_file(b"systematic", Holds::Jobs);
     try_file(b"random", Holds::Jobs);
+    try_file(b"scales", Holds::Jobs);
+    try_file(b"last-years-rule", Holds::Marked);
     try_file(b"sums", Holds::Sums);
 }

@@ -1,0 +1,19 @@
+-- `same` compares the front of the text with these ten bytes.
+use mathlib.Core.Path.{sym}
+use mathlib.Core.Bool.{false≢true}
+use borrow.Author.Needs.{needs}
+use denote.Ref.{now}
+use lib.Seq.{length-take-le}
+use Rattle.jobs_main.proofs.marked.refuses_scale.Statement.{statement}
+use Rattle.jobs_main.proofs.marked.refuses_scale.Tie as tie
+
+returns : tie.Need-returns
+returns c = λ e. absurd (false≢true e)
+
+returns-2 : tie.Need-returns-2
+returns-2 c = c .same .ensures .0
+
+pub refuses-scale-spec : {M : Type 1} → statement M
+refuses-scale-spec =
+    tie.close
+    (tie.spec returns (λ c. sym (length-take-le 10 (now (c .before .before .before .args .text)) (c .before .if1 .left))) (λ c. search needs) (λ c κs. search needs) returns-2)
