@@ -145,13 +145,16 @@ fn miss_scale(low: u8, high: u8, number: u8, place: usize) -> usize
     miss(&code, number, place)
 }
 
-// 7: a scale is none of 1, 2, 4 and 8, the whole of its two bytes
-fn scales() -> usize {
+fn right_scales() -> usize {
     miss_scale(0x01, 0x00, 0, 0)
         + miss_scale(0x02, 0x00, 0, 0)
         + miss_scale(0x04, 0x00, 0, 0)
         + miss_scale(0x08, 0x00, 0, 0)
-        + miss_scale(0x00, 0x00, 7, 3)
+}
+
+// 7: a scale is none of 1, 2, 4 and 8, the whole of its two bytes
+fn wrong_scales() -> usize {
+    miss_scale(0x00, 0x00, 7, 3)
         + miss_scale(0x03, 0x00, 7, 3)
         + miss_scale(0x05, 0x00, 7, 3)
         + miss_scale(0x07, 0x00, 7, 3)
@@ -400,7 +403,12 @@ fn report_numbers_and_lengths() {
 
 fn report_scales() {
     report(
-        scales(),
+        right_scales(),
+        b"the four scales: as expected\n",
+        b"the four scales: FAILED\n",
+    );
+    report(
+        wrong_scales(),
         b"7, scales: as expected\n",
         b"7, scales: FAILED\n",
     );
