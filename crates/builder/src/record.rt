@@ -176,8 +176,10 @@ fn maddr_trouble(m: Maddr) -> u8
         Maddr::MConst(_) => 0,
         Maddr::MReg(r, _) => number_trouble(r.number),
         Maddr::MIndex(base, scale, index, _) => {
-            let behind = first_of(scale_trouble(scale), number_trouble(index.number));
-            first_of(number_trouble(base.number), behind)
+            let of_scale = scale_trouble(scale);
+            let of_index = number_trouble(index.number);
+            let behind_base = first_of(of_scale, of_index);
+            first_of(number_trouble(base.number), behind_base)
         }
     }
 }
