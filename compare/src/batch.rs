@@ -7,8 +7,10 @@ use crate::fills;
 use crate::generate::batch_bytes;
 use crate::job::parse;
 use crate::limits;
+use crate::reader::Rule;
 use crate::rng::Rng;
-use crate::run::{accept, Followed};
+use crate::rules;
+use crate::run::{accept_by, Followed};
 use crate::tally::Tally;
 use crate::target::Target;
 use crate::terms::Evaluation::Base;
@@ -24,7 +26,7 @@ pub fn run(jobs: u64, seed: u64, target: &mut dyn Target) -> Result<Tally, Strin
     for index in 0..jobs {
         let bytes = batch_bytes(seed, index);
         let named = |what: String| describe(seed, index, &bytes, &what);
-        let own = own_answer(&bytes, seed ^ index, &mut tally).map_err(named)?;
+        let own = own_answer(Rule::Today, &bytes, seed ^ index, &mut tally).map_err(named)?;
         let text = render(&own);
         let answer = target.answer(&bytes);
         if answer.as_deref() != Ok(text.as_bytes()) {
@@ -68,19 +70,48 @@ fn on_terms(
 
 /// What a batch of some length has to meet and did not.
 pub fn missing(tally: &Tally) -> Vec<String> {
-    let (limits, fills) = (tally.limits.missing(), tally.fills.missing());
-    [tally.missing(), limits, tally.board.missing(), fills].concat()
+    [
+        tally.missing(),
+        tally.limits.missing(),
+        tally.board.missing(),
+        tally.fills.missing(),
+        tally.scales.missing(),
+    ]
+    .concat()
 }
 
-/// This evaluator's outcome as the job program's, with the checks inside it.
-pub fn own_answer(bytes: &[u8], salt: u64, tally: &mut Tally) -> Result<Outcome, String> {
+/// This evaluator's outcome as the job program's, with the checks inside it. Last
+/// year's rule is held to today's where that one is asked for.
+pub fn own_answer(
+    rule: Rule,
+    bytes: &[u8],
+    salt: u64,
+    tally: &mut Tally,
+) -> Result<Outcome, String> {
+    let outcome = checked_answer(rule, bytes, salt, tally)?;
+    if rule == Rule::Today {
+        rules::agree(bytes, &outcome).map_err(|e| format!("inner check, rules: {e}"))?;
+    }
+    Ok(outcome)
+}
+
+fn checked_answer(
+    rule: Rule,
+    bytes: &[u8],
+    salt: u64,
+    tally: &mut Tally,
+) -> Result<Outcome, String> {
     let job = match parse(bytes) {
         Ok(job) => job,
         Err(trouble) => return Ok(Outcome::refused(trouble)),
     };
-    let code = match accept(&job) {
+    let code = match accept_by(rule, &job) {
         Ok(code) => code,
-        Err(trouble) => return Ok(Outcome::refused(trouble)),
+        Err(trouble) => {
+            let refused = Outcome::refused(trouble);
+            tally.scales.refused(&job.code, &refused.answer);
+            return Ok(refused);
+        }
     };
     if job.to_bytes() != bytes || crate::writer::write(&code) != job.code {
         return Err("writing what was read gives other bytes".to_string());
@@ -89,8 +120,10 @@ pub fn own_answer(bytes: &[u8], salt: u64, tally: &mut Tally) -> Result<Outcome,
         outcome,
         followed,
         met,
+        completed,
         ..
     } = checked_run(&job, &code, Base, salt)?;
+    tally.scales.ran(&code, &completed);
     tally.followed += followed;
     tally.steps += outcome.steps;
     for (sum, count) in tally.met.iter_mut().zip(met) {

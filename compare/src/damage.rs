@@ -2,7 +2,7 @@
 
 use crate::cells::{Cell, MOST};
 use crate::job::{Job, CELL, HEAD, LONGEST};
-use crate::reader;
+use crate::reader::{self, Rule};
 use crate::rng::Rng;
 use crate::tree::{Code, Node};
 
@@ -12,14 +12,14 @@ const KINDS: [u8; 20] = [
     0x36, 0x40, 0x44, 0x45,
 ];
 
-pub fn code(rng: &mut Rng, bytes: &mut Vec<u8>) {
+pub fn code(rule: Rule, rng: &mut Rng, bytes: &mut Vec<u8>) {
     let times = rng.pick(&[1, 1, 1, 2, 3]);
     for _ in 0..times {
-        damage_once(rng, bytes);
+        damage_once(rule, rng, bytes);
     }
 }
 
-fn damage_once(rng: &mut Rng, bytes: &mut Vec<u8>) {
+fn damage_once(rule: Rule, rng: &mut Rng, bytes: &mut Vec<u8>) {
     let at = rng.below(bytes.len() + 1);
     let byte = rng.edge_byte();
     match rng.below(12) {
@@ -36,7 +36,7 @@ fn damage_once(rng: &mut Rng, bytes: &mut Vec<u8>) {
             bytes.splice(at..at, copy);
         }
         9 => raise_number(rng, bytes),
-        _ => lengths(rng, bytes),
+        _ => lengths(rule, rng, bytes),
     }
 }
 
@@ -71,9 +71,10 @@ fn raise_number(rng: &mut Rng, bytes: &mut [u8]) {
     }
 }
 
-/// Sets a length off by a little, by much, or moves it between two parts.
-pub fn lengths(rng: &mut Rng, bytes: &mut [u8]) {
-    let Ok(tree) = reader::read(bytes) else {
+/// Sets a length off by a little, by much, or moves it between two parts, where
+/// the rule accepts the code.
+pub fn lengths(rule: Rule, rng: &mut Rng, bytes: &mut [u8]) {
+    let Ok(tree) = reader::read_by(rule, bytes) else {
         return;
     };
     let mut fields = Vec::new();
@@ -178,8 +179,7 @@ fn to_the_top(rng: &mut Rng, cells: &mut [Cell]) {
 }
 
 /// A whole job's bytes cut short, made longer, or with another count.
-pub fn bytes(rng: &mut Rng, turn: usize, base: fn(&mut Rng) -> Job) -> Vec<u8> {
-    let job = base(rng);
+pub fn bytes(rng: &mut Rng, turn: usize, job: &Job) -> Vec<u8> {
     let mut bytes = job.to_bytes();
     let code_at = HEAD + CELL * job.cells.len();
     let count = job.cells.len() as u16;

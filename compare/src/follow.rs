@@ -6,6 +6,7 @@ use crate::sums::SumLog;
 use crate::terms::Terms;
 use crate::tree::INSTRUCTION_KINDS;
 use crate::watch::Reads;
+use std::collections::BTreeSet;
 
 #[derive(Clone, Copy, Debug, PartialEq, Eq)]
 pub enum Event {
@@ -91,6 +92,9 @@ pub struct Follow {
     pub steps_made: u64,
     /// Reads of open flags; those that count were completed ahead of any bad event.
     pub reads: Reads,
+    /// The place of what comes next, and the places of all that made a step.
+    next: usize,
+    pub completed: BTreeSet<usize>,
     /// How often each instruction was followed, by its number less 1.
     pub met: [u64; INSTRUCTION_KINDS],
     /// The sums that were completed.
@@ -116,6 +120,8 @@ impl Follow {
             followed: 0,
             steps_made: 0,
             reads: Reads::default(),
+            next: 0,
+            completed: BTreeSet::new(),
             met: [0; INSTRUCTION_KINDS],
             sums: SumLog::default(),
             least_fuel: u64::MAX,
@@ -131,6 +137,7 @@ impl Follow {
     /// limit is judged: behind a loop's test of fuel, ahead of the checks.
     pub fn comes_next(&mut self, place: usize, s: &State) -> Result<(), Stop> {
         self.followed += 1;
+        self.next = place;
         self.reads.comes_next();
         self.over_budget = self.followed > self.settings.budget;
         if self.over_budget {
@@ -148,6 +155,7 @@ impl Follow {
         self.may_go_on()?;
         if self.log.bad.is_empty() {
             self.steps_made += 1;
+            self.completed.insert(self.next);
             self.reads.completes();
         }
         Ok(())

@@ -3,11 +3,13 @@
 
 use crate::build::block;
 use crate::damage;
+use crate::generate_scales;
 use crate::generate_sums;
 use crate::generate_watch;
 use crate::job::Job;
 use crate::large;
 use crate::nest;
+use crate::reader::Rule;
 use crate::rng::Rng;
 use crate::scene::Scene;
 use crate::settle::{job_of, settled, settled_bytes, with_fuel};
@@ -18,38 +20,40 @@ use crate::tree::*;
 
 const FAMILIES: u64 = 40;
 
-/// The bytes of a batch's job number `index`: those of `job_bytes`, but that some
-/// families are about sums or open flags, and that a run on the board ends soon
-/// enough too. Sets that were stored before there was a board are chosen from
-/// `job_bytes`, so those stay as they are.
+/// The bytes of a batch's job number `index`: those of `job_bytes` by today's rule,
+/// but that some families are about sums, open flags or scales, and that a run on the
+/// board ends soon enough too. Sets that were stored before there was a board are
+/// chosen from `job_bytes` by last year's rule, so those stay as they are.
 pub fn batch_bytes(seed: u64, index: u64) -> Vec<u8> {
     let bytes = match index % FAMILIES {
+        0 | 4 | 8 | 12 | 16 => generate_scales::job(&mut Rng::of_job(seed, index)).to_bytes(),
         1 | 5 | 9 | 13 | 17 => generate_watch::job(&mut Rng::of_job(seed, index)).to_bytes(),
         3 | 7 | 11 | 15 | 19 => generate_sums::job(&mut Rng::of_job(seed, index)).to_bytes(),
-        _ => job_bytes(seed, index),
+        _ => job_bytes(Rule::Today, seed, index),
     };
-    settled_bytes(Evaluation::Board, bytes)
+    settled_bytes(Rule::Today, Evaluation::Board, bytes)
 }
 
-/// The bytes of job number `index`.
-pub fn job_bytes(seed: u64, index: u64) -> Vec<u8> {
+/// The bytes of job number `index`, drawn by a rule: by last year's, its scales are
+/// any, and the job is what it was then.
+pub fn job_bytes(rule: Rule, seed: u64, index: u64) -> Vec<u8> {
     let mut rng = Rng::of_job(seed, index);
     let turn = (index / FAMILIES) as usize;
     match index % FAMILIES {
-        23..=25 => legal(&mut rng, &[10, 30, 60, 100]).to_bytes(),
-        26 | 27 => damaged(&mut rng, true, false).to_bytes(),
-        28 => lengths_off(&mut rng).to_bytes(),
-        21 => missing(&mut rng, turn).to_bytes(),
-        22 | 29 | 33 => settled(nest::fragment(&mut rng)).to_bytes(),
-        30 | 31 => settled(sweep::job(&mut rng, index)).to_bytes(),
-        32 => cells_at_edges(&mut rng, turn).to_bytes(),
-        34 => settled_bytes(Evaluation::Base, damage::bytes(&mut rng, turn, base)),
-        35 => settled(nest::job(&mut rng, turn)).to_bytes(),
-        36 => endless(&mut rng).to_bytes(),
-        37 => faulting(&mut rng, turn).to_bytes(),
-        38 => damaged(&mut rng, turn & 1 == 0, true).to_bytes(),
-        39 if turn % 10 == 3 => large::bytes(&mut rng, turn / 10),
-        _ => base(&mut rng).to_bytes(),
+        23..=25 => legal(rule, &mut rng, &[10, 30, 60, 100]).to_bytes(),
+        26 | 27 => damaged(rule, &mut rng, true, false).to_bytes(),
+        28 => lengths_off(rule, &mut rng).to_bytes(),
+        21 => missing(rule, &mut rng, turn).to_bytes(),
+        22 | 29 | 33 => settled(rule, nest::fragment(rule, &mut rng)).to_bytes(),
+        30 | 31 => settled(rule, sweep::job(rule, &mut rng, index)).to_bytes(),
+        32 => cells_at_edges(rule, &mut rng, turn).to_bytes(),
+        34 => bytes_off(rule, &mut rng, turn),
+        35 => settled(rule, nest::job(&mut rng, turn)).to_bytes(),
+        36 => endless(rule, &mut rng).to_bytes(),
+        37 => faulting(rule, &mut rng, turn).to_bytes(),
+        38 => damaged(rule, &mut rng, turn & 1 == 0, true).to_bytes(),
+        39 if turn % 10 == 3 => large::bytes(rule, &mut rng, turn / 10),
+        _ => base(rule, &mut rng).to_bytes(),
     }
 }
 
@@ -58,15 +62,15 @@ pub fn fork(rng: &mut Rng) -> Rng {
 }
 
 /// A legal job that mostly runs to its end.
-pub fn base(rng: &mut Rng) -> Job {
-    legal(rng, &[0, 0, 0, 0, 0, 2, 10, 40])
+fn base(rule: Rule, rng: &mut Rng) -> Job {
+    legal(rule, rng, &[0, 0, 0, 0, 0, 2, 10, 40])
 }
 
 /// A legal job; the fuel stands at, below or above what it needs. `wild` is
 /// what the share of wild choices is drawn from.
-fn legal(rng: &mut Rng, wild: &[usize]) -> Job {
+fn legal(rule: Rule, rng: &mut Rng, wild: &[usize]) -> Job {
     let wild = rng.pick(wild);
-    let mut scene = Scene::new(fork(rng), wild);
+    let mut scene = Scene::new(rule, fork(rng), wild);
     let size = rng.pick(&[1, 2, 4, 8, 16, 24, 40, 60, 90]);
     let depth = rng.pick(&[0, 1, 2, 3, 4, 6, 9]);
     let code = if rng.percent(15) {
@@ -77,33 +81,38 @@ fn legal(rng: &mut Rng, wild: &[usize]) -> Job {
     with_fuel(rng, scene, &code)
 }
 
-fn damaged(rng: &mut Rng, code: bool, cells: bool) -> Job {
-    let mut job = base(rng);
+fn damaged(rule: Rule, rng: &mut Rng, code: bool, cells: bool) -> Job {
+    let mut job = base(rule, rng);
     if code {
-        damage::code(rng, &mut job.code);
+        damage::code(rule, rng, &mut job.code);
     }
     if cells {
         let kind = rng.below(8);
         damage::cells(rng, &mut job.cells, kind);
     }
-    settled(job)
+    settled(rule, job)
 }
 
-fn lengths_off(rng: &mut Rng) -> Job {
-    let mut job = base(rng);
-    damage::lengths(rng, &mut job.code);
-    settled(job)
+fn lengths_off(rule: Rule, rng: &mut Rng) -> Job {
+    let mut job = base(rule, rng);
+    damage::lengths(rule, rng, &mut job.code);
+    settled(rule, job)
 }
 
-fn cells_at_edges(rng: &mut Rng, turn: usize) -> Job {
-    let mut job = base(rng);
+fn cells_at_edges(rule: Rule, rng: &mut Rng, turn: usize) -> Job {
+    let mut job = base(rule, rng);
     damage::cells(rng, &mut job.cells, turn);
-    settled(job)
+    settled(rule, job)
 }
 
-fn endless(rng: &mut Rng) -> Job {
+fn bytes_off(rule: Rule, rng: &mut Rng, turn: usize) -> Vec<u8> {
+    let job = base(rule, rng);
+    settled_bytes(rule, Evaluation::Base, damage::bytes(rng, turn, &job))
+}
+
+fn endless(rule: Rule, rng: &mut Rng) -> Job {
     let wild = rng.pick(&[0, 0, 20]);
-    let mut scene = Scene::new(fork(rng), wild);
+    let mut scene = Scene::new(rule, fork(rng), wild);
     let mut codes = scene.codes(3, 2);
     let inner = rng.below(3);
     for _ in 0..=inner {
@@ -112,21 +121,23 @@ fn endless(rng: &mut Rng) -> Job {
     }
     codes.extend(scene.codes(2, 1));
     let fuel = rng.below(16) as u32;
-    settled(job_of(scene, &block(codes), fuel))
+    settled(rule, job_of(scene, &block(codes), fuel))
 }
 
 /// Code that runs for a while and then meets one chosen fault.
-fn faulting(rng: &mut Rng, turn: usize) -> Job {
-    around(rng, |scene| Code::unplaced(Node::Ins(fault(scene, turn))))
+fn faulting(rule: Rule, rng: &mut Rng, turn: usize) -> Job {
+    around(rule, rng, |scene| {
+        Code::unplaced(Node::Ins(fault(scene, turn)))
+    })
 }
 
-fn missing(rng: &mut Rng, turn: usize) -> Job {
-    around(rng, |scene| scene.miss(turn))
+fn missing(rule: Rule, rng: &mut Rng, turn: usize) -> Job {
+    around(rule, rng, |scene| scene.miss(turn))
 }
 
 /// Sound code, then what is to be met, then some more.
-fn around(rng: &mut Rng, met: impl Fn(&mut Scene) -> Code) -> Job {
-    let mut scene = Scene::new(fork(rng), 0);
+fn around(rule: Rule, rng: &mut Rng, met: impl Fn(&mut Scene) -> Code) -> Job {
+    let mut scene = Scene::new(rule, fork(rng), 0);
     let size = rng.below(10);
     let mut codes = scene.codes(size, 3);
     codes.push(met(&mut scene));

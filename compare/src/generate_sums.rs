@@ -5,6 +5,7 @@
 use crate::build::{at_reg, block, if_else, ins, number, reg, repeat};
 use crate::generate::fork;
 use crate::job::Job;
+use crate::reader::Rule;
 use crate::rng::Rng;
 use crate::scene::Scene;
 use crate::settle::{fuelled, job_of, settled};
@@ -15,7 +16,7 @@ use Relation::{Eq, Ne};
 
 pub fn job(rng: &mut Rng) -> Job {
     let wild = rng.pick(&[0, 0, 0, 0, 5, 20]);
-    let mut scene = Scene::new(fork(rng), wild);
+    let mut scene = Scene::new(Rule::Today, fork(rng), wild);
     let mut codes = Vec::new();
     for _ in 0..=rng.below(6) {
         codes.push(scene.about_sums());
@@ -23,7 +24,7 @@ pub fn job(rng: &mut Rng) -> Job {
     codes.extend(scene.codes(rng.below(4), 2));
     let evaluation = rng.pick(&EVALUATIONS);
     let job = job_of(scene, &block(codes), 0);
-    settled(fuelled(rng, job, evaluation))
+    settled(Rule::Today, fuelled(Rule::Today, rng, job, evaluation))
 }
 
 // Words and flags.

@@ -6,6 +6,7 @@
 use crate::build::{block, if_else, ins, number, reg, repeat};
 use crate::generate::fork;
 use crate::job::Job;
+use crate::reader::Rule;
 use crate::rng::Rng;
 use crate::scene::Scene;
 use crate::settle::{fuelled, job_of, settled};
@@ -26,7 +27,7 @@ const READERS: [OfTwo; 3] = [AddCarry64, Adcx64, Adox64];
 
 pub fn job(rng: &mut Rng) -> Job {
     let wild = rng.pick(&[0, 0, 0, 0, 0, 10]);
-    let mut scene = Scene::new(fork(rng), wild);
+    let mut scene = Scene::new(Rule::Today, fork(rng), wild);
     let quiet = rng.percent(50);
     let mut codes = Vec::new();
     for _ in 0..rng.below(4) {
@@ -35,7 +36,7 @@ pub fn job(rng: &mut Rng) -> Job {
     codes.push(scene.ending(quiet));
     let evaluation = rng.pick(&EVALUATIONS);
     let job = job_of(scene, &block(codes), 0);
-    settled(fuelled(rng, job, evaluation))
+    settled(Rule::Today, fuelled(Rule::Today, rng, job, evaluation))
 }
 
 // Rows.

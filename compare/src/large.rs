@@ -4,7 +4,7 @@
 use crate::build::block;
 use crate::cells::{Cell, MOST};
 use crate::job::Job;
-use crate::reader::LONGEST;
+use crate::reader::{Rule, LONGEST};
 use crate::rng::Rng;
 use crate::scene::Scene;
 use crate::settle::{job_of, settled};
@@ -12,7 +12,7 @@ use crate::tree::Instruction::*;
 use crate::tree::*;
 use crate::writer::write;
 
-pub fn bytes(rng: &mut Rng, turn: usize) -> Vec<u8> {
+pub fn bytes(rule: Rule, rng: &mut Rng, turn: usize) -> Vec<u8> {
     let (cells, length, extra) = match turn % 6 {
         0 => (MOST, LONGEST, 0),
         1 => (MOST, LONGEST, 1),
@@ -21,13 +21,13 @@ pub fn bytes(rng: &mut Rng, turn: usize) -> Vec<u8> {
         4 => (MOST, 2_000, 0),
         _ => (3, LONGEST, 0),
     };
-    let mut job = long_job(rng, cells, length);
+    let mut job = long_job(rule, rng, cells, length);
     job.code.extend(vec![0; extra]);
     job.to_bytes()
 }
 
-fn long_job(rng: &mut Rng, cells: usize, length: usize) -> Job {
-    let mut scene = Scene::new(Rng::new(rng.word()), 0);
+fn long_job(rule: Rule, rng: &mut Rng, cells: usize, length: usize) -> Job {
+    let mut scene = Scene::new(rule, Rng::new(rng.word()), 0);
     scene.memory = 3;
     scene.cells = many_cells(rng, cells);
     scene.data_cells = scene
@@ -40,7 +40,7 @@ fn long_job(rng: &mut Rng, cells: usize, length: usize) -> Job {
     scene.counters.retain(|c| matches!(c, Operand::Reg(_)));
     let code = long_code(&mut scene, length);
     let fuel = rng.pick(&[20, 20, 100, 1]);
-    settled(job_of(scene, &code, fuel))
+    settled(rule, job_of(scene, &code, fuel))
 }
 
 fn many_cells(rng: &mut Rng, count: usize) -> Vec<Cell> {

@@ -1,5 +1,5 @@
 //! An evaluator and a builder written apart from the port, from document 01,
-//! requests 2026-01 to 2026-07 and the F* text (the README says what else was
+//! requests 2026-01 to 2026-08 and the F* text (the README says what else was
 //! seen), and their comparison with it.
 
 // Calls of the linked port are the only ones that Rust cannot check.
@@ -7,6 +7,7 @@
 #![deny(unsafe_code)]
 
 mod answer;
+mod archive;
 mod batch;
 mod board;
 mod board_tally;
@@ -28,6 +29,7 @@ mod flags;
 mod follow;
 mod generate;
 mod generate_code;
+mod generate_scales;
 mod generate_sums;
 mod generate_watch;
 mod instructions;
@@ -43,7 +45,9 @@ mod other;
 mod places;
 mod reader;
 mod rng;
+mod rules;
 mod run;
+mod scale_tally;
 mod scene;
 mod selfcheck;
 mod settle;
@@ -68,7 +72,8 @@ mod watch;
 mod watch_table;
 mod writer;
 
-use crate::target::{Own, Process, Target};
+use crate::reader::Rule;
+use crate::target::{LastYear, Own, Process, Target};
 use std::fs;
 use std::io::Write;
 use std::process::ExitCode;
@@ -81,8 +86,9 @@ compare sums PROGRAM             compare sums by both evaluations, and jobs on t
 compare watched PROGRAM          compare systematic jobs with several fill words
 compare selfcheck                the examples of document 01, and P2 on the board
 compare store N SEED DIR         write a stored set of N jobs to DIR/jobs.txt
-compare systematic DIR           write the systematic set to DIR/systematic
-compare stored N SEED DIR        the same, and N generated jobs to DIR/random
+compare systematic DIR           write the systematic jobs to DIR/systematic and scales
+compare stored N SEED DIR        the same, N jobs drawn as last year to DIR/random, and
+                                 what is refused of last year's to DIR/last-years-rule
 compare check FILE PROGRAM       run a stored set through a program
 compare store-sums DIR           write sums and their ends to DIR/sums
 compare make SEED INDEX JOBFILE  write one generated job
@@ -91,8 +97,10 @@ compare store-builds DIR         write stored lists to DIR/systematic and random
 compare cells N SEED [CHECKER]   compare N generated lists of cells, and their splits
 PROGRAM is a path with arguments, or `self` for this evaluator, or (built
 with the feature c_target) `c` for the port linked in; for `limited`, `sums`
-and `watched` only these two. BUILDER is `c`, or `self` for the rule over a build's
-fields; CHECKER is `c`, or `self` for one that looks back at the cell before.";
+and `watched` only these two; for `check` also `last-year` for this evaluator by
+last year's rule, of which the texts that are marked as such are demanded. BUILDER
+is `c`, or `self` for the rule over a build's fields; CHECKER is `c`, or `self`
+for one that looks back at the cell before.";
 
 fn main() -> ExitCode {
     let words: Vec<String> = std::env::args().skip(1).collect();
@@ -116,14 +124,13 @@ fn command(words: &[String]) -> Result<(), String> {
         ["store-sums", dir] => write_sums(dir),
         ["selfcheck"] => selfcheck::all().map(|n| println!("{n} examples hold")),
         ["store", n, seed, dir] => {
-            let stored = store::choose(number(n)? as usize, seed_of(seed)?)?;
+            let stored = store::choose(Rule::Today, number(n)? as usize, seed_of(seed)?)?;
             write_set(dir, "jobs.txt", store::as_text(&stored).as_bytes())
         }
         ["systematic", dir] => write_systematic(dir),
         ["stored", n, seed, dir] => {
             write_systematic(dir)?;
-            let chosen = store::choose(number(n)? as usize, number(seed)?)?;
-            write_set(dir, "random", &store::as_bytes(&chosen))
+            write_last_years(dir, number(n)? as usize, number(seed)?)
         }
         ["check", file, _, ..] => check_set(file, &words[2..]),
         ["make", seed, index, file] => {
@@ -263,9 +270,20 @@ fn write_builds(dir: &str, name: &str, (stored, count): builder::Stored) -> Resu
 }
 
 fn write_systematic(dir: &str) -> Result<(), String> {
-    let records = systematic::records()?;
-    write_set(dir, "systematic", &store::as_bytes(&records))?;
-    println!("{} systematic jobs", records.len());
+    let systematic::Records { systematic, scales } = systematic::records()?;
+    write_set(dir, "systematic", &store::as_bytes(&systematic))?;
+    write_set(dir, "scales", &store::as_bytes(&scales))?;
+    println!("{} systematic jobs", systematic.len());
+    println!("{} jobs about scales", scales.len());
+    Ok(())
+}
+
+fn write_last_years(dir: &str, count: usize, seed: u64) -> Result<(), String> {
+    let archive::LastYears { random, archived } = archive::last_years(count, seed)?;
+    write_set(dir, "random", &store::as_bytes(&random))?;
+    write_set(dir, "last-years-rule", &archive::as_bytes(&archived))?;
+    println!("{} random jobs", random.len());
+    println!("{} jobs by last year's rule", archived.len());
     Ok(())
 }
 
@@ -277,8 +295,11 @@ fn write_set(dir: &str, name: &str, stored: &[u8]) -> Result<(), String> {
 
 fn check_set(file: &str, program: &[String]) -> Result<(), String> {
     let stored = fs::read(file).map_err(|e| format!("{file}: {e}"))?;
-    let records = store::parse(&stored)?;
-    let mut target = target_of(program)?;
+    let (rule, mut target): (Rule, Box<dyn Target>) = match program {
+        [name] if name == "last-year" => (Rule::LastYear, Box::new(LastYear)),
+        _ => (Rule::Today, target_of(program)?),
+    };
+    let records = store::parse(&stored, rule)?;
     store::check(&records, target.as_mut())?;
     println!("{} stored jobs answered alike", records.len());
     Ok(())

@@ -3,7 +3,7 @@
 
 use crate::damage::number_places;
 use crate::job::Job;
-use crate::reader::DEEPEST;
+use crate::reader::{Rule, DEEPEST};
 use crate::rng::Rng;
 use crate::scene::Scene;
 use crate::state::Start;
@@ -40,8 +40,8 @@ fn bare_job(rng: &mut Rng, code: Vec<u8>) -> Job {
 
 /// One code with numbers out of range, cut short or followed by more, in
 /// parts that end just where it does or one byte off.
-pub fn fragment(rng: &mut Rng) -> Job {
-    let mut scene = Scene::new(Rng::new(rng.word()), 0);
+pub fn fragment(rule: Rule, rng: &mut Rng) -> Job {
+    let mut scene = Scene::new(rule, Rng::new(rng.word()), 0);
     let size = rng.pick(&[1, 1, 1, 1, 2, 3]);
     let mut code = write(&scene.code(size, 2));
     spoil(rng, &mut code);

@@ -1,6 +1,7 @@
 //! Operands for generated code.
 
 use crate::cells::Cell;
+use crate::reader::Rule;
 use crate::scene::Scene;
 use crate::tree::*;
 
@@ -37,7 +38,10 @@ impl Scene {
     /// Any fields at all, over any registers.
     fn stray_memory(&mut self) -> Operand {
         let (a, b) = (self.rng.below(16) as Reg, self.rng.below(16) as Reg);
-        let scale = self.rng.edge_word() as i16;
+        let scale = match self.rule {
+            Rule::Today => self.rng.scale(),
+            Rule::LastYear => self.rng.edge_word() as i16,
+        };
         let offset = self.rng.edge_word() as i64;
         Operand::Mem(match self.rng.below(3) {
             0 => Maddr::Const(offset as u64),
@@ -61,9 +65,19 @@ impl Scene {
                 return Operand::Mem(m);
             }
         }
-        // A register less itself is 0, whatever it holds.
-        let (r, below) = (self.pointer(), self.rng.below(16) as i64);
-        Operand::Mem(Maddr::Index(r, -1, r, -1 - below))
+        let (r, by) = (self.pointer(), self.rng.below(16) as i64);
+        Operand::Mem(self.surely_outside(r, by))
+    }
+
+    /// Last year a register less itself was 0, whatever it held. Today the lower
+    /// half is left downwards by the offset, the upper one by twice the register.
+    fn surely_outside(&self, r: Reg, by: i64) -> Maddr {
+        let held = i64::try_from(self.start.regs[usize::from(r)]);
+        match (self.rule, held) {
+            (Rule::LastYear, _) => Maddr::Index(r, -1, r, -1 - by),
+            (Rule::Today, Ok(low)) => Maddr::Reg(r, (-1 - by).saturating_sub(low)),
+            (Rule::Today, Err(_)) => Maddr::Index(r, 1, r, by),
+        }
     }
 
     /// Memory in the 64-bit range without a 64-bit cell.

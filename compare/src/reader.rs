@@ -1,6 +1,7 @@
 //! Checking code: the bytes become a tree, or the first trouble is named with
 //! its number and its place.
 
+use crate::places::Next;
 use crate::tree::Instruction::*;
 use crate::tree::*;
 
@@ -15,22 +16,70 @@ pub struct Trouble {
 
 type Read<T> = Result<T, Trouble>;
 
+/// Which scales an MIndex may have.
+#[derive(Clone, Copy, Debug, PartialEq, Eq)]
+pub enum Rule {
+    /// One of `SCALES`; any other is trouble 7.
+    Today,
+    /// Any 16-bit number. For what was printed by it, and for inner checks.
+    LastYear,
+}
+
+/// The scales that machine code has.
+pub const SCALES: [i16; 4] = [1, 2, 4, 8];
+
+impl Rule {
+    fn allows(self, scale: i16) -> bool {
+        self == Rule::LastYear || SCALES.contains(&scale)
+    }
+}
+
 fn trouble<T>(number: u8, place: usize) -> Read<T> {
     Err(Trouble { number, place })
 }
 
 /// Reads a whole input, which one code has to fill.
 pub fn read(bytes: &[u8]) -> Read<Code> {
-    if bytes.is_empty() || bytes.len() > LONGEST {
-        return trouble(1, 0);
-    }
-    let mut reader = Reader { bytes, at: 0 };
-    reader.only_code(bytes.len(), 1)
+    read_by(Rule::Today, bytes)
+}
+
+pub fn read_by(rule: Rule, bytes: &[u8]) -> Read<Code> {
+    Reader::new(rule, bytes).whole()
+}
+
+/// Whose operands came last before the reader stopped: where a field of an
+/// operand is refused, what the operand belongs to.
+pub fn last_holder(bytes: &[u8]) -> Option<Next> {
+    let mut reader = Reader::new(Rule::Today, bytes);
+    reader.whole().err()?;
+    reader.holder
 }
 
 struct Reader<'a> {
+    rule: Rule,
     bytes: &'a [u8],
     at: usize,
+    /// What the operands that are read belong to.
+    holder: Option<Next>,
+}
+
+impl<'a> Reader<'a> {
+    fn new(rule: Rule, bytes: &'a [u8]) -> Reader<'a> {
+        Reader {
+            rule,
+            bytes,
+            at: 0,
+            holder: None,
+        }
+    }
+
+    fn whole(&mut self) -> Read<Code> {
+        let length = self.bytes.len();
+        if length == 0 || length > LONGEST {
+            return trouble(1, 0);
+        }
+        self.only_code(length, 1)
+    }
 }
 
 // The steps that every record takes. `end` is the end of the enclosing part.
@@ -79,6 +128,16 @@ impl Reader<'_> {
         }
         Ok(number)
     }
+
+    /// 7 at the field's first byte when the rule does not have the scale.
+    fn scale(&mut self) -> Read<i16> {
+        let field = self.at;
+        let scale = self.low_first(2) as u16 as i16;
+        if !self.rule.allows(scale) {
+            return trouble(7, field);
+        }
+        Ok(scale)
+    }
 }
 
 // Operands and comparisons.
@@ -110,15 +169,16 @@ impl Reader<'_> {
 
     fn index_address(&mut self) -> Read<Operand> {
         let base = self.sixteenth()?;
-        let scale = self.low_first(2) as u16 as i16;
+        let scale = self.scale()?;
         let index = self.sixteenth()?;
         let offset = self.low_first(8) as i64;
         Ok(Operand::Mem(Maddr::Index(base, scale, index, offset)))
     }
 
-    fn comparison(&mut self, end: usize) -> Read<Ocmp> {
+    fn comparison(&mut self, end: usize, holder: Next) -> Read<Ocmp> {
         let place = self.at;
         let kind = self.kind(end, |k| (0x30..=0x35).contains(&k))?;
+        self.holder = Some(holder);
         let left = self.operand(end)?;
         let right = self.operand(end)?;
         Ok(Ocmp {
@@ -180,7 +240,7 @@ impl Reader<'_> {
         self.whole_body(place, end, 8)?;
         let true_length = self.low_first(4);
         let false_length = self.low_first(4);
-        let condition = self.comparison(end)?;
+        let condition = self.comparison(end, Next::Choice)?;
         self.parts_fit(place, end, true_length + false_length)?;
         let true_end = self.at + true_length as usize;
         let false_end = true_end + false_length as usize;
@@ -196,7 +256,7 @@ impl Reader<'_> {
     fn while_loop(&mut self, place: usize, end: usize, depth: usize) -> Read<Node> {
         self.whole_body(place, end, 4)?;
         let length = self.low_first(4);
-        let condition = self.comparison(end)?;
+        let condition = self.comparison(end, Next::Test)?;
         self.parts_fit(place, end, length)?;
         let body = self.only_code(self.at + length as usize, depth + 1)?;
         Ok(Node::While(condition, Box::new(body)))
@@ -206,6 +266,7 @@ impl Reader<'_> {
 // Instructions.
 impl Reader<'_> {
     fn instruction(&mut self, kind: u8, place: usize, end: usize) -> Read<Instruction> {
+        self.holder = Some(Next::Instruction);
         match kind {
             0x01 => self.two(end, Mov64),
             0x02 => self.two(end, Add64),

@@ -72,18 +72,73 @@ fn bodies_cut_short_come_before_numbers() {
     assert_eq!(answer(&[0x08, 0x41, 16]), Some((4, 2)));
     assert_eq!(answer(&[0x15, 16, 0]), Some((4, 1)));
     assert_eq!(answer(&[0x15, 0, 0]), Some((3, 3)));
-    let index = [0x08, 0x44, 15, 0, 0, 16, 0, 0, 0, 0, 0, 0, 0, 0];
+    let index = [0x08, 0x44, 15, 1, 0, 16, 0, 0, 0, 0, 0, 0, 0, 0];
     assert_eq!(answer(&index), Some((4, 5)));
     assert_eq!(answer(&index[..13]), Some((3, 1)));
+}
+
+/// Mul64 of an MIndex.
+fn product(base: u8, scale: i16, index: u8) -> Vec<u8> {
+    let [low, high] = scale.to_le_bytes();
+    [&[0x08, 0x44, base, low, high, index][..], &[0; 8]].concat()
+}
+
+#[test]
+fn scales_are_judged_among_the_numbers() {
+    for scale in [1, 2, 4, 8] {
+        assert_eq!(answer(&product(15, scale, 15)), None);
+        assert_eq!(answer(&product(16, scale, 16)), Some((4, 2)));
+        assert_eq!(answer(&product(15, scale, 16)), Some((4, 5)));
+    }
+    for scale in [0, 3, -1, 7, 9, 16, 256, 257, 264, i16::MAX, i16::MIN] {
+        assert_eq!(answer(&product(15, scale, 15)), Some((7, 3)));
+        assert_eq!(answer(&product(15, scale, 16)), Some((7, 3)));
+        assert_eq!(answer(&product(16, scale, 15)), Some((4, 2)));
+        assert_eq!(answer(&product(16, scale, 16)), Some((4, 2)));
+        assert_eq!(answer(&product(15, scale, 15)[..13]), Some((3, 1)));
+        let lane = [&[0x17, 16, 0][..], &product(0, scale, 0)[1..]].concat();
+        assert_eq!(answer(&lane), Some((4, 1)));
+        assert_eq!(answer(&block(&product(0, scale, 0))), Some((7, 8)));
+        assert_eq!(answer(&nested(32, &product(0, scale, 0))), Some((5, 160)));
+    }
+}
+
+/// In a comparison ahead of lengths that do not fit.
+#[test]
+fn scales_of_comparisons() {
+    let operand = &product(0, 3, 0)[1..];
+    let looped = [&[0x22, 9, 0, 0, 0, 0x30, 0x41, 0], operand, &XOR].concat();
+    assert_eq!(answer(&looped), Some((7, 10)));
+    let last_year = read_by(Rule::LastYear, &looped).err();
+    assert_eq!(
+        last_year,
+        Some(Trouble {
+            number: 6,
+            place: 0
+        })
+    );
+    let choice = [&[0x21, 3, 0, 0, 0, 9, 0, 0, 0, 0x30], operand].concat();
+    assert_eq!(answer(&choice), Some((7, 12)));
+}
+
+#[test]
+fn whose_operand_came_last() {
+    let operand = &product(0, 3, 0)[1..];
+    let looped = [&[0x22, 0, 0, 0, 0, 0x30], operand].concat();
+    let choice = [&[0x21, 0, 0, 0, 0, 0, 0, 0, 0, 0x30], operand].concat();
+    assert_eq!(last_holder(&product(0, 3, 0)), Some(Next::Instruction));
+    assert_eq!(last_holder(&looped), Some(Next::Test));
+    assert_eq!(last_holder(&choice), Some(Next::Choice));
+    let behind = if_else([3, 14], &[&XOR, &product(0, 3, 0)[..]].concat());
+    assert_eq!(last_holder(&behind), Some(Next::Instruction));
+    assert_eq!(last_holder(&XOR), None);
 }
 
 #[test]
 fn counts_are_a_destination_and_a_source() {
     for (kind, count) in (0x19..).zip(COUNTS) {
-        let record = [
-            kind, 0x41, 1, 0x44, 2, 0xff, 0xff, 3, 5, 0, 0, 0, 0, 0, 0, 0,
-        ];
-        let memory = Operand::Mem(Maddr::Index(2, -1, 3, 5));
+        let record = [kind, 0x41, 1, 0x44, 2, 8, 0, 3, 5, 0, 0, 0, 0, 0, 0, 0];
+        let memory = Operand::Mem(Maddr::Index(2, 8, 3, 5));
         let code = Code::unplaced(Node::Ins(count(Operand::Reg(1), memory)));
         assert_eq!(write(&code), record);
         assert_eq!(read(&record), Ok(code));

@@ -1,5 +1,7 @@
 //! A small generator of numbers (splitmix64).
 
+use crate::reader::SCALES;
+
 pub struct Rng(u64);
 
 fn mix(mut z: u64) -> u64 {
@@ -103,6 +105,21 @@ impl Rng {
             1 => self.pick(&[u64::MAX, u64::MAX - 1, u64::MAX - 2048, u64::MAX - 2049]),
             2 => self.word(),
             _ => self.edge_word(),
+        }
+    }
+
+    pub fn scale(&mut self) -> i16 {
+        self.pick(&SCALES)
+    }
+
+    /// A scale that is none, often in one bit or one byte.
+    pub fn other_scale(&mut self) -> i16 {
+        match self.below(4) {
+            0 => self.pick(&[0, 3, 5, 6, 7, 9, 10, 12, 16, 32, 64, 128, 255]),
+            1 => self.pick(&[-1, -2, -4, -8, i16::MIN, i16::MIN + 1, i16::MAX]),
+            2 => self.pick(&SCALES) + self.pick(&[1 << 8, 1 << 9, 1 << 14, -1 << 8]),
+            // Its low byte is that of no scale.
+            _ => self.word() as i16 | 3,
         }
     }
 

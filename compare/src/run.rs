@@ -5,13 +5,14 @@ use crate::answer::{Answer, Outcome, STOPPED};
 use crate::cells;
 use crate::follow::{Event, Follow, Log, Settings, Stop};
 use crate::job::{parse, Job};
-use crate::reader::{self, Trouble};
+use crate::reader::{self, Rule, Trouble};
 use crate::source::eval_code;
 use crate::state::State;
 use crate::sums::SumLog;
 use crate::terms::{Evaluation, Terms};
 use crate::tree::{Code, INSTRUCTION_KINDS};
 use crate::watch::{Reads, Watch};
+use std::collections::BTreeSet;
 
 /// What following a job showed beside its outcome.
 pub struct Followed {
@@ -22,6 +23,8 @@ pub struct Followed {
     pub met: [u64; INSTRUCTION_KINDS],
     pub sums: SumLog,
     pub reads: Reads,
+    /// The places of all that made a step.
+    pub completed: BTreeSet<usize>,
     pub least_fuel: u64,
 }
 
@@ -31,15 +34,23 @@ pub struct TooLong;
 
 /// Answers a job's bytes as the job program does, however long it takes.
 pub fn answer_bytes(input: &[u8]) -> Outcome {
+    answer_bytes_by(Rule::Today, input)
+}
+
+pub fn answer_bytes_by(rule: Rule, input: &[u8]) -> Outcome {
     match parse(input) {
-        Ok(job) => answer(&job, Evaluation::Base.unlimited()),
+        Ok(job) => answer_by(rule, &job, Evaluation::Base.unlimited()),
         Err(trouble) => Outcome::refused(trouble),
     }
 }
 
 /// Answers a job on any terms.
 pub fn answer(job: &Job, terms: Terms) -> Outcome {
-    match accept(job) {
+    answer_by(Rule::Today, job, terms)
+}
+
+fn answer_by(rule: Rule, job: &Job, terms: Terms) -> Outcome {
+    match accept_by(rule, job) {
         Ok(code) => outcome(job, &code, Settings::new(job.fill, terms)),
         Err(trouble) => Outcome::refused(trouble),
     }
@@ -53,9 +64,19 @@ pub fn outcome(job: &Job, code: &Code, settings: Settings) -> Outcome {
 
 /// Code is checked first, then the cells.
 pub fn accept(job: &Job) -> Result<Code, Trouble> {
-    let code = reader::read(&job.code)?;
+    accept_by(Rule::Today, job)
+}
+
+pub fn accept_by(rule: Rule, job: &Job) -> Result<Code, Trouble> {
+    let code = reader::read_by(rule, &job.code)?;
     cells::check(&job.cells)?;
     Ok(code)
+}
+
+/// Whether today's rule refuses a job's bytes for a scale.
+pub fn is_scale_refused(input: &[u8]) -> bool {
+    let refusal = parse(input).and_then(|job| accept(&job)).err();
+    refusal.is_some_and(|trouble| trouble.number == 7)
 }
 
 /// Runs accepted code with any fuel.
@@ -78,6 +99,7 @@ pub fn follow(job: &Job, code: &Code, fuel: u64, settings: Settings) -> Result<F
         met: f.met,
         sums: f.sums,
         reads: f.reads,
+        completed: f.completed,
         least_fuel: f.least_fuel,
     })
 }

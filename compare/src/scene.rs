@@ -4,11 +4,17 @@
 //! free. An address is formed over the registers that keep their value.
 
 use crate::cells::Cell;
+use crate::reader::Rule;
 use crate::rng::Rng;
 use crate::state::Start;
 use crate::tree::*;
 
+/// Scales that were drawn often while there could be any.
+const LAST_YEARS_SCALES: [i16; 9] = [0, 3, -1, -2, -8, 255, i16::MAX, i16::MIN, -32_767];
+
 pub struct Scene {
+    /// Which scales are drawn.
+    pub rule: Rule,
     pub rng: Rng,
     pub start: Start,
     pub fill: u64,
@@ -27,13 +33,16 @@ pub struct Scene {
     pub favourites: Vec<usize>,
     /// How many of a hundred operands are memory.
     pub memory: usize,
+    /// Whether memory is found through an index where it can be.
+    pub indexed: bool,
 }
 
 impl Scene {
-    pub fn new(mut rng: Rng, wild: usize) -> Scene {
+    pub fn new(rule: Rule, mut rng: Rng, wild: usize) -> Scene {
         let cells = cells(&mut rng);
         let start = start(&mut rng);
         let mut scene = Scene {
+            rule,
             fill: rng.flags_word(),
             rng,
             start,
@@ -47,6 +56,7 @@ impl Scene {
             wild,
             favourites: Vec::new(),
             memory: 35,
+            indexed: false,
         };
         scene.give_register_roles();
         scene.give_cell_roles();
@@ -133,7 +143,7 @@ impl Scene {
     /// The same, but none where a few tries did not reach it.
     pub fn reach(&mut self, target: i128) -> Option<Maddr> {
         for _ in 0..6 {
-            let form = self.rng.below(3);
+            let form = if self.indexed { 2 } else { self.rng.below(3) };
             let found = match form {
                 0 => u64::try_from(target).ok().map(Maddr::Const),
                 1 => self.register_form(target),
@@ -169,16 +179,21 @@ impl Scene {
     fn index_form(&mut self, target: i128) -> Option<Maddr> {
         let base = self.pointer();
         let index = self.pointer();
-        let scale = match self.rng.below(3) {
-            0 => self.rng.pick(&[1, 2, 4, 8]),
-            1 => self
-                .rng
-                .pick(&[0, 3, -1, -2, -8, 255, i16::MAX, i16::MIN, -32_767]),
-            _ => self.rng.word() as i16,
-        };
+        let scale = self.scale();
         let reached = self.value(base) + i128::from(scale) * self.value(index);
         let offset = i64::try_from(target - reached).ok()?;
         Some(Maddr::Index(base, scale, index, offset))
+    }
+
+    fn scale(&mut self) -> i16 {
+        match self.rule {
+            Rule::Today => self.rng.scale(),
+            Rule::LastYear => match self.rng.below(3) {
+                0 => self.rng.scale(),
+                1 => self.rng.pick(&LAST_YEARS_SCALES),
+                _ => self.rng.word() as i16,
+            },
+        }
     }
 }
 

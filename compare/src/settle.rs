@@ -1,12 +1,14 @@
 //! Jobs out of a scene and a code, and the fuel of generated jobs: chosen after
 //! what the code needs by one evaluation, and taken away where a run by either
 //! would go on too long. A job that is stored is not run on the board, and its
-//! fuel is the base's.
+//! fuel is the base's. A job that was drawn by last year's rule is also accepted by
+//! it here, so that its fuel is what it was.
 
 use crate::follow::Settings;
 use crate::job::{parse, Job};
+use crate::reader::Rule;
 use crate::rng::Rng;
-use crate::run::{accept, follow};
+use crate::run::{accept_by, follow};
 use crate::scene::Scene;
 use crate::terms::Evaluation;
 use crate::tree::Code;
@@ -29,12 +31,14 @@ pub fn job_of(scene: Scene, code: &Code, fuel: u32) -> Job {
 
 /// A job whose fuel stands at, below or above what it needs.
 pub fn with_fuel(rng: &mut Rng, scene: Scene, code: &Code) -> Job {
-    settled(fuelled(rng, job_of(scene, code, 0), Evaluation::Base))
+    let rule = scene.rule;
+    let job = fuelled(rule, rng, job_of(scene, code, 0), Evaluation::Base);
+    settled(rule, job)
 }
 
 /// The fuel stands at, below or above what the job needs by the evaluation.
-pub fn fuelled(rng: &mut Rng, mut job: Job, evaluation: Evaluation) -> Job {
-    job.fuel = match needed_fuel(&job, evaluation) {
+pub fn fuelled(rule: Rule, rng: &mut Rng, mut job: Job, evaluation: Evaluation) -> Job {
+    job.fuel = match needed_fuel(rule, &job, evaluation) {
         Some(need) => fuel_near(rng, need),
         None => rng.below(12) as u32,
     };
@@ -49,8 +53,8 @@ fn within_budget(job: &Job, evaluation: Evaluation) -> Settings {
 }
 
 /// The least fuel at which no loop starves, unless the job goes on too long.
-fn needed_fuel(job: &Job, evaluation: Evaluation) -> Option<u32> {
-    let code = accept(job).ok()?;
+fn needed_fuel(rule: Rule, job: &Job, evaluation: Evaluation) -> Option<u32> {
+    let code = accept_by(rule, job).ok()?;
     let settings = within_budget(job, evaluation);
     let followed = follow(job, &code, AMPLE, settings).ok()?;
     match followed.least_fuel {
@@ -71,13 +75,13 @@ fn fuel_near(rng: &mut Rng, need: u32) -> u32 {
 }
 
 /// Takes fuel away from a job that would not end within the budget.
-pub fn settled(job: Job) -> Job {
-    settled_by(Evaluation::Base, job)
+pub fn settled(rule: Rule, job: Job) -> Job {
+    settled_by(rule, Evaluation::Base, job)
 }
 
 /// With less fuel a run by the other evaluation ends no later.
-fn settled_by(evaluation: Evaluation, mut job: Job) -> Job {
-    let Ok(code) = accept(&job) else {
+fn settled_by(rule: Rule, evaluation: Evaluation, mut job: Job) -> Job {
+    let Ok(code) = accept_by(rule, &job) else {
         return job;
     };
     let settings = within_budget(&job, evaluation);
@@ -92,9 +96,9 @@ fn settled_by(evaluation: Evaluation, mut job: Job) -> Job {
 
 /// The same of bytes, where they are a job: cut or shifted code may be
 /// accepted, with loops that the fuel was not for.
-pub fn settled_bytes(evaluation: Evaluation, bytes: Vec<u8>) -> Vec<u8> {
+pub fn settled_bytes(rule: Rule, evaluation: Evaluation, bytes: Vec<u8>) -> Vec<u8> {
     match parse(&bytes) {
-        Ok(job) => settled_by(evaluation, job).to_bytes(),
+        Ok(job) => settled_by(rule, evaluation, job).to_bytes(),
         Err(_) => bytes,
     }
 }
@@ -104,6 +108,7 @@ mod tests {
     use super::*;
     use crate::build::{block, ins, number, of_code, reg, repeat};
     use crate::generate::batch_bytes;
+    use crate::run::accept;
     use crate::terms::EVALUATIONS;
     use crate::tree::Instruction::{Add64, Adox64};
     use crate::tree::{Ocmp, Relation, RAX};
@@ -118,8 +123,8 @@ mod tests {
             repeat(endless, block(Vec::new())),
         ];
         let job = of_code(block(codes)).reg(RAX, u64::MAX / 2).fuel(u32::MAX);
-        assert_eq!(settled(job.clone()), job);
-        let settled = settled_bytes(Evaluation::Board, job.to_bytes());
+        assert_eq!(settled(Rule::Today, job.clone()), job);
+        let settled = settled_bytes(Rule::Today, Evaluation::Board, job.to_bytes());
         assert_eq!(parse(&settled).unwrap(), job.fuel(9));
     }
 

@@ -5,11 +5,14 @@
 //! stands for the byte hh, n (decimal) times.
 //!
 //! As bytes a record is the job and then its text, each behind its length in
-//! four bytes, low first.
+//! four bytes, low first. What was printed by last year's rule has a form of its
+//! own (`archive.rs`).
 
 use crate::answer::render;
+use crate::archive;
 use crate::batch::own_answer;
 use crate::generate::job_bytes;
+use crate::reader::Rule;
 use crate::tally::{class, classes, Tally};
 use crate::target::Target;
 
@@ -66,9 +69,9 @@ fn unhex(pairs: &str) -> Option<Vec<u8>> {
 }
 
 /// Chooses jobs of the seed so that every class of answer is there; about
-/// half of them are Done.
-pub fn choose(count: usize, seed: u64) -> Result<Vec<Record>, String> {
-    let others = classes().len() - 1;
+/// half of them are Done. By last year's rule it is last year's choice.
+pub fn choose(rule: Rule, count: usize, seed: u64) -> Result<Vec<Record>, String> {
+    let others = classes(rule).len() - 1;
     let share = (count / (2 * others)).max(1);
     let bad = share * (others - LONG.len()) + LONG.len();
     let mut tally = Tally::default();
@@ -77,8 +80,8 @@ pub fn choose(count: usize, seed: u64) -> Result<Vec<Record>, String> {
         if tally.jobs as usize >= count {
             return Ok(stored);
         }
-        let job = job_bytes(seed, index);
-        let own = own_answer(&job, seed, &mut Tally::default())?;
+        let job = job_bytes(rule, seed, index);
+        let own = own_answer(rule, &job, seed, &mut Tally::default())?;
         let name = class(&own.answer);
         let most = match name.as_str() {
             "done" => count.saturating_sub(bad),
@@ -103,16 +106,23 @@ pub fn as_text(records: &[Record]) -> String {
 pub fn as_bytes(records: &[Record]) -> Vec<u8> {
     let mut out = Vec::new();
     for record in records {
-        for part in [&record.job[..], record.text.as_bytes()] {
-            out.extend((part.len() as u32).to_le_bytes());
-            out.extend(part);
-        }
+        push_part(&mut out, &record.job);
+        push_part(&mut out, record.text.as_bytes());
     }
     out
 }
 
-/// Reads a stored set of either form; text begins with the word `job`.
-pub fn parse(stored: &[u8]) -> Result<Vec<Record>, String> {
+pub fn push_part(out: &mut Vec<u8>, part: &[u8]) {
+    out.extend((part.len() as u32).to_le_bytes());
+    out.extend(part);
+}
+
+/// Reads a stored set of any form, with the texts that a program by this rule has
+/// to give. Text begins with the word `job`, the archive with its first line.
+pub fn parse(stored: &[u8], rule: Rule) -> Result<Vec<Record>, String> {
+    if let Some(rest) = archive::behind_first_line(stored) {
+        return archive::from_bytes(rest, rule);
+    }
     match std::str::from_utf8(stored) {
         Ok(text) if text.starts_with("job ") => from_text(text),
         _ => from_bytes(stored),
@@ -136,14 +146,18 @@ fn from_bytes(stored: &[u8]) -> Result<Vec<Record>, String> {
     let (mut rest, mut records) = (stored, Vec::new());
     while !rest.is_empty() {
         let job = part(&mut rest)?.to_vec();
-        let text = part(&mut rest)?.to_vec();
-        let text = String::from_utf8(text).map_err(|e| e.to_string())?;
+        let text = text_part(&mut rest)?;
         records.push(Record { job, text });
     }
     Ok(records)
 }
 
-fn part<'a>(rest: &mut &'a [u8]) -> Result<&'a [u8], String> {
+pub fn text_part(rest: &mut &[u8]) -> Result<String, String> {
+    let text = part(rest)?.to_vec();
+    String::from_utf8(text).map_err(|e| e.to_string())
+}
+
+pub fn part<'a>(rest: &mut &'a [u8]) -> Result<&'a [u8], String> {
     let (length, behind) = rest.split_first_chunk().ok_or("a length is cut short")?;
     let length = u32::from_le_bytes(*length) as usize;
     let (part, behind) = behind
@@ -174,7 +188,7 @@ mod tests {
     #[test]
     fn squeezed_bytes_come_back() {
         for index in 0..400 {
-            let bytes = job_bytes(11, index);
+            let bytes = job_bytes(Rule::Today, 11, index);
             assert_eq!(expand(&squeeze(&bytes)), Ok(bytes));
         }
         assert_eq!(squeeze(&[1, 0, 0, 0, 0, 0, 2]), "01 00*5 02");
@@ -184,9 +198,9 @@ mod tests {
 
     #[test]
     fn records_come_back_in_either_form() {
-        let records = choose(40, 3).unwrap();
+        let records = choose(Rule::Today, 40, 3).unwrap();
         for stored in [as_bytes(&records), as_text(&records).into_bytes()] {
-            let back = parse(&stored).unwrap();
+            let back = parse(&stored, Rule::Today).unwrap();
             assert_eq!(back.len(), 40);
             for (a, b) in records.iter().zip(&back) {
                 assert_eq!((&a.job, &a.text), (&b.job, &b.text));

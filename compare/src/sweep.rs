@@ -3,16 +3,17 @@
 
 use crate::cells::Cell;
 use crate::job::Job;
+use crate::reader::Rule;
 use crate::rng::Rng;
 use crate::state::Start;
 use crate::tree::Instruction::*;
 use crate::tree::*;
 use crate::writer::write;
 
-pub fn job(rng: &mut Rng, index: u64) -> Job {
+pub fn job(rule: Rule, rng: &mut Rng, index: u64) -> Job {
     // Families 30 and 31 of every 40 come here.
     let turn = (index / 40 * 2 + index % 2) as usize;
-    let mut code = write(&whole());
+    let mut code = write(&whole(rule));
     let at = turn / 4 % (code.len() + 1);
     let byte = rng.edge_byte();
     match turn % 4 {
@@ -56,14 +57,22 @@ const B: Operand = Operand::Reg(9);
 const ONE: Operand = Operand::Const(1);
 const FIRST: Operand = Operand::Mem(Maddr::Const(4096));
 const LAST: Operand = Operand::Mem(Maddr::Reg(1, 12));
-const AGAIN: Operand = Operand::Mem(Maddr::Index(1, -2, 2, 16));
 
-fn whole() -> Code {
-    let mut codes = general();
+/// Where `LAST` is, through an index.
+fn again(rule: Rule) -> Operand {
+    Operand::Mem(match rule {
+        Rule::Today => Maddr::Index(1, 2, 2, 8),
+        Rule::LastYear => Maddr::Index(1, -2, 2, 16),
+    })
+}
+
+fn whole(rule: Rule) -> Code {
+    let again = again(rule);
+    let mut codes = general(again);
     codes.extend(of_xmm());
-    codes.extend(counts());
+    codes.extend(counts(again));
     for relation in RELATIONS {
-        let condition = Ocmp::unplaced(relation, B, AGAIN);
+        let condition = Ocmp::unplaced(relation, B, again);
         let (yes, no) = (ins(Paddd(0, 1)), Code::unplaced(Node::Block(Vec::new())));
         let node = Node::IfElse(condition, Box::new(yes), Box::new(no));
         codes.push(Code::unplaced(node));
@@ -75,16 +84,16 @@ fn whole() -> Code {
     Code::unplaced(Node::Block(codes))
 }
 
-fn general() -> Vec<Code> {
+fn general(again: Operand) -> Vec<Code> {
     let list = [
         Mov64(A, LAST),
         Add64(B, ONE),
-        AddLea64(A, B, AGAIN),
+        AddLea64(A, B, again),
         AddCarry64(LAST, A),
         Adcx64(A, B),
         Adox64(B, FIRST),
         Sub64(A, ONE),
-        Mul64(AGAIN),
+        Mul64(again),
         Mulx64(A, B, LAST),
         IMul64(A, B),
         Xor64(B, A),
@@ -111,7 +120,7 @@ fn of_xmm() -> Vec<Code> {
     list.map(ins).into()
 }
 
-fn counts() -> Vec<Code> {
-    let list = [Popcnt64(A, B), Lzcnt64(LAST, A), Tzcnt64(B, AGAIN)];
+fn counts(again: Operand) -> Vec<Code> {
+    let list = [Popcnt64(A, B), Lzcnt64(LAST, A), Tzcnt64(B, again)];
     list.map(ins).into()
 }

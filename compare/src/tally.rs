@@ -4,11 +4,13 @@ use crate::answer::Answer;
 use crate::board_tally::BoardTally;
 use crate::fill_tally::FillTally;
 use crate::limit_tally::LimitTally;
+use crate::reader::Rule;
+use crate::scale_tally::ScaleTally;
 use crate::tree::INSTRUCTION_KINDS;
 use std::collections::BTreeMap;
 
 /// Answers that every run of some length has to meet.
-const REFUSALS: [u8; 12] = [1, 2, 3, 4, 5, 6, 12, 13, 14, 15, 41, 42];
+const REFUSALS: [u8; 13] = [1, 2, 3, 4, 5, 6, 7, 12, 13, 14, 15, 41, 42];
 const FAULTS: [u8; 6] = [31, 32, 33, 34, 35, 36];
 
 #[derive(Default)]
@@ -23,6 +25,7 @@ pub struct Tally {
     pub limits: LimitTally,
     pub board: BoardTally,
     pub fills: FillTally,
+    pub scales: ScaleTally,
 }
 
 /// An answer without its place.
@@ -44,10 +47,11 @@ pub fn end_classes() -> Vec<String> {
     all
 }
 
-/// All the classes that a job can be answered with.
-pub fn classes() -> Vec<String> {
+/// All the classes that a job can be answered with. Last year there was no 7.
+pub fn classes(rule: Rule) -> Vec<String> {
     let mut all = end_classes();
-    all.extend(REFUSALS.map(|n| class(&Answer::Refused(n, 0))));
+    let refusals = REFUSALS.iter().filter(|&&n| n != 7 || rule == Rule::Today);
+    all.extend(refusals.map(|&n| class(&Answer::Refused(n, 0))));
     all
 }
 
@@ -62,7 +66,7 @@ impl Tally {
     }
 
     pub fn missing(&self) -> Vec<String> {
-        let mut all = classes();
+        let mut all = classes(Rule::Today);
         all.retain(|c| self.count(c) == 0);
         all.extend(
             (0..INSTRUCTION_KINDS)
@@ -88,6 +92,7 @@ impl Tally {
         text.push_str(&self.limits.report("runs under a limit"));
         text.push_str(&self.board.report());
         text.push_str(&self.fills.report());
+        text.push_str(&self.scales.report());
         text
     }
 }

@@ -4,7 +4,8 @@
 use crate::answer::{render, Outcome};
 use crate::follow::{Mode, Settings};
 use crate::job::Job;
-use crate::run::{accept, answer_bytes, outcome};
+use crate::reader::Rule;
+use crate::run::{accept, answer_bytes, answer_bytes_by, outcome};
 use crate::terms::Terms;
 use std::io::{Read, Write};
 use std::process::{Child, Command, Stdio};
@@ -39,6 +40,9 @@ pub struct Process {
 /// This evaluator itself, to see what a seed brings.
 pub struct Own;
 
+/// This evaluator by last year's rule, for what was printed by it.
+pub struct LastYear;
+
 impl Target for Own {
     fn answer(&mut self, job: &[u8]) -> Result<Vec<u8>, String> {
         Ok(render(&answer_bytes(job)).into_bytes())
@@ -55,6 +59,12 @@ impl Target for Own {
             Ok(code) => outcome(job, &code, settings),
             Err(trouble) => Outcome::refused(trouble),
         }))
+    }
+}
+
+impl Target for LastYear {
+    fn answer(&mut self, job: &[u8]) -> Result<Vec<u8>, String> {
+        Ok(render(&answer_bytes_by(Rule::LastYear, job)).into_bytes())
     }
 }
 

@@ -54,6 +54,12 @@ fn push_operands(out: &mut Vec<u8>, operands: &[Operand]) {
     }
 }
 
+pub fn operand_length(operand: &Operand) -> usize {
+    let mut bytes = Vec::new();
+    push_operand(&mut bytes, operand);
+    bytes.len()
+}
+
 fn push_operand(out: &mut Vec<u8>, operand: &Operand) {
     match *operand {
         Operand::Const(n) => {

@@ -1,7 +1,7 @@
 //! The builder's calls as values, and a tree as the calls that build it.
 
 use crate::build::{block, ins, repeat};
-use crate::reader::read;
+use crate::reader::{read, Trouble};
 use crate::tree::*;
 use crate::writer::write;
 
@@ -20,15 +20,20 @@ impl Call {
         *self != Call::Close
     }
 
-    /// Refusal 4 is the base's, so the reader is asked: it refuses the record
-    /// with 4, standing alone or as the comparison of a While.
-    pub fn names_an_absent_register(&self) -> bool {
-        let alone = match self {
-            Call::OpenBlock | Call::Close => return false,
+    /// The record standing alone, or as the comparison of a While.
+    pub fn alone(&self) -> Option<Vec<u8>> {
+        let code = match self {
+            Call::OpenBlock | Call::Close => return None,
             Call::OpenIfElse(c) | Call::OpenWhile(c) => repeat(c.clone(), block(Vec::new())),
             Call::Add(instruction) => ins(*instruction),
         };
-        matches!(read(&write(&alone)), Err(trouble) if trouble.number == 4)
+        Some(write(&code))
+    }
+
+    /// Refusals 4 and 7 are the reader's, so it is asked: whichever it meets first
+    /// in the record, with the place there. Nothing else can be wrong with a value.
+    pub fn bad_field(&self) -> Option<Trouble> {
+        read(&self.alone()?).err()
     }
 }
 

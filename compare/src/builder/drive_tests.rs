@@ -34,7 +34,11 @@ impl Builder for Slip {
 }
 
 fn is_found(slip: fn(&mut Build, &mut [u8], &Call) -> u8) {
-    assert!(report(100, &mut Slip(slip)).is_err());
+    is_found_in(100, slip);
+}
+
+fn is_found_in(lists: u64, slip: fn(&mut Build, &mut [u8], &Call) -> u8) {
+    assert!(report(lists, &mut Slip(slip)).is_err());
 }
 
 #[test]
@@ -84,12 +88,10 @@ fn slips_in_the_build_are_found() {
 
 #[test]
 fn slips_in_the_answers_are_found() {
-    is_found(
-        |build, buffer, call| match call.names_an_absent_register() {
-            true => 4,
-            false => forged::call(build, buffer, call),
-        },
-    );
+    is_found(|build, buffer, call| match call.bad_field() {
+        Some(trouble) => trouble.number,
+        None => forged::call(build, buffer, call),
+    });
     is_found(|build, buffer, call| {
         let lent = buffer.len().saturating_sub(1);
         forged::call(build, &mut buffer[..lent], call)
@@ -101,5 +103,47 @@ fn slips_in_the_answers_are_found() {
     is_found(|build, buffer, call| match build.depth {
         33.. => 53,
         _ => forged::call(build, buffer, call),
+    });
+}
+
+/// What is wrong with a record once the scale that it is refused for is put right.
+fn behind_the_scale(call: &Call) -> Option<u8> {
+    let (mut alone, at) = (call.alone()?, call.bad_field()?.place);
+    alone[at..at + 2].copy_from_slice(&1i16.to_le_bytes());
+    read(&alone).err().map(|trouble| trouble.number)
+}
+
+#[test]
+fn slips_about_scales_are_found() {
+    is_found(|build, buffer, call| {
+        let answer = forged::call(build, buffer, call);
+        match answer {
+            7 => 4,
+            _ => answer,
+        }
+    });
+    // A bad register comes first wherever it stands.
+    is_found_in(300, |build, buffer, call| {
+        let answer = forged::call(build, buffer, call);
+        match answer {
+            7 if behind_the_scale(call) == Some(4) => 4,
+            _ => answer,
+        }
+    });
+    // Depth and room come first.
+    is_found_in(300, |build, buffer, call| {
+        let (deep, answer) = (build.depth == 32, forged::call(build, buffer, call));
+        match answer {
+            7 if deep => 53,
+            _ => answer,
+        }
+    });
+    is_found_in(300, |build, buffer, call| {
+        let short = usize::from(build.length) > buffer.len();
+        let answer = forged::call(build, buffer, call);
+        match answer {
+            7 if short => 52,
+            _ => answer,
+        }
     });
 }

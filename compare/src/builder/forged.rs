@@ -38,8 +38,8 @@ fn judge(build: &Build, lent: usize, call: &Call) -> u8 {
     let bytes = usize::from(build.length) + bytes(call).len();
     if !fits(build, call) {
         51
-    } else if call.names_an_absent_register() {
-        4
+    } else if let Some(trouble) = call.bad_field() {
+        trouble.number
     } else if call.adds() && usize::from(build.depth) == DEEPEST {
         53
     } else if bytes > lent.min(LONGEST) {

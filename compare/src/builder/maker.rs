@@ -100,7 +100,7 @@ impl Maker {
         self.call(call, if spare { self.room } else { need });
     }
 
-    /// A call of any kind; `bad` of a hundred numbers are above 15.
+    /// A call of any kind; `bad` of a hundred numbers are above 15, or no scale.
     pub fn chance_call(&mut self, bad: usize) {
         let (raw, lent) = self.chance(bad);
         self.push(raw, lent);

@@ -136,8 +136,8 @@ impl Model {
         let open = self.open_parts();
         if !self.fits(call, open.last()) {
             51
-        } else if call.names_an_absent_register() {
-            4
+        } else if let Some(trouble) = call.bad_field() {
+            trouble.number
         } else if call.adds() && open.len() + 1 > DEEPEST {
             53
         } else if self.length + added(call) > lent.min(LONGEST) {

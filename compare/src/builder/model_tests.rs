@@ -187,7 +187,7 @@ fn what_fits_where() {
 #[test]
 fn every_register_field_is_judged() {
     let bad = |ins: Instruction| Model::default().answer(&Add(ins), PLENTY);
-    let index = |base, index| Operand::Mem(Maddr::Index(base, -1, index, 0));
+    let index = |base, index| Operand::Mem(Maddr::Index(base, 8, index, 0));
     assert_eq!(bad(Mov64(reg(15), reg(16))), 4);
     assert_eq!(bad(AddLea64(reg(0), number(99), reg(255))), 4);
     assert_eq!(bad(Mul64(Operand::Mem(Maddr::Reg(16, 0)))), 4);
@@ -204,6 +204,31 @@ fn every_register_field_is_judged() {
         assert_eq!(bad(count(reg(16), reg(0))), 4);
         assert_eq!(bad(count(number(99), index(0, 16))), 4);
         assert_eq!(bad(count(number(99), reg(15))), 0);
+    }
+}
+
+/// In the record's byte order with 4.
+#[test]
+fn every_scale_is_judged() {
+    let bad = |ins: Instruction| Model::default().answer(&Add(ins), PLENTY);
+    let index = |base, scale, index| Operand::Mem(Maddr::Index(base, scale, index, 0));
+    for scale in [1, 2, 4, 8] {
+        assert_eq!(bad(Mul64(index(15, scale, 15))), 0);
+    }
+    for scale in [0, 3, -1, 7, 9, 16, 256, i16::MAX, i16::MIN] {
+        assert_eq!(bad(Mul64(index(15, scale, 15))), 7);
+        assert_eq!(bad(Mul64(index(16, scale, 15))), 4);
+        assert_eq!(bad(Mul64(index(15, scale, 16))), 7);
+        assert_eq!(bad(AddLea64(reg(0), index(0, scale, 0), reg(16))), 7);
+        assert_eq!(bad(AddLea64(reg(16), reg(0), index(0, scale, 0))), 4);
+        assert_eq!(bad(Pextrq(index(0, scale, 0), 15, 255)), 7);
+        assert_eq!(bad(Pextrq(index(0, scale, 0), 16, 255)), 4);
+        let compared = |left, right| Ocmp::unplaced(Relation::Gt, left, right);
+        for open in [OpenIfElse, OpenWhile] {
+            let seven = open(compared(reg(0), index(0, scale, 16)));
+            let four = open(compared(reg(16), index(0, scale, 0)));
+            assert_eq!(answers(&Model::default(), &[seven, four]), [7, 4]);
+        }
     }
 }
 
@@ -244,6 +269,11 @@ fn the_order_of_the_refusals() {
     assert_eq!(deep.answer(&XOR, 0), 53, "ahead of 52");
     let finished = after(&[XOR]);
     assert_eq!(finished.answer(&BAD, 0), 51);
+    let unscaled = Add(Mul64(Operand::Mem(Maddr::Index(0, 3, 0, 0))));
+    assert_eq!(full.answer(&unscaled, 0), 51, "ahead of 7 and 52");
+    assert_eq!(Model::default().answer(&unscaled, 0), 7, "ahead of 52");
+    assert_eq!(deep.answer(&unscaled, 0), 7, "ahead of 53 and 52");
+    assert_eq!(finished.answer(&unscaled, 0), 51);
 }
 
 #[test]

@@ -152,6 +152,15 @@ impl RawCall {
     }
 }
 
+/// One that there is, or any number.
+fn any_scale(rng: &mut Rng) -> i16 {
+    match rng.below(4) {
+        0 => rng.other_scale(),
+        1 => rng.word() as i16,
+        _ => rng.scale(),
+    }
+}
+
 impl Record {
     fn any(rng: &mut Rng) -> Record {
         Record {
@@ -160,7 +169,7 @@ impl Record {
             operands: std::array::from_fn(|_| rng.pick(&OPERANDS)),
             bases: std::array::from_fn(|_| rng.edge_byte()),
             indexes: std::array::from_fn(|_| rng.edge_byte()),
-            scales: std::array::from_fn(|_| rng.edge_word() as i16),
+            scales: std::array::from_fn(|_| any_scale(rng)),
             numbers: std::array::from_fn(|_| rng.edge_word()),
             offsets: std::array::from_fn(|_| rng.edge_word() as i64),
         }

@@ -123,5 +123,5 @@ fn stored_lists_say_what_the_model_says() {
         assert_eq!(check(bytes), *count);
         assert!(count.calls > 1_000);
     }
-    assert!(sets[0].0.len() + sets[1].0.len() < 400_000);
+    assert!(sets[0].0.len() + sets[1].0.len() < 700_000);
 }

@@ -3,6 +3,7 @@
 use super::model::{PartKind, Stand};
 use super::record::{Entry, RawCall};
 use crate::reader::{DEEPEST, LONGEST};
+use crate::scale_tally::{Both, BOTH};
 use crate::tree::INSTRUCTION_KINDS;
 use std::collections::BTreeMap;
 
@@ -16,23 +17,23 @@ pub struct Met {
 /// From here on a comparison has to meet everything.
 const FULL: u64 = 1_000;
 
-const ANSWERS: [u8; 6] = [0, 2, 51, 4, 53, 52];
+const ANSWERS: [u8; 7] = [0, 2, 51, 4, 7, 53, 52];
 
 /// Each place with the answers that can be had there. A Block takes whatever
 /// comes; no code is too deep as the outermost one, nor in a false part, whose
 /// true part had a code as deep.
 const STANDS: [(&str, Option<Stand>, &[u8]); 7] = [
-    ("nothing yet", Some(Stand::Begun), &[0, 2, 51, 4, 52]),
+    ("nothing yet", Some(Stand::Begun), &[0, 2, 51, 4, 7, 52]),
     (
         "Block",
         Some(Stand::In(PartKind::Block)),
-        &[0, 2, 4, 53, 52],
+        &[0, 2, 4, 7, 53, 52],
     ),
     ("true part", Some(Stand::In(PartKind::True)), &ANSWERS),
     (
         "false part",
         Some(Stand::In(PartKind::False)),
-        &[0, 2, 51, 4, 52],
+        &[0, 2, 51, 4, 7, 52],
     ),
     ("While part", Some(Stand::In(PartKind::While)), &ANSWERS),
     ("finished", Some(Stand::Finished), &[2, 51]),
@@ -57,10 +58,18 @@ pub struct Tally {
     met: BTreeMap<Met, u64>,
     /// Calls that were taken, with the kind of their record.
     taken: BTreeMap<(Entry, Option<u8>), u64>,
+    /// Records with two bad fields in one operand, by which of them decided.
+    both: BTreeMap<Both, u64>,
     finished: u64,
     longest: usize,
     differences: u64,
     first: Option<String>,
+}
+
+/// Which of two bad fields in one operand a refused record was refused for.
+fn decided(call: &RawCall) -> Option<Both> {
+    let call = call.value()?;
+    Both::of(&call.alone()?, call.bad_field()?)
 }
 
 impl Tally {
@@ -69,6 +78,9 @@ impl Tally {
         if met.answer == 0 {
             let kind = call.entry.takes_a_record().then_some(call.record.kind);
             *self.taken.entry((call.entry, kind)).or_insert(0) += 1;
+        }
+        if let (4 | 7, Some(both)) = (met.answer, decided(call)) {
+            *self.both.entry(both).or_insert(0) += 1;
         }
     }
 
@@ -109,6 +121,8 @@ impl Tally {
         }
         let absent = every_call().filter(|call| !self.taken.contains_key(call));
         missing.extend(absent.map(|(entry, kind)| format!("{entry:?} {kind:x?}")));
+        let absent = BOTH.iter().filter(|both| !self.both.contains_key(both));
+        missing.extend(absent.map(|both| both.label()));
         if self.deepest < DEEPEST {
             missing.push(format!("{DEEPEST} open parts"));
         }
@@ -143,6 +157,9 @@ impl Tally {
             "\nrarest function with a kind, taken {}\n",
             rarest.min().unwrap_or(0)
         ));
+        for (both, count) in &self.both {
+            text.push_str(&format!("{} {count}\n", both.label()));
+        }
         text.push_str(&format!(
             "at most {} open parts, {} bytes finished\ndifferences {}\n",
             self.deepest, self.longest, self.differences

@@ -9,7 +9,8 @@ use crate::tree::*;
 
 pub struct Values<'a> {
     rng: &'a mut Rng,
-    /// How many of a hundred register and xmm numbers are above 15.
+    /// How many of a hundred register and xmm numbers are above 15. Of scales, which
+    /// only one kind of operand has, three times as many are none of the four.
     bad: usize,
 }
 
@@ -37,8 +38,15 @@ impl<'a> Values<'a> {
         }
     }
 
+    fn scale(&mut self) -> i16 {
+        if self.rng.percent(3 * self.bad) {
+            return self.rng.other_scale();
+        }
+        self.rng.scale()
+    }
+
     fn longest_operand(&mut self) -> Operand {
-        let (scale, offset) = (self.rng.edge_word() as i16, self.rng.edge_word() as i64);
+        let (scale, offset) = (self.scale(), self.rng.edge_word() as i64);
         Operand::Mem(Maddr::Index(self.number(), scale, self.number(), offset))
     }
 

@@ -4,6 +4,7 @@
 use super::stage::*;
 use crate::build::*;
 use crate::job::Job;
+use crate::reader::Rule;
 use crate::tree::Instruction::*;
 use crate::tree::*;
 
@@ -35,7 +36,37 @@ const BASES: [(u64, i64); 20] = [
 ];
 
 /// Base, scale, index and offset of MIndex.
-const INDEXES: [(u64, i16, u64, i64); 24] = [
+type Sum = (u64, i16, u64, i64);
+
+const INDEXES: [Sum; 24] = [
+    (0, 8, 0, 0),
+    (CELL, 4, 0, 0),
+    (0, 1, CELL, 0),
+    (0, 8, 512, 0),
+    (0, 2, 1 << 63, 0),
+    (0, 2, 0, 0),
+    (0, 2, 1, -3),
+    (0, 2, 1, -2),
+    (1 << 62, 2, 1 << 61, i64::MIN),
+    ((1 << 62) + CELL, 2, 1 << 61, i64::MIN),
+    (TOP, 1, TOP, 0),
+    (TOP, 1, TOP, i64::MIN),
+    (TOP, 1, 1, 0),
+    (TOP, 1, 1, -8),
+    (1 << 63, 1, 1 << 63, 0),
+    (0, 8, (1 << 60) + 512, i64::MIN),
+    (0, 8, 1, -8),
+    (CELL - 1, 4, 1 << 61, i64::MIN),
+    (0, 8, 1 << 60, i64::MIN),
+    ((1 << 62) - 1, 1, 1 << 62, i64::MIN),
+    (0, 8, TOP, 0),
+    (TOP, 8, TOP, i64::MAX),
+    (0, 1, 0, i64::MIN),
+    (1 << 63, 8, (1 << 60) - (1 << 45), i64::MIN),
+];
+
+/// What these stand for, by last year's rule.
+const LAST_YEARS: [Sum; 24] = [
     (0, 0, TOP, 0),
     (CELL, 0, TOP, 0),
     (0, 1, CELL, 0),
@@ -81,18 +112,22 @@ fn used(turn: usize, operand: Operand) -> Vec<Instruction> {
     }
 }
 
-fn with_registers() -> Vec<Job> {
+fn with_registers(rule: Rule) -> Vec<Job> {
+    let (indexes, with_itself) = match rule {
+        Rule::Today => (INDEXES, [(2048, 1), (1 << 63, 1), (TOP, 8), (0, 2)]),
+        Rule::LastYear => (LAST_YEARS, [(2048, 1), (1 << 63, 1), (TOP, -1), (CELL, 0)]),
+    };
     let mut jobs = Vec::new();
     for (turn, (base, offset)) in BASES.into_iter().enumerate() {
         let uses = used(turn, at_reg(BASE, offset));
         jobs.extend(uses.into_iter().map(|i| scene(i).reg(BASE, base)));
     }
-    for (turn, (base, scale, index, offset)) in INDEXES.into_iter().enumerate() {
+    for (turn, (base, scale, index, offset)) in indexes.into_iter().enumerate() {
         let uses = used(turn, at_index(BASE, scale, INDEX, offset));
         let placed = uses.into_iter().map(scene);
         jobs.extend(placed.map(|job| job.reg(BASE, base).reg(INDEX, index)));
     }
-    for (both, scale) in [(2048, 1), (1 << 63, 1), (TOP, -1), (CELL, 0)] {
+    for (both, scale) in with_itself {
         let read = Mov64(reg(TARGET), at_index(BASE, scale, BASE, 0));
         jobs.push(scene(read).reg(BASE, both));
     }
@@ -135,8 +170,8 @@ fn tags() -> Vec<Job> {
     jobs
 }
 
-pub fn jobs() -> Vec<Job> {
-    let mut jobs = with_registers();
+pub fn jobs(rule: Rule) -> Vec<Job> {
+    let mut jobs = with_registers(rule);
     jobs.extend(constants());
     jobs.extend(tags());
     jobs

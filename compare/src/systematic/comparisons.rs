@@ -5,6 +5,7 @@ use super::roles::kinds;
 use super::stage::*;
 use crate::build::*;
 use crate::job::Job;
+use crate::reader::Rule;
 use crate::tree::Instruction::*;
 use crate::tree::*;
 
@@ -48,10 +49,10 @@ fn orders() -> Vec<Job> {
 }
 
 /// Each relation with each kind on each side, in IfElse and While by turns.
-fn sides() -> Vec<Job> {
+fn sides(rule: Rule) -> Vec<Job> {
     let mut jobs = Vec::new();
     for (turn, relation) in RELATIONS.into_iter().enumerate() {
-        for (number, kind) in kinds(0).into_iter().enumerate() {
+        for (number, kind) in kinds(rule, 0).into_iter().enumerate() {
             for (side, (left, right)) in [(kind, reg(LEFT)), (reg(LEFT), kind)]
                 .into_iter()
                 .enumerate()
@@ -68,8 +69,8 @@ fn sides() -> Vec<Job> {
     jobs
 }
 
-pub fn jobs() -> Vec<Job> {
+pub fn jobs(rule: Rule) -> Vec<Job> {
     let mut jobs = orders();
-    jobs.extend(sides());
+    jobs.extend(sides(rule));
     jobs
 }

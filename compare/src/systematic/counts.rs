@@ -3,10 +3,11 @@
 //! checks, and spoiled records.
 
 use super::refusals::of_bytes;
-use super::roles::{kinds, BARE};
+use super::roles::{bare_memory, kinds};
 use super::stage::*;
 use crate::build::*;
 use crate::job::Job;
+use crate::reader::Rule;
 use crate::tree::Instruction::*;
 use crate::tree::*;
 
@@ -78,7 +79,7 @@ fn destinations(count: OfTwo) -> Vec<Job> {
 /// Destination and source are one place, or one of them is found through the
 /// register that is the other. Where they are one, a count of 0 is no zero
 /// source and a zero source no count of 0.
-fn meetings(count: OfTwo) -> Vec<Job> {
+fn meetings(rule: Rule, count: OfTwo) -> Vec<Job> {
     let mut jobs = Vec::new();
     for word in [0, 1, 1 << 63, TOP] {
         for place in [reg(TARGET), at(CELL)] {
@@ -86,7 +87,7 @@ fn meetings(count: OfTwo) -> Vec<Job> {
             jobs.push(job.reg(TARGET, word).cell(CELL, 64, word));
         }
     }
-    let [_, _, fixed, near, index] = kinds(0);
+    let [_, _, fixed, near, index] = kinds(rule, 0);
     let pairs = [
         (reg(NEAR), near),
         (near, reg(NEAR)),
@@ -103,9 +104,10 @@ fn meetings(count: OfTwo) -> Vec<Job> {
 }
 
 /// 32, and 31 or 36 ahead of it, each behind a count that stays done.
-fn faults(count: OfTwo) -> Vec<Job> {
-    let bad = [reg(RSP), number(1), BARE[0]];
-    let sources = [reg(SMALL); 3].into_iter().chain(BARE);
+fn faults(rule: Rule, count: OfTwo) -> Vec<Job> {
+    let bare = bare_memory(rule);
+    let bad = [reg(RSP), number(1), bare[0]];
+    let sources = [reg(SMALL); 3].into_iter().chain(bare);
     let pairs = bad.into_iter().cycle().zip(sources);
     let behind = |(dst, src)| {
         let done = count(reg(OTHER), reg(SMALL));
@@ -129,11 +131,14 @@ fn records(kind: u8) -> Vec<Job> {
     operands.map(record).into()
 }
 
-pub fn jobs() -> Vec<Job> {
-    let groups = [words, places, flags, destinations, meetings, faults];
+pub fn jobs(rule: Rule) -> Vec<Job> {
+    let groups = [words, places, flags, destinations];
     let mut jobs = Vec::new();
     for group in groups {
         jobs.extend(COUNTS.into_iter().flat_map(group));
+    }
+    for group in [meetings, faults] {
+        jobs.extend(COUNTS.into_iter().flat_map(|count| group(rule, count)));
     }
     jobs.extend((0x19..=0x1b).flat_map(records));
     jobs

@@ -4,6 +4,7 @@
 use super::stage::*;
 use crate::build::*;
 use crate::job::Job;
+use crate::reader::Rule;
 use crate::tree::Instruction::*;
 use crate::tree::*;
 use Relation::{Eq, Ne};
@@ -90,7 +91,11 @@ fn orders() -> Vec<Code> {
 
 /// Mulx64 writes the low half, then resolves the high destination. Rdx is
 /// CELL, so times 1 the low half is the address of a cell.
-fn products() -> Vec<Code> {
+fn products(rule: Rule) -> Vec<Code> {
+    let through_low = match rule {
+        Rule::Today => at_index(BASE, 1, TARGET, -8192),
+        Rule::LastYear => at_index(BASE, -1, TARGET, 0),
+    };
     let (rsp, none, bare) = (reg(RSP), number(1), at(BESIDE));
     let (low, high) = (reg(TARGET), reg(OTHER));
     let by = number(1);
@@ -106,7 +111,7 @@ fn products() -> Vec<Code> {
         Mulx64(at_reg(TARGET, 1), low, by),
         Mulx64(at_reg(NEAR, 96), reg(NEAR), by),
         Mulx64(at_index(TARGET, 1, TARGET, -4096), low, by),
-        Mulx64(at_index(BASE, -1, TARGET, 0), low, by),
+        Mulx64(through_low, low, by),
         Mulx64(at(CELL), at(CELL), by),
         Mulx64(at(4104), at(CELL), at(4104)),
         Mulx64(low, low, reg(RDX)),
@@ -117,11 +122,11 @@ fn products() -> Vec<Code> {
     all.into_iter().map(ins).collect()
 }
 
-pub fn jobs() -> Vec<Job> {
+pub fn jobs(rule: Rule) -> Vec<Job> {
     let mut codes: Vec<Code> = faulty().into_iter().flat_map(places).collect();
     codes.extend(comparisons());
     codes.extend(orders());
     let mut jobs: Vec<Job> = codes.into_iter().map(|c| stage(c).reg(LEFT, 2)).collect();
-    jobs.extend(products().into_iter().map(|c| stage(c).reg(RDX, CELL)));
+    jobs.extend(products(rule).into_iter().map(|c| stage(c).reg(RDX, CELL)));
     jobs
 }

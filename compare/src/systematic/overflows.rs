@@ -7,6 +7,7 @@ use super::roles::{kinds, BARE};
 use super::stage::*;
 use crate::build::*;
 use crate::job::Job;
+use crate::reader::Rule;
 use crate::tree::Instruction::*;
 use crate::tree::*;
 use Relation::{Eq, Ne};
@@ -180,10 +181,10 @@ fn staged(code: Code, word: u64) -> Job {
 /// word leaves the range with each of them, the second with none.
 fn operands() -> Vec<Job> {
     let mut jobs = Vec::new();
-    let [_, destinations @ ..] = kinds(8);
+    let [_, destinations @ ..] = kinds(Rule::Today, 8);
     for sum in SUMS {
         for dst in destinations {
-            for src in kinds(0) {
+            for src in kinds(Rule::Today, 0) {
                 let code = || block(vec![ins(sum(dst, src)), read()]);
                 jobs.extend([LARGEST - 4, 0].map(|word| staged(code(), word)));
             }
@@ -194,7 +195,7 @@ fn operands() -> Vec<Job> {
 
 /// Destination and source are one place, or one is found through the other.
 fn meetings() -> Vec<Job> {
-    let [_, own, cell, near, index] = kinds(8);
+    let [_, own, cell, near, index] = kinds(Rule::Today, 8);
     let pairs = [
         (own, own),
         (cell, cell),
@@ -254,7 +255,7 @@ fn faults_by_it() -> Vec<Job> {
         (CELL, ins(Mov64(there, reg(OTHER)))),
         (CELL, ins(AddCarry64(there, number(1)))),
         (63, ins(Shl64(reg(OTHER), word))),
-        (1 << 62, ins(Mov64(at_index(RIGHT, 3, RIGHT, -4), word))),
+        (1 << 63, ins(Mov64(at_index(RIGHT, 1, RIGHT, -2), word))),
         (0, ins(Mov64(reg(OTHER), at_reg(RIGHT, -1)))),
         (0, choice(Pslld(1, 32))),
         (0, choice(Vpslldq(1, 1, 5))),

@@ -4,6 +4,7 @@
 use super::stage::*;
 use crate::build::*;
 use crate::job::Job;
+use crate::reader::Rule;
 use crate::tree::Instruction::*;
 use crate::tree::*;
 use Role::{Destination, Source};
@@ -14,6 +15,7 @@ pub enum Role {
     Source,
 }
 
+#[derive(Clone, Copy)]
 pub struct Shape {
     build: fn(&[Operand]) -> Instruction,
     pub roles: &'static [Role],
@@ -56,14 +58,22 @@ pub fn shapes() -> Vec<Shape> {
     ]
 }
 
+/// So far behind CELL; last year through a scale that is refused today.
+fn by_index(rule: Rule, behind: i64) -> Operand {
+    match rule {
+        Rule::Today => at_index(BASE, 2, INDEX, behind - 8192),
+        Rule::LastYear => at_index(BASE, -2, INDEX, behind),
+    }
+}
+
 /// An operand of each kind; the memory is a cell of 7 or the one beside it.
-pub fn kinds(behind: i64) -> [Operand; 5] {
+pub fn kinds(rule: Rule, behind: i64) -> [Operand; 5] {
     [
         number(5),
         reg(if behind == 0 { SMALL } else { TARGET }),
         at(CELL + behind as u64),
         at_reg(NEAR, 96 + behind),
-        at_index(BASE, -2, INDEX, behind),
+        by_index(rule, behind),
     ]
 }
 
@@ -73,10 +83,23 @@ pub const BARE: [Operand; 6] = [
     Operand::Mem(Maddr::Const(BESIDE)),
     Operand::Mem(Maddr::Const(4112)),
     Operand::Mem(Maddr::Reg(NEAR, 113)),
-    Operand::Mem(Maddr::Index(BASE, -2, INDEX, 19)),
+    Operand::Mem(Maddr::Index(BASE, 2, INDEX, 19 - 8192)),
     Operand::Mem(Maddr::Reg(NEAR, -4001)),
     Operand::Mem(Maddr::Index(TARGET, 1, INDEX, 0)),
 ];
+
+/// `BARE`, as the rule has it.
+pub fn bare_memory(rule: Rule) -> [Operand; 6] {
+    let [a, b, c, _, d, e] = BARE;
+    [a, b, c, by_index(rule, 19), d, e]
+}
+
+impl Shape {
+    /// The instruction with these operands, as many as there are roles.
+    pub fn of(&self, operands: &[Operand]) -> Code {
+        ins((self.build)(operands))
+    }
+}
 
 fn usual(role: Role, position: usize) -> Operand {
     match role {
@@ -91,16 +114,17 @@ pub fn with(shape: &Shape, position: usize, operand: Operand) -> Code {
         .map(|i| usual(shape.roles[i], i))
         .collect();
     operands[position] = operand;
-    ins((shape.build)(&operands))
+    shape.of(&operands)
 }
 
-pub fn jobs() -> Vec<Job> {
+pub fn jobs(rule: Rule) -> Vec<Job> {
+    let bare = bare_memory(rule);
     let mut jobs = Vec::new();
     for (turn, shape) in shapes().iter().enumerate() {
         for (position, &role) in shape.roles.iter().enumerate() {
             let behind = if role == Source { 0 } else { 8 };
-            let mut tried = kinds(behind).to_vec();
-            tried.push(BARE[(turn + position) % BARE.len()]);
+            let mut tried = kinds(rule, behind).to_vec();
+            tried.push(bare[(turn + position) % bare.len()]);
             if role == Destination {
                 tried.push(reg(RSP));
             }

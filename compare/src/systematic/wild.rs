@@ -5,8 +5,10 @@ use super::comparisons::{chosen, once};
 use super::faults::places;
 use super::roles::{shapes, with, Role};
 use super::stage::*;
+use super::wild_forms::{Form, Forms};
 use crate::build::*;
 use crate::job::Job;
+use crate::reader::Rule;
 use crate::tree::Instruction::*;
 use crate::tree::*;
 
@@ -17,97 +19,19 @@ fn ends(code: Code) -> Job {
     job.cell(0, 64, 3).cell(TOP - 7, 64, 5)
 }
 
-/// A memory operand, and what the registers of its address hold.
-#[derive(Clone, Copy)]
-struct Form {
-    operand: Operand,
-    base: u64,
-    index: u64,
-}
-
-const fn near(base: u64, offset: i64) -> Form {
-    Form {
-        operand: Operand::Mem(Maddr::Reg(BASE, offset)),
-        base,
-        index: 0,
-    }
-}
-
-const fn far(base: u64, scale: i16, index: u64, offset: i64) -> Form {
-    Form {
-        operand: Operand::Mem(Maddr::Index(BASE, scale, INDEX, offset)),
-        base,
-        index,
-    }
-}
-
 impl Form {
     fn met(self, code: Code) -> Job {
         ends(code).reg(BASE, self.base).reg(INDEX, self.index)
     }
 }
 
-/// -1 and -8; with either sign of the scale, with none, by the offset alone; a
-/// whole 2^64 and more below a cell.
-const BELOW: [Form; 11] = [
-    near(0, -1),
-    near(0, -8),
-    far(0, -1, 1, 0),
-    far(8, -8, 2, 0),
-    far(8, -1, 8, -1),
-    far(0, 1, 7, -8),
-    far(0, 0, TOP, -8),
-    far(0, -2, 1 << 63, 0),
-    far(TOP - 7, -2, 1 << 63, 0),
-    far(TOP - 7, -4, 1 << 63, 0),
-    far(TOP, -32_768, TOP, i64::MAX),
-];
-
-/// 2^64, and the like.
-const ABOVE: [Form; 11] = [
-    near(TOP, 1),
-    near(TOP, i64::MAX),
-    far(TOP - 7, 8, 1, 0),
-    far(TOP - 8, 1, 8, 1),
-    far(TOP, -1, 7, 8),
-    far(TOP, 0, TOP, 1),
-    far(0, 2, 1 << 63, 0),
-    far(TOP - 7, 2, 1 << 63, 0),
-    far(0, 4, 1 << 63, 0),
-    far(TOP, 1, TOP, -6),
-    far(TOP, 32_767, TOP, i64::MIN),
-];
-
-/// 2^64-1: still in the range, without a cell.
-const LAST: [Form; 7] = [
-    near(TOP, 0),
-    near(TOP - 1, 1),
-    far(TOP - 8, 8, 1, 0),
-    far(TOP, 1, 8, -8),
-    far(TOP, -1, 8, 8),
-    far(TOP, 0, TOP, 0),
-    far(0, 1, TOP, 0),
-];
-
-/// 0 and 2^64-8, also where a part of the sum is out of the range.
-const HOME: [Form; 8] = [
-    near(1, -1),
-    near(TOP, -7),
-    far(8, -8, 1, 0),
-    far(TOP - 15, 8, 1, 0),
-    far(0, -1, 8, 8),
-    far(TOP, 1, 1, -8),
-    far(TOP, -1, TOP, 0),
-    far(TOP - 7, 0, TOP, 0),
-];
-
 /// Each role of each instruction, with the forms by turns.
-fn in_roles() -> Vec<Job> {
+fn in_roles(all: &Forms) -> Vec<Job> {
     let mut jobs = Vec::new();
     let mut turn = 0;
     for shape in shapes() {
         for position in 0..shape.roles.len() {
-            for forms in [&BELOW[..], &ABOVE, &LAST] {
+            for forms in [&all.below[..], &all.above, &all.last] {
                 let form = forms[turn % forms.len()];
                 jobs.push(form.met(with(&shape, position, form.operand)));
             }
@@ -118,15 +42,18 @@ fn in_roles() -> Vec<Job> {
 }
 
 /// -1, 2^64 and 2^64-1, each by one register and by an index.
-const ENDS: [Form; 6] = [BELOW[0], BELOW[2], ABOVE[0], ABOVE[2], LAST[0], LAST[2]];
+fn both_ends(all: &Forms) -> [Form; 6] {
+    let [low, high, last] = [&all.below[..], &all.above, &all.last];
+    [low[0], low[2], high[0], high[2], last[0], last[2]]
+}
 
 /// Each of them in each role of each instruction.
-fn ends_in_roles() -> Vec<Job> {
+fn ends_in_roles(all: &Forms) -> Vec<Job> {
     let mut jobs = Vec::new();
     for shape in shapes() {
         for position in 0..shape.roles.len() {
             let job = |form: Form| form.met(with(&shape, position, form.operand));
-            jobs.extend(ENDS.map(job));
+            jobs.extend(both_ends(all).map(job));
         }
     }
     jobs
@@ -134,10 +61,12 @@ fn ends_in_roles() -> Vec<Job> {
 
 /// And on each side of a comparison in each structure, with the relations by
 /// turns; then 0 and 2^64-8 there, by one register and by an index.
-fn ends_in_comparisons() -> Vec<Job> {
+fn ends_in_comparisons(all: &Forms) -> Vec<Job> {
+    let found = all.home.into_iter().take(4);
+    let forms: Vec<Form> = both_ends(all).into_iter().chain(found).collect();
     let mut jobs = Vec::new();
     for turn in 0..4 {
-        for (i, form) in ENDS.into_iter().chain(HOME.into_iter().take(4)).enumerate() {
+        for (i, form) in forms.iter().enumerate() {
             let (relation, other) = (RELATIONS[(i + turn) % 6], reg(SMALL));
             let condition = match turn % 2 {
                 0 => compare(relation, form.operand, other),
@@ -150,9 +79,9 @@ fn ends_in_comparisons() -> Vec<Job> {
 }
 
 /// Either side of a comparison in either structure, by turns.
-fn in_comparisons() -> Vec<Job> {
-    let last = LAST.into_iter().take(2);
-    let forms = BELOW.into_iter().chain(ABOVE).chain(last);
+fn in_comparisons(all: &Forms) -> Vec<Job> {
+    let last = all.last.into_iter().take(2);
+    let forms = all.below.into_iter().chain(all.above).chain(last);
     let compared = |(turn, form): (usize, Form)| {
         let (relation, other) = (RELATIONS[turn % 6], reg(SMALL));
         let condition = match turn % 2 {
@@ -172,7 +101,7 @@ fn tested(turn: usize, condition: Ocmp) -> Code {
 }
 
 /// The cell is found: in all sources and a comparison, then in all destinations.
-fn at_home() -> Vec<Job> {
+fn at_home(all: &Forms) -> Vec<Job> {
     let in_all = |role: Role, operand: Operand| {
         let mut codes = Vec::new();
         for shape in shapes() {
@@ -187,7 +116,7 @@ fn at_home() -> Vec<Job> {
         let destinations = in_all(Role::Destination, form.operand);
         [sources, destinations].map(|codes| form.met(block(codes)))
     };
-    HOME.into_iter().flat_map(both).collect()
+    all.home.into_iter().flat_map(both).collect()
 }
 
 /// A cell, no cell, and -8, which modulo 2^64 is the other cell.
@@ -266,9 +195,13 @@ fn product_pairs() -> Vec<Code> {
 
 /// The low half goes to a register of the high destination's address. It is
 /// Rdx, so the first number is what BASE holds before, the second what after.
-fn products_through_low() -> Vec<Job> {
+fn products_through_low(rule: Rule) -> Vec<Job> {
     let (up, down) = (at_reg(BASE, 8), at_reg(BASE, -8));
-    let (sum, less) = (at_index(INDEX, 1, BASE, 0), at_index(INDEX, -1, BASE, 8));
+    let sum = at_index(INDEX, 1, BASE, 0);
+    let (scaled, out, back) = match rule {
+        Rule::Today => (at_index(INDEX, 8, BASE, 4), 1, 0),
+        Rule::LastYear => (at_index(INDEX, -1, BASE, 8), 0, TOP),
+    };
     let twice = at_index(BASE, 1, BASE, 0);
     let all = [
         (up, TOP - 15, TOP - 7),
@@ -280,8 +213,8 @@ fn products_through_low() -> Vec<Job> {
         (down, 0, 8),
         (sum, 0, 8),
         (sum, 8, 0),
-        (less, 0, TOP),
-        (less, TOP, 0),
+        (scaled, out, back),
+        (scaled, back, out),
         (twice, 0, 1 << 63),
     ];
     let job = |(high, before, after)| {
@@ -310,16 +243,17 @@ fn elsewhere() -> Vec<Job> {
     jobs.into_iter().map(|job| job.reg(LEFT, 2)).collect()
 }
 
-pub fn jobs() -> Vec<Job> {
-    let mut jobs = in_roles();
-    jobs.extend(in_comparisons());
-    jobs.extend(at_home());
+pub fn jobs(rule: Rule) -> Vec<Job> {
+    let all = Forms::by(rule);
+    let mut jobs = in_roles(&all);
+    jobs.extend(in_comparisons(&all));
+    jobs.extend(at_home(&all));
     let codes = [compared_pairs(), instruction_pairs(), product_pairs()];
     jobs.extend(codes.concat().into_iter().map(at_both_ends));
-    jobs.extend(products_through_low());
+    jobs.extend(products_through_low(rule));
     jobs.extend(elsewhere());
-    jobs.extend(ends_in_roles());
-    jobs.extend(ends_in_comparisons());
+    jobs.extend(ends_in_roles(&all));
+    jobs.extend(ends_in_comparisons(&all));
     jobs
 }
 

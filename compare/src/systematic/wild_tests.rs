@@ -2,11 +2,17 @@
 
 use super::*;
 use crate::answer::Answer;
-use crate::run::answer_bytes;
+use crate::run::{answer_bytes, answer_bytes_by};
+
+const RULES: [Rule; 2] = [Rule::Today, Rule::LastYear];
 
 /// The number of each job's fault, 0 for Done.
 fn numbers(jobs: impl IntoIterator<Item = Job>) -> Vec<u8> {
-    let number = |job: Job| match answer_bytes(&job.to_bytes()).answer {
+    numbers_by(Rule::Today, jobs)
+}
+
+fn numbers_by(rule: Rule, jobs: impl IntoIterator<Item = Job>) -> Vec<u8> {
+    let number = |job: Job| match answer_bytes_by(rule, &job.to_bytes()).answer {
         Answer::Done => 0,
         Answer::Fault(number, _) => number,
         other => panic!("{other:?}"),
@@ -22,13 +28,16 @@ fn of_codes(codes: Vec<Code>) -> Vec<u8> {
 fn forms() {
     let read = |form: Form| form.met(ins(Mov64(reg(TARGET), form.operand)));
     let written = |form: Form| form.met(ins(Mov64(form.operand, reg(SMALL))));
-    for wild in [BELOW, ABOVE] {
-        assert_eq!(numbers(wild.map(read)), [36; 11]);
-        assert_eq!(numbers(wild.map(written)), [36; 11]);
+    for rule in RULES {
+        let all = Forms::by(rule);
+        for wild in [all.below, all.above] {
+            assert_eq!(numbers_by(rule, wild.map(read)), [36; 11]);
+            assert_eq!(numbers_by(rule, wild.map(written)), [36; 11]);
+        }
+        assert_eq!(numbers_by(rule, all.last.map(read)), [31; 7]);
+        assert_eq!(numbers_by(rule, all.last.map(written)), [32; 7]);
+        assert_eq!(numbers_by(rule, at_home(&all)), [0; 16]);
     }
-    assert_eq!(numbers(LAST.map(read)), [31; 7]);
-    assert_eq!(numbers(LAST.map(written)), [32; 7]);
-    assert_eq!(numbers(at_home()), [0; 16]);
 }
 
 #[test]
@@ -40,14 +49,18 @@ fn roles() {
     let ends: Vec<u8> = ends.collect();
     let by_turns: Vec<u8> = ends.iter().flat_map(|&own| [36, 36, own]).collect();
     assert_eq!(by_turns.len(), 114);
-    assert_eq!(numbers(in_roles()), by_turns);
     let each = ends.iter().flat_map(|&own| [36, 36, 36, 36, own, own]);
-    assert_eq!(numbers(ends_in_roles()), each.collect::<Vec<u8>>());
+    let each: Vec<u8> = each.collect();
     let mut compared = vec![36; 22];
     compared.extend([31, 31]);
-    assert_eq!(numbers(in_comparisons()), compared);
-    let each = [36, 36, 36, 36, 31, 31, 0, 0, 0, 0];
-    assert_eq!(numbers(ends_in_comparisons()), each.repeat(4));
+    let in_turn = [36, 36, 36, 36, 31, 31, 0, 0, 0, 0].repeat(4);
+    for rule in RULES {
+        let (all, numbers) = (Forms::by(rule), |jobs| numbers_by(rule, jobs));
+        assert_eq!(numbers(in_roles(&all)), by_turns);
+        assert_eq!(numbers(ends_in_roles(&all)), each);
+        assert_eq!(numbers(in_comparisons(&all)), compared);
+        assert_eq!(numbers(ends_in_comparisons(&all)), in_turn);
+    }
 }
 
 /// The first of two is there, has no cell, is out of the range; and with each
@@ -79,7 +92,9 @@ fn destinations_of_products() {
     let expected = [0, 32, 36, 32, 32, 32, 36, 36, 36, 32, 36, 32, 36, 31, 36];
     assert_eq!(of_codes(product_pairs()), expected);
     let through_low = [36, 0, 32, 36, 36, 36, 0, 36, 0, 32, 36, 36];
-    assert_eq!(numbers(products_through_low()), through_low);
+    for rule in RULES {
+        assert_eq!(numbers_by(rule, products_through_low(rule)), through_low);
+    }
 }
 
 #[test]

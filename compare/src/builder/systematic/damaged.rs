@@ -1,6 +1,6 @@
 //! Builds that no call left, each with every call, with much lent and little.
 
-use super::{absent, sound, Scribe};
+use super::{bad, sound, Scribe};
 
 /// What a build says: length, depth, and of the innermost open part its kind,
 /// field and start.
@@ -65,9 +65,10 @@ pub fn lists(scribe: &mut Scribe) {
         damage(scribe, said);
         scribe.no_value();
         for lent in [LARGE, SMALL] {
-            for call in sound().iter().chain(&absent()) {
+            let calls = sound().into_iter().chain(bad().map(|(call, _)| call));
+            for call in calls {
                 damage(scribe, said);
-                scribe.lend(call, lent);
+                scribe.lend(&call, lent);
             }
         }
     }

@@ -1,7 +1,7 @@
 //! Depth 32 and 33 through each kind of part, buffers that are a byte too
 //! short and just long enough, and 16,384 bytes.
 
-use super::{absent, equal, sound, xor, Scribe};
+use super::{bad, equal, sound, xor, Scribe};
 use crate::build::at_index;
 use crate::builder::calls::Call;
 use crate::builder::model::added;
@@ -36,8 +36,8 @@ fn deep(scribe: &mut Scribe, way: &[Call], openings: &[Call]) {
             assert_eq!(scribe.call(call), 53);
             assert_eq!(scribe.lend(call, 0), 53);
         }
-        for call in absent() {
-            assert_eq!(scribe.lend(&call, 0), 4);
+        for (call, number) in bad() {
+            assert_eq!(scribe.lend(&call, 0), number);
         }
         let closed = scribe.call(&Close);
         assert_eq!(closed, if *opening == OpenBlock { 0 } else { 51 });
@@ -110,7 +110,7 @@ fn shorter(scribe: &mut Scribe) {
 
 /// Up to 16,384 bytes in a Block; one more is refused, whatever is lent.
 fn long(scribe: &mut Scribe) {
-    let index = |n: u8| at_index(n, -1, 15 - n, -1);
+    let index = |n: u8| at_index(n, 8, 15 - n, -1);
     let longest = Add(AddLea64(index(1), index(2), index(3)));
     scribe.list(65_550);
     scribe.take(&[OpenBlock]);

@@ -1,20 +1,22 @@
 //! A systematic set of call lists, written out one by one: every value in
-//! every place, every refusal at every kind of open part, and damaged builds.
+//! every place, every scale there too, every refusal at every kind of open part, and
+//! damaged builds.
 //! Only what a record's kind does not look at is left to chance, from a fixed
 //! seed.
 
 mod damaged;
 mod limits;
+mod scales;
 mod stands;
 mod values;
 
 use super::calls::Call;
 use super::record::{Entry, RawCall};
 use super::stored::Recorder;
-use crate::build::reg;
+use crate::build::{at_index, reg};
 use crate::rng::Rng;
-use crate::tree::Instruction::Pxor;
-use crate::tree::{Ocmp, Reg, Relation};
+use crate::tree::Instruction::{Mul64, Pinsrd, Pxor};
+use crate::tree::{Ocmp, Operand, Reg, Relation};
 
 pub fn lists(recorder: &mut Recorder) {
     let mut rng = Rng::new(1);
@@ -26,6 +28,7 @@ pub fn lists(recorder: &mut Recorder) {
     stands::lists(&mut scribe);
     limits::lists(&mut scribe);
     damaged::lists(&mut scribe);
+    scales::lists(&mut scribe);
 }
 
 /// Records calls; what a record does not need comes from `rng`.
@@ -86,11 +89,23 @@ fn sound() -> [Call; 5] {
     ]
 }
 
-/// Calls that name a register that there is not.
-fn absent() -> [Call; 3] {
+fn scaled(base: Reg, scale: i16, index: Reg) -> Operand {
+    at_index(base, scale, index, 0)
+}
+
+/// Calls with a bad field, and the number that they are refused with where they fit:
+/// a register that there is not, a scale that there is not, and both.
+fn bad() -> [(Call, u8); 9] {
+    let less = |operand| Ocmp::unplaced(Relation::Lt, reg(0), operand);
     [
-        Call::OpenIfElse(equal(16, 0)),
-        Call::OpenWhile(equal(0, 255)),
-        Call::Add(Pxor(0, 16)),
+        (Call::OpenIfElse(equal(16, 0)), 4),
+        (Call::OpenWhile(equal(0, 255)), 4),
+        (Call::Add(Pxor(0, 16)), 4),
+        (Call::OpenIfElse(less(scaled(0, 3, 1))), 7),
+        (Call::OpenWhile(less(scaled(0, 0, 1))), 7),
+        (Call::Add(Mul64(scaled(0, -1, 1))), 7),
+        (Call::OpenWhile(less(scaled(16, 3, 1))), 4),
+        (Call::OpenIfElse(less(scaled(0, 16, 16))), 7),
+        (Call::Add(Pinsrd(16, scaled(0, 3, 1), 1)), 4),
     ]
 }

@@ -2,7 +2,7 @@
 //! row, those that are taken each after the same calls anew. Every refusal is
 //! met alone and with those that come behind it in the order.
 
-use super::{absent, equal, sound, xor, Scribe};
+use super::{bad, equal, sound, xor, Scribe};
 use crate::builder::calls::Call;
 use crate::builder::model::added;
 use Call::{Close, OpenBlock, OpenIfElse, OpenWhile};
@@ -51,9 +51,9 @@ pub fn lists(scribe: &mut Scribe) {
 /// byte too little.
 fn refused_calls(scribe: &mut Scribe) -> Vec<Call> {
     let length = scribe.recorder.length();
-    for call in absent() {
+    for (call, number) in bad() {
         for lent in [100, 0] {
-            assert!([4, 51].contains(&scribe.lend(&call, lent)));
+            assert!([number, 51].contains(&scribe.lend(&call, lent)));
         }
     }
     let mut refused = Vec::new();

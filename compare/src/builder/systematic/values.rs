@@ -12,13 +12,13 @@ const KINDS: usize = 5;
 
 const WORDS: [u64; 5] = [0, 1, u64::MAX, 1 << 63, (1 << 63) - 1];
 const OFFSETS: [i64; 5] = [0, 1, -1, i64::MIN, i64::MAX];
-const SCALES: [i16; 5] = [0, 1, -1, i16::MIN, i16::MAX];
+const SCALES: [i16; 5] = [1, 2, 4, 8, 1];
 const NUMBERS: [u8; 5] = [0, 1, 15, 7, 14];
 const AMOUNTS: [u8; 5] = [0, 1, 255, 128, 127];
 
 /// A byte of a body: an xmm number, or an amount or imm8.
 #[derive(Clone, Copy, PartialEq, Eq)]
-enum Byte {
+pub enum Byte {
     Xmm,
     Amount,
 }
@@ -26,7 +26,7 @@ enum Byte {
 use Byte::{Amount, Xmm};
 
 /// Kind, body and number of operands of each instruction.
-const INSTRUCTIONS: [(u8, &[Byte], usize); INSTRUCTION_KINDS] = [
+pub const INSTRUCTIONS: [(u8, &[Byte], usize); INSTRUCTION_KINDS] = [
     (0x01, &[], 2),
     (0x02, &[], 2),
     (0x03, &[], 3),
@@ -56,7 +56,7 @@ const INSTRUCTIONS: [(u8, &[Byte], usize); INSTRUCTION_KINDS] = [
     (0x1b, &[], 2),
 ];
 
-const COMPARISONS: std::ops::RangeInclusive<u8> = 0x30..=0x35;
+pub const COMPARISONS: std::ops::RangeInclusive<u8> = 0x30..=0x35;
 
 /// The operand of a kind, with its fields at an edge.
 fn operand(kind: usize, edge: usize) -> Operand {
@@ -75,13 +75,13 @@ fn operand(kind: usize, edge: usize) -> Operand {
 }
 
 /// Over all a and b each place has each kind with each edge.
-fn operands(count: usize, a: usize, b: usize) -> Vec<Operand> {
+pub fn operands(count: usize, a: usize, b: usize) -> Vec<Operand> {
     let all = [operand(a, b), operand(b, a), operand(a + b, a)];
     all[..count].to_vec()
 }
 
 /// The kind, and a body with each byte at its edge.
-fn head(kind: u8, body: &[Byte], edge: usize) -> Vec<u8> {
+pub fn head(kind: u8, body: &[Byte], edge: usize) -> Vec<u8> {
     let mut head = vec![kind];
     for (i, byte) in body.iter().enumerate() {
         let edges = if *byte == Xmm { NUMBERS } else { AMOUNTS };
