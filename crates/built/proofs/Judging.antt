@@ -69,10 +69,10 @@ at-most-both a b c =
     (λ h. let w = both (leb a b) (leb a c) h in (leb-true a b (w .0), leb-true a c (w .1)), λ h. rw (le-leb a b (h .0), le-leb a c (h .1)))
 
 -- conditions in a row
-three : {X P Q R : Type 0} → Exactly X (P × (Q × R)) → Exactly X (P × Q × R)
+pub three : {X P Q R : Type 0} → Exactly X (P × (Q × R)) → Exactly X (P × Q × R)
 three w = (λ x. let h = w .0 x in (h .0, h .1 .0, h .1 .1), λ h. w .1 (h .0, (h .1, h .2)))
 
-four : {X P Q R S : Type 0} → Exactly X (P × (Q × (R × S))) → Exactly X (P × Q × R × S)
+pub four : {X P Q R S : Type 0} → Exactly X (P × (Q × (R × S))) → Exactly X (P × Q × R × S)
 four w = (λ x. let h = w .0 x in (h .0, h .1 .0, h .1 .1 .0, h .1 .1 .1), λ h. w .1 (h .0, (h .1, (h .2, h .3))))
 
 -- ---- the conditions and the trouble in their order

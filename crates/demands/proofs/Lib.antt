@@ -7,3 +7,5 @@ pub mod Stepping
 pub mod Overflowing
 pub mod Filling
 pub mod Watching
+pub mod Sevens
+pub mod Scaling

@@ -5,3 +5,4 @@ pub mod Telling
 pub mod Stepping
 pub mod Overflowing
 pub mod Watching
+pub mod Scaling
