@@ -25,7 +25,7 @@ enum pokchrei_kind {
     POKCHREI_DONE = 0,    /* after the last code */
     POKCHREI_FAULT = 1,   /* a check failed: number (a pokchrei_fault), and place of its instruction or comparison */
     POKCHREI_SPENT = 2,   /* a While was met without fuel: its place */
-    POKCHREI_REFUSED = 3, /* code (1 to 6) or cells (11 to 15) were not accepted: number, and place or index; or the
+    POKCHREI_REFUSED = 3, /* code (1 to 7) or cells (11 to 15) were not accepted: number, and place or index; or the
                              evaluation (0, at 0) is no pokchrei_evaluation */
     POKCHREI_STOPPED = 4  /* the limit was used up: its number (a pokchrei_stop), and the place of what came next */
 };
@@ -112,8 +112,12 @@ enum pokchrei_register {
 };
 
 /*
- * Checks code. Answers 0 where it is accepted, else the number of the refusal, 1 to 6; *place is the byte offset
+ * Checks code. Answers 0 where it is accepted, else the number of the refusal, 1 to 7; *place is the byte offset
  * that it names (0 where accepted).
+ *
+ * 7 says that the scale of an M_INDEX is none of 1, 2, 4 and 8; its place is the scale's first byte. Operands are judged
+ * one after the other, and each from left to right once all its bytes are there (else 3): of an M_INDEX first the base (4
+ * where it is above 15), then the scale (7), then the index (4).
  */
 uint8_t pokchrei_check_code(const uint8_t *code, size_t code_length, size_t *place);
 
@@ -238,7 +242,7 @@ typedef struct pokchrei_operand {
     uint8_t kind;
     uint8_t base;    /* the register of O_REG and M_REG, the base of M_INDEX */
     uint8_t index;   /* M_INDEX */
-    int16_t scale;   /* M_INDEX */
+    int16_t scale;   /* M_INDEX: 1, 2, 4 or 8 */
     uint64_t number; /* O_CONST, M_CONST */
     int64_t offset;  /* M_REG, M_INDEX */
 } pokchrei_operand;
@@ -266,10 +270,14 @@ void pokchrei_begin(uint16_t *length, uint16_t *depth, uint8_t parts[32], uint16
  *     51  nothing is open to close, or the open part has not the code that it needs, or has the one that it takes, or
  *         the build is finished
  *      4  a register or xmm number above 15
+ *      7  the scale of an M_INDEX, in scales, is none of 1, 2, 4 and 8
  *     53  the code would be the 33rd level; an IfElse or a While that is opened at the 32nd is taken, but no code fits
  *         into it, and so it can't be closed
  *     52  too many bytes for the buffer, or more than 16,384; a close too, where the buffer is now shorter than what
  *         was built
+ *
+ * 4 and 7 share their place in this order: the first wrong field in the record's bytes decides. There xmm numbers stand
+ * ahead of the operands, and of an M_INDEX the base ahead of the scale, and that ahead of the index.
  */
 uint8_t pokchrei_open_block(uint16_t *length, uint16_t *depth, uint8_t parts[32], uint16_t fields[32],
                             uint16_t starts[32], uint8_t *buffer, size_t buffer_length);
@@ -295,8 +303,9 @@ uint8_t pokchrei_close(uint16_t *length, uint16_t *depth, uint8_t parts[32], uin
                        uint8_t *buffer, size_t buffer_length);
 
 /*
- * Operands. A register is given as a number, so that one from 16 to 255 gets the builder's answer, 4; a wider number is
- * cut down by C itself before it is seen (-Wconversion tells), and so are a scale and an amount.
+ * Operands. A register is given as a number, so that one from 16 to 255 gets the builder's answer, 4; and so is a scale,
+ * where any but 1, 2, 4 and 8 gets 7. A wider number, an amount too, is cut down by C itself before it is seen
+ * (-Wconversion tells): a scale of 65,537 is seen as 1.
  */
 
 static inline pokchrei_operand pokchrei_const(uint64_t number)
@@ -323,7 +332,7 @@ static inline pokchrei_operand pokchrei_mreg(uint8_t reg, int64_t offset)
     return operand;
 }
 
-/* At base + scale * index + offset. */
+/* At base + scale * index + offset, with a scale of 1, 2, 4 or 8. */
 static inline pokchrei_operand pokchrei_mindex(uint8_t base, int16_t scale, uint8_t index, int64_t offset)
 {
     pokchrei_operand operand = {POKCHREI_M_INDEX, base, index, scale, 0, offset};
