@@ -9,7 +9,11 @@ use std::fmt;
 /// The room that the longest code needs.
 pub const CODE_ROOM: usize = 16_384;
 
-/// Why a call was not taken. It has no place.
+/// Why a call was not taken. It has no place. The first that holds is answered, in the order below; but [`NoRegister`] and
+/// [`NoScale`] go together, and the first wrong field in the order of the record's bytes decides.
+///
+/// [`NoRegister`]: BuildRefusal::NoRegister
+/// [`NoScale`]: BuildRefusal::NoScale
 #[derive(Clone, Copy, Debug, PartialEq, Eq)]
 pub enum BuildRefusal {
     /// 51: nothing is open to close, or the open part has not the code that it needs, or has the one that it takes,
@@ -17,6 +21,8 @@ pub enum BuildRefusal {
     Misfit,
     /// 4: a register or xmm number above 15.
     NoRegister,
+    /// 7: the scale of an MIndex is none of 1, 2, 4 and 8.
+    NoScale,
     /// 53: the code would be the 33rd level.
     TooDeep,
     /// 52: too many bytes for the buffer, or more than [`CODE_ROOM`].
@@ -29,6 +35,7 @@ impl BuildRefusal {
         match self {
             BuildRefusal::Misfit => 51,
             BuildRefusal::NoRegister => 4,
+            BuildRefusal::NoScale => 7,
             BuildRefusal::TooDeep => 53,
             BuildRefusal::NoRoom => 52,
         }
@@ -40,6 +47,7 @@ impl fmt::Display for BuildRefusal {
         let reason = match self {
             BuildRefusal::Misfit => "the open part does not take this call",
             BuildRefusal::NoRegister => "a register or xmm number above 15",
+            BuildRefusal::NoScale => "the scale of an MIndex is none of 1, 2, 4 and 8",
             BuildRefusal::TooDeep => "the code would be the 33rd level",
             BuildRefusal::NoRoom => "too many bytes for the buffer, or more than 16,384",
         };
@@ -195,6 +203,7 @@ fn taken(answer: u8) -> Result<(), BuildRefusal> {
     match answer {
         0 => Ok(()),
         4 => Err(BuildRefusal::NoRegister),
+        7 => Err(BuildRefusal::NoScale),
         51 => Err(BuildRefusal::Misfit),
         52 => Err(BuildRefusal::NoRoom),
         53 => Err(BuildRefusal::TooDeep),

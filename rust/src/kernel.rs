@@ -37,7 +37,7 @@ pub enum Operand {
     MConst(u64),
     /// At register + offset.
     MReg(Reg, i64),
-    /// At base + scale * index + offset.
+    /// At base + scale * index + offset. The scale is 1, 2, 4 or 8; a build refuses any other.
     MIndex {
         base: Reg,
         scale: i16,

@@ -14,6 +14,10 @@ pub use builder::{BuildRefusal, Builder, CODE_ROOM};
 pub use kernel::{Comparison, Instruction, Operand, Reg, Xmm};
 
 /// Why code or cells were not accepted: document 01's number, with a place (code) or an index (cells).
+///
+/// Of code there is also request 2026-08's 7: the scale of an MIndex is none of 1, 2, 4 and 8. Its place is the scale's
+/// first byte. An MIndex that is not cut short (3) is judged from left to right: first the base (4 where it is above 15),
+/// then the scale (7), then the index (4).
 #[derive(Clone, Copy, Debug, PartialEq, Eq)]
 pub struct Refusal {
     pub number: u8,
