@@ -108,15 +108,37 @@ fn finished_when_the_outermost_code_is_complete() -> Result<(), BuildRefusal> {
     Ok(())
 }
 
-/// Every call that adds a code, with a register above 15 where there can be one.
-fn additions(builder: &mut Builder<'_>) -> [Result<(), BuildRefusal>; 4] {
-    let absent = OReg(Reg(16));
-    [
-        builder.open_block(),
-        builder.open_if_else(OEq(absent, RAX)),
-        builder.open_while(OEq(RAX, absent)),
-        builder.add(Mul64(absent)),
-    ]
+/// An operand with a register above 15, and one with a scale that there is not.
+const WRONG: [Operand; 2] = [
+    OReg(Reg(16)),
+    MIndex {
+        base: Reg::RAX,
+        scale: 3,
+        index: Reg::RAX,
+        offset: 0,
+    },
+];
+
+/// Every call that adds a code, with each of the wrong operands where there can be one.
+fn additions(builder: &mut Builder<'_>) -> Vec<Result<(), BuildRefusal>> {
+    let mut answers = vec![builder.open_block()];
+    for wrong in WRONG {
+        answers.extend([
+            builder.open_if_else(OEq(wrong, RAX)),
+            builder.open_while(OEq(RAX, wrong)),
+            builder.add(Mul64(wrong)),
+        ]);
+    }
+    answers
+}
+
+/// What they answer where the wrong operands count for more than this refusal, which the Block gets.
+fn behind_fields(refusal: BuildRefusal) -> Vec<Result<(), BuildRefusal>> {
+    let (absent, unscaled) = (BuildRefusal::NoRegister, BuildRefusal::NoScale);
+    let numbers = [
+        refusal, absent, absent, absent, unscaled, unscaled, unscaled,
+    ];
+    numbers.map(Err).to_vec()
 }
 
 #[test]
@@ -128,15 +150,15 @@ fn misfits() -> Result<(), BuildRefusal> {
     builder.open_if_else(equal())?;
     assert_eq!(builder.close(), misfit, "the true part lacks its code");
     builder.add(XOR)?;
-    assert_eq!(additions(&mut builder), [misfit; 4], "a second code");
+    assert_eq!(additions(&mut builder), [misfit; 7], "a second code");
     builder.close()?;
     assert_eq!(builder.close(), misfit, "the false part lacks its code");
     builder.open_while(equal())?;
     assert_eq!(builder.close(), misfit, "the While's part lacks its code");
     builder.add(XOR)?;
-    assert_eq!(additions(&mut builder), [misfit; 4], "a second code");
+    assert_eq!(additions(&mut builder), [misfit; 7], "a second code");
     builder.close()?;
-    assert_eq!(additions(&mut builder), [misfit; 4], "the While is one");
+    assert_eq!(additions(&mut builder), [misfit; 7], "the While is one");
     builder.close()?;
     assert!(builder.is_finished());
     Ok(())
@@ -148,7 +170,7 @@ fn nothing_is_taken_after_the_finish() -> Result<(), BuildRefusal> {
     let mut buffer = [0; 3];
     let mut builder = Builder::new(&mut buffer);
     builder.add(XOR)?;
-    assert_eq!(additions(&mut builder), [misfit; 4], "ahead of 4 and 52");
+    assert_eq!(additions(&mut builder), [misfit; 7], "ahead of 4, 7 and 52");
     assert_eq!(builder.close(), misfit);
     assert_eq!(builder.finish(), Some(&[0x10, 0, 1][..]));
     Ok(())
@@ -214,10 +236,10 @@ fn a_while_at_the_last_level_takes_nothing() -> Result<(), BuildRefusal> {
         builder.open_block()?;
     }
     builder.open_while(ONe(RAX, OConst(0)))?;
-    assert_eq!(
-        builder.add(Sub64(RAX, OConst(1))),
-        Err(BuildRefusal::TooDeep)
-    );
+    let deep = BuildRefusal::TooDeep;
+    assert_eq!(builder.add(Sub64(RAX, OConst(1))), Err(deep));
+    let expected = behind_fields(deep);
+    assert_eq!(additions(&mut builder), expected, "4 and 7 are ahead of 53");
     assert_eq!(builder.close(), Err(BuildRefusal::Misfit));
     assert_eq!(builder.depth(), 32);
     Ok(())
@@ -230,10 +252,14 @@ fn depth_33() -> Result<(), BuildRefusal> {
     for _ in 0..32 {
         builder.open_block()?;
     }
-    let (deep, absent) = (BuildRefusal::TooDeep, BuildRefusal::NoRegister);
+    let deep = BuildRefusal::TooDeep;
     assert_eq!(builder.add(XOR), Err(deep), "ahead of 52");
-    let expected = [deep, absent, absent, absent].map(Err);
-    assert_eq!(additions(&mut builder), expected, "4 is ahead of 53");
+    let expected = behind_fields(deep);
+    assert_eq!(
+        additions(&mut builder),
+        expected,
+        "4 and 7 are ahead of both"
+    );
     for _ in 0..32 {
         builder.close()?;
     }
@@ -248,8 +274,9 @@ fn room_in_the_buffer() -> Result<(), BuildRefusal> {
     builder.open_block()?;
     builder.add(XOR)?;
     assert_eq!(builder.add(XOR), Err(BuildRefusal::NoRoom));
-    assert_eq!(builder.open_block(), Err(BuildRefusal::NoRoom));
     assert_eq!(builder.open_while(equal()), Err(BuildRefusal::NoRoom));
+    let expected = behind_fields(BuildRefusal::NoRoom);
+    assert_eq!(additions(&mut builder), expected, "4 and 7 are ahead of 52");
     assert_eq!(builder.bytes(), [0x20, 0, 0, 0, 0, 0x10, 0, 1]);
     builder.close()?;
     assert_eq!(buffer, [0x20, 3, 0, 0, 0, 0x10, 0, 1, 0xee, 0xee]);
@@ -276,8 +303,8 @@ fn room_for_16_384_bytes() -> Result<(), BuildRefusal> {
 #[test]
 fn a_refusal_has_its_number() {
     use BuildRefusal::*;
-    let numbers = [Misfit, NoRegister, TooDeep, NoRoom].map(BuildRefusal::number);
-    assert_eq!(numbers, [51, 4, 53, 52]);
+    let numbers = [Misfit, NoRegister, NoScale, TooDeep, NoRoom].map(BuildRefusal::number);
+    assert_eq!(numbers, [51, 4, 7, 53, 52]);
     let text = "refused 51: the open part does not take this call";
     assert_eq!(Misfit.to_string(), text);
 }
@@ -350,7 +377,7 @@ fn every_comparison() -> Result<(), BuildRefusal> {
 fn every_operand() {
     let index = MIndex {
         base: Reg::RBX,
-        scale: -2,
+        scale: 8,
         index: Reg::R15,
         offset: 258,
     };
@@ -362,7 +389,7 @@ fn every_operand() {
             MReg(Reg::RDI, -1),
             &[0x43, 5, 255, 255, 255, 255, 255, 255, 255, 255],
         ),
-        (index, &[0x44, 1, 254, 255, 15, 2, 1, 0, 0, 0, 0, 0, 0]),
+        (index, &[0x44, 1, 8, 0, 15, 2, 1, 0, 0, 0, 0, 0, 0]),
     ];
     for (operand, bytes) in operands {
         let code = built(AddLea64(operand, RAX, operand));
