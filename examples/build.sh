@@ -35,6 +35,7 @@ Rax 0
 stopped
 steps 5
 Rax 1
+scale 3: refused 7
 END
 example hangs <<'END'
 Sub64, Adcx64

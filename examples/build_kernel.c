@@ -1,4 +1,7 @@
-/* Builds a kernel that counts Rax down to 0, prints its bytes, and runs it from 3, to its end and under a limit. */
+/*
+ * Builds a kernel that counts Rax down to 0, prints its bytes, and runs it from 3, to its end and under a limit. Then
+ * tries to begin another with a scale that there is not.
+ */
 #include <inttypes.h>
 #include <stdio.h>
 
@@ -59,5 +62,10 @@ int main(void)
     if (run(buffer, kernel.length, regs, 4, 5, &steps) != POKCHREI_STOPPED)
         return 1;
     printf("stopped\nsteps %" PRIu64 "\nRax %" PRIu64 "\n", steps, regs[POKCHREI_RAX]);
+
+    pokchrei_build_begin(&kernel);
+    pokchrei_operand by_3 = pokchrei_mindex(POKCHREI_RBX, 3, POKCHREI_RCX, 0);
+    refusal = pokchrei_build_add(&kernel, buffer, sizeof buffer, pokchrei_one(POKCHREI_MUL64, by_3));
+    printf("scale 3: refused %u\n", refusal);
     return 0;
 }
