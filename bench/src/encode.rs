@@ -30,10 +30,9 @@ pub fn at_reg(base: u8, offset: i64) -> Code {
     [&[0x43, base], &offset.to_le_bytes()[..]].concat()
 }
 
-/// Memory at a register and a scaled register.
-pub fn at_index(base: u8, scale: i16, index: u8) -> Code {
-    let [low, high] = scale.to_le_bytes();
-    [&[0x44, base, low, high, index], &[0; 8][..]].concat()
+/// Memory at a register, a register times a scale of 1, 2, 4 or 8, and an offset.
+pub fn at_index(base: u8, scale: u8, index: u8, offset: i64) -> Code {
+    [&[0x44, base, scale, 0, index], &offset.to_le_bytes()[..]].concat()
 }
 
 /// An instruction or a comparison: its kind, the bytes of its body, and its operands.

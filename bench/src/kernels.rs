@@ -167,46 +167,69 @@ pub fn deep(steps: u64) -> Kernel {
     looped("deep", steps, 28, vec![inner])
 }
 
-/// Reads and stores by every memory operand, over `count` 64-bit cells (a power of two), the first at `first` and
-/// each `stride` bytes above the one before.
-fn over_cells(name: &str, steps: u64, first: u64, stride: i16, count: u64) -> Kernel {
-    let last = first + stride as u64 * (count - 1);
-    let middle = i64::from(stride) * (count as i64 / 2);
+/// 64-bit cells at equal distances: `count` of them (a power of two), the first at `first` and each `stride` bytes above
+/// the one before. `indexed` is the cell of number k where Rdi is `unit` (a power of two) times k.
+struct Spaced {
+    first: u64,
+    stride: u64,
+    count: u64,
+    indexed: Code,
+    unit: u64,
+}
+
+/// Reads and stores by every memory operand.
+fn over_cells(name: &str, steps: u64, cells: Spaced) -> Kernel {
+    let last = cells.first + cells.stride * (cells.count - 1);
+    let middle = (cells.stride * (cells.count / 2)) as i64;
     let body = vec![
-        two(ADD64, reg(RDI), constant(7)),
-        two(0x0c, reg(RDI), constant(count - 1)),
-        two(ADD64, at_index(RBX, stride, RDI), reg(RCX)),
-        two(0x01, reg(RAX), at_index(RBX, stride, RDI)),
+        two(ADD64, reg(RDI), constant(7 * cells.unit)),
+        two(0x0c, reg(RDI), constant((cells.count - 1) * cells.unit)),
+        two(ADD64, cells.indexed.clone(), reg(RCX)),
+        two(0x01, reg(RAX), cells.indexed),
         two(0x0b, reg(8), at_reg(RBX, middle)),
         two(ADD64, reg(9), at(last)),
         two(0x01, at_reg(RBX, middle), reg(9)),
     ];
     let mut kernel = looped(name, steps, 7, body);
-    set_regs(&mut kernel, &[(RBX, first)]);
+    set_regs(&mut kernel, &[(RBX, cells.first)]);
     kernel
 }
 
 /// Cells that are 64-bit words in a row.
 pub fn memory(steps: u64, count: u64) -> Kernel {
     let name = format!("memory, {count} cells");
-    let mut kernel = over_cells(&name, steps, FIRST_CELL, 8, count);
+    let cells = Spaced {
+        first: FIRST_CELL,
+        stride: 8,
+        count,
+        indexed: at_index(RBX, 8, RDI, 0),
+        unit: 1,
+    };
+    let mut kernel = over_cells(&name, steps, cells);
     set_cells(&mut kernel, count);
     kernel
 }
 
 /// `count` cells (a power of two from 4 on) of every tag, with gaps. No 64-bit cell is where it would be if all cells
 /// were words in a row: that of group k has index 4k + 3 and lies 6k + 4 words above the first cell, and these two never
-/// meet.
+/// meet. A group takes 48 bytes, which is no scale: Rdi is 16k, and the operand adds it to twice itself.
 pub fn scattered(steps: u64, count: u64) -> Kernel {
     const GROUP: [(u64, u8); 4] = [(0, 8), (3, 16), (9, 32), (32, 64)];
-    const STRIDE: i16 = 48;
+    const STRIDE: u64 = 48;
     let groups = count / 4;
     let (wide, _) = GROUP[3];
     let first = FIRST_CELL + wide;
     let name = format!("scattered, {count} cells");
-    let mut kernel = over_cells(&name, steps, first, STRIDE, groups);
+    let cells = Spaced {
+        first,
+        stride: STRIDE,
+        count: groups,
+        indexed: at_index(RDI, 2, RDI, first as i64),
+        unit: STRIDE / 3,
+    };
+    let mut kernel = over_cells(&name, steps, cells);
     for k in 0..groups {
-        let group = FIRST_CELL + STRIDE as u64 * k;
+        let group = FIRST_CELL + STRIDE * k;
         for (offset, tag) in GROUP {
             kernel.addresses.push(group + offset);
             kernel.tags.push(tag);

@@ -33,15 +33,15 @@ const SHAPES: [(&str, Wrap); 4] = [
 
 /// Not 0 until the innermost codes have been run.
 fn counter() -> Code {
-    at_index(RBX, 8, RDI)
+    at_index(RBX, 8, RDI, 0)
 }
 
 fn source() -> Code {
-    at_index(RSI, 8, RDI)
+    at_index(RSI, 8, RDI, 0)
 }
 
 fn destination() -> Code {
-    at_index(RBP, 8, RDI)
+    at_index(RBP, 8, RDI, 0)
 }
 
 /// Each instruction once.
