@@ -12,7 +12,8 @@ if [ -z "${POKCHREI_STATICLIB:-}" ]; then
     if [ $# -eq 0 ]; then pages=docs; fi
 fi
 cargo build --release --offline --quiet --manifest-path bench/Cargo.toml --target-dir target/bench
-target/bench/release/bench agree crates/jobs_main/data/systematic crates/jobs_main/data/random
+jobs=crates/jobs_main/data
+target/bench/release/bench agree "$jobs/systematic" "$jobs/random" "$jobs/scales" "$jobs/last-years-rule"
 target/bench/release/bench "$@" >target/cost.tsv
 python3 bench/size.py "${POKCHREI_STATICLIB:-target/staticlib}/libcapi.a" >>target/cost.tsv
 python3 bench/plot.py target/cost.tsv "$pages/COST.md" "$pages/cost.svg"

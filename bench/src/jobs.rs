@@ -56,15 +56,31 @@ fn read(name: &str, job: &[u8]) -> Option<Kernel> {
     })
 }
 
-/// The jobs of a stored set, each with its text: either stands behind its length.
+/// Takes a job or a text, which stands behind its length, off the front of a stored set.
+fn part<'a>(set: &mut &'a [u8]) -> &'a [u8] {
+    let (part, rest) = set[4..].split_at(length_at(set, 0));
+    *set = rest;
+    part
+}
+
+/// Behind the line that marks a set of last year's jobs.
+fn behind_line(set: &[u8]) -> Option<&[u8]> {
+    let text = set.strip_prefix(b"The first text behind each of these jobs ")?;
+    let end = text.iter().position(|&byte| byte == b'\n')?;
+    Some(&text[end + 1..])
+}
+
+/// The jobs of a stored set, each with its text. Those of last year's have the text of last year's rule first.
 fn stored(set: &[u8]) -> Vec<(&[u8], &[u8])> {
+    let last_years = behind_line(set);
+    let mut rest = last_years.unwrap_or(set);
     let mut jobs = Vec::new();
-    let mut at = 0;
-    while at < set.len() {
-        let text = at + 4 + length_at(set, at);
-        let end = text + 4 + length_at(set, text);
-        jobs.push((&set[at + 4..text], &set[text + 4..end]));
-        at = end;
+    while !rest.is_empty() {
+        let job = part(&mut rest);
+        if last_years.is_some() {
+            part(&mut rest);
+        }
+        jobs.push((job, part(&mut rest)));
     }
     jobs
 }
