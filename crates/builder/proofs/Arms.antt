@@ -1,18 +1,12 @@
--- What an arm of a match, or the first of two numbers, makes is what is asked of the value.
-use Prim.Native.Nat.{ℕ}
-use mathlib.Core.Path.{_≡_, sym, ap, ap₂, _∙_}
+-- What an arm of a match makes is what is asked of the value.
+use mathlib.Core.Path.{_≡_, sym, ap, _∙_}
 use Rattle.code.specs.declared.tree.Instruction.{Instruction}
 use Rattle.code.specs.declared.tree.Ocmp.{Ocmp}
 use Rattle.code.specs.Layout.{Layout, layout, ocmp-layout}
-use Rattle.builder.specs.Calls.{first-of}
 
 -- a value is known to be some variant, and r is asked of that
 pub arm : {A B : Type 0} (f : A → B) {x y : A} {r : B} → x ≡ y → r ≡ f y → r ≡ f x
 arm f e h = h ∙ ap f (sym e)
-
--- r is the first that is not 0 of two numbers, each by another name
-pub first-of-both : {r a b x y : ℕ} → r ≡ first-of a b → a ≡ x → b ≡ y → r ≡ first-of x y
-first-of-both e p q = e ∙ ap₂ first-of p q
 
 -- the same of layouts, as `search` asks for it
 pub ins-arm : {i j : Instruction} {l : Layout} → i ≡ j → l ≡ layout j → l ≡ layout i

@@ -4,3 +4,4 @@ pub mod Writing
 pub mod Records
 pub mod Judged
 pub mod Calling
+pub mod Checked

@@ -7,6 +7,7 @@ use lib.ListN.{length}
 use lib.Seq.{sets}
 use Rattle.machine.specs.declared.Operand.{Operand}
 use Rattle.code.specs.Layout.{Byte, number, amount, Layout, laid}
+use Rattle.code.specs.Reader.{Read, got, trouble}
 use Rattle.builder.specs.declared.build.Build.{Build}
 use Rattle.builder.specs.declared.record.Body.{Body}
 use Rattle.builder.specs.declared.record.Body.the-variants.{Nothing, Xmms, XmmAmount, XmmsAmount}
@@ -44,6 +45,11 @@ pub record Wrote (most : ℕ) (before : List ℕ) (at : ℕ) (text after : List 
   pub bytes : after ≡ sets before at text
   pub place : next ≡ at + length text
   pub within : next ≤ at + most
+
+-- the number of a reading's trouble, 0 where it has none
+abbrev pub trouble-of : Read (Unit {0}) → ℕ
+trouble-of (got a next) = 0
+trouble-of (trouble n p) = n
 
 -- what is known of a build whose innermost part was found to take a close, in a buffer that holds it
 pub record Closable (b : Build) (room : ℕ) : Type 0 where

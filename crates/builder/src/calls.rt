@@ -5,8 +5,10 @@ ghost use Prim.Native.Nat.{_+_, _≤_};
 ghost use lib.Dec.{eqb};
 ghost use lib.ListN.{length, take};
 ghost use lib.Seq.{sets};
+ghost use Rattle.code.specs.Kinds.{is-used};
+ghost use Rattle.code.specs.Reached.{Begins, rest-of-all};
 ghost use Rattle.builder.specs.Calls.{open-block, open-if-else, open-while, add, close, CallTyped};
-ghost use Rattle.builder.specs.Rendered.{Closable};
+ghost use Rattle.builder.specs.Rendered.{trouble-of, Closable};
 ghost use Rattle.builder.specs.Building.{takes-code, judge, refusal, opened, buffer-after, answered, left, call};
 use crate::build::Build;
 use crate::build::Built;
@@ -22,12 +24,13 @@ use crate::build::takes_code;
 use crate::build::wide;
 use crate::record::record_of;
 use crate::record::record_of_ocmp;
-use crate::record::trouble_in;
 use crate::write::copy;
 use crate::write::put_number;
 use crate::write::put_record;
 use code::Instruction;
 use code::Ocmp;
+use code::Reach;
+use code::read_rest;
 
 // The number of the first refusal whose condition holds.
 fn judge(fits: bool, trouble: u8, depth: usize, bytes: usize, room: usize) -> u8
@@ -49,6 +52,19 @@ fn judge(fits: bool, trouble: u8, depth: usize, bytes: usize, room: usize) -> u8
         return 52;
     }
     0
+}
+
+// The number of the first wrong field of the record from `at` to `end`, 0 where all are right: the record is judged as it stands in
+// the bytes, by the check of code.
+fn trouble_in(bytes: &[u8; 52], at: usize, end: usize) -> u8
+    requires { ⌜ Begins is-used (now bytes) end at ⌝ }
+    ensures { λ r. ⌜ r ≡ trouble-of (rest-of-all (now (bytes .entry)) end at) ⌝ }
+{
+    let read = read_rest(bytes, end, at);
+    match read {
+        Reach::Next(_) => 0,
+        Reach::Trouble(number, _) => number,
+    }
 }
 
 // A refused call hands the build back as it was.
@@ -115,7 +131,8 @@ pub fn open_if_else(build: Build, buffer: &mut [u8], condition: Ocmp) -> Built
     let mut bytes = [0u8; 52];
     bytes[0] = 0x21;
     let n = put_record(&mut bytes, 9, given);
-    open_part(build, buffer, &bytes, n, trouble_in(given), TRUE_PART)
+    let trouble = trouble_in(&bytes, 9, n);
+    open_part(build, buffer, &bytes, n, trouble, TRUE_PART)
 }
 
 pub fn open_while(build: Build, buffer: &mut [u8], condition: Ocmp) -> Built
@@ -126,7 +143,8 @@ pub fn open_while(build: Build, buffer: &mut [u8], condition: Ocmp) -> Built
     let mut bytes = [0u8; 52];
     bytes[0] = 0x22;
     let n = put_record(&mut bytes, 5, given);
-    open_part(build, buffer, &bytes, n, trouble_in(given), LAST_PART)
+    let trouble = trouble_in(&bytes, 5, n);
+    open_part(build, buffer, &bytes, n, trouble, LAST_PART)
 }
 
 pub fn add(build: Build, buffer: &mut [u8], instruction: Instruction) -> Built
@@ -136,7 +154,8 @@ pub fn add(build: Build, buffer: &mut [u8], instruction: Instruction) -> Built
     let given = record_of(instruction);
     let mut bytes = [0u8; 52];
     let n = put_record(&mut bytes, 0, given);
-    let answer = append(build, buffer, &bytes, n, trouble_in(given));
+    let trouble = trouble_in(&bytes, 0, n);
+    let answer = append(build, buffer, &bytes, n, trouble);
     if answer == 0 {
         return Built {
             answer,

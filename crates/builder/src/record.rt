@@ -2,13 +2,10 @@
 ghost use mathlib.Core.Path.{_≡_};
 ghost use mathlib.Core.List.{[], _∷_};
 ghost use Rattle.code.specs.Layout.{laid, number, amount, layout, ocmp-layout};
-ghost use Rattle.builder.specs.Calls.{first-of, number-trouble, scale-trouble, maddr-trouble, operand-trouble, body-trouble, operands-trouble, record-trouble};
-ghost use Rattle.builder.specs.Rendered.{body-of, operands-of, layout-of};
+ghost use Rattle.builder.specs.Rendered.{layout-of};
 use code::Instruction;
 use code::Ocmp;
-use machine::Maddr;
 use machine::Operand;
-use machine::is_scale;
 
 // The bodies there are: xmm numbers, then an amount or imm8.
 pub enum Body {
@@ -146,87 +143,4 @@ pub fn record_of_ocmp(condition: Ocmp) -> Record
         Ocmp::OLt(a, b) => two(0x34, a, b),
         Ocmp::OGt(a, b) => two(0x35, a, b),
     }
-}
-
-// 4 for a register or xmm number above 15, and 0 for one that is right.
-fn number_trouble(n: u8) -> u8
-    ensures { λ r. ⌜ r ≡ number-trouble n ⌝ }
-{
-    if n <= 15 { 0 } else { 4 }
-}
-
-// 7 for a scale that machine code does not have.
-fn scale_trouble(scale: i16) -> u8
-    ensures { λ r. ⌜ r ≡ scale-trouble scale ⌝ }
-{
-    if is_scale(scale) { 0 } else { 7 }
-}
-
-// The first of two numbers that is not 0.
-fn first_of(a: u8, b: u8) -> u8
-    ensures { λ r. ⌜ r ≡ first-of a b ⌝ }
-{
-    if a == 0 { b } else { a }
-}
-
-fn maddr_trouble(m: Maddr) -> u8
-    ensures { λ r. ⌜ r ≡ maddr-trouble m ⌝ }
-{
-    match m {
-        Maddr::MConst(_) => 0,
-        Maddr::MReg(r, _) => number_trouble(r.number),
-        Maddr::MIndex(base, scale, index, _) => {
-            let of_scale = scale_trouble(scale);
-            let of_index = number_trouble(index.number);
-            let behind_base = first_of(of_scale, of_index);
-            first_of(number_trouble(base.number), behind_base)
-        }
-    }
-}
-
-fn operand_trouble(operand: Operand) -> u8
-    ensures { λ r. ⌜ r ≡ operand-trouble operand ⌝ }
-{
-    match operand {
-        Operand::OConst(_) => 0,
-        Operand::OReg(r) => number_trouble(r.number),
-        Operand::OMem(m) => maddr_trouble(m),
-    }
-}
-
-fn body_trouble(body: Body) -> u8
-    ensures { λ r. ⌜ r ≡ body-trouble (body-of body) ⌝ }
-{
-    match body {
-        Body::Nothing => 0,
-        Body::Xmms(a, b) => first_of(number_trouble(a), number_trouble(b)),
-        Body::XmmAmount(a, _) => number_trouble(a),
-        Body::XmmsAmount(a, b, _) => first_of(number_trouble(a), number_trouble(b)),
-    }
-}
-
-fn both_trouble(a: Operand, b: Operand) -> u8
-    ensures { λ r. ⌜ r ≡ operands-trouble (a ∷ b ∷ []) ⌝ }
-{
-    first_of(operand_trouble(a), operand_trouble(b))
-}
-
-fn operands_trouble(operands: Operands) -> u8
-    ensures { λ r. ⌜ r ≡ operands-trouble (operands-of operands) ⌝ }
-{
-    match operands {
-        Operands::Nothing => 0,
-        Operands::One(a) => operand_trouble(a),
-        Operands::Two(a, b) => both_trouble(a, b),
-        Operands::Three(a, b, c) => first_of(operand_trouble(a), both_trouble(b, c)),
-    }
-}
-
-// The number of a record's first wrong field, in the order of its bytes; 0 where all are right.
-pub fn trouble_in(given: Record) -> u8
-    ensures { λ r. ⌜ r ≡ record-trouble (layout-of given) ⌝ }
-{
-    let body = given.body;
-    let operands = given.operands;
-    first_of(body_trouble(body), operands_trouble(operands))
 }

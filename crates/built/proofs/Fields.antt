@@ -17,6 +17,7 @@ use Rattle.code.specs.Layout.{Byte, number, amount, Layout, layout, ocmp-layout
 use Rattle.code.specs.WellFormed.{WfScale, WfMaddr, WfOperand, WfByte, WfLayout, WfIns, WfOcmp, All}
 use Rattle.code.proofs.Layouts.{WfBytes, WfOperands, bounds, bounded}
 use Rattle.builder.proofs.Judged.{first-zero}
+use Rattle.builder.proofs.Checked.{first, others}
 use Rattle.builder.specs.Calls.{Call, open-block, open-if-else, open-while, add, close, first-of, number-trouble, scale-trouble, byte-trouble, maddr-trouble, operand-trouble, body-trouble, operands-trouble, record-trouble, call-trouble, MaddrTyped, OperandTyped, ByteTyped, RecordTyped, CallTyped}
 
 -- a well-formed call
@@ -59,15 +60,6 @@ byte-wf : (b : Byte) → ByteTyped b → byte-trouble b ≡ 0 → WfByte b
 unfolding ByteTyped byte-trouble
 byte-wf (number n) f h = number-wf n h
 byte-wf (amount n) f h = f
-
--- the first of some claims, and the others
-first : (A : Type 0) (As : List (Type 0)) → All (A ∷ As) → A
-first A [] h = h
-first A (B ∷ As) h = h .0
-
-others : (A : Type 0) (As : List (Type 0)) → All (A ∷ As) → All As
-others A [] h = tt
-others A (B ∷ As) h = h .1
 
 operands-wf : (os : List Operand) → All (map OperandTyped os) → operands-trouble os ≡ 0 → WfOperands os
 unfolding operands-trouble

@@ -1,4 +1,5 @@
--- The numbers of the refusals, each by the conditions before it: one law of a condition, put in a row three times, and one of the trouble in the fields between the first and the second. Assumes nothing.
+-- The numbers of the refusals, each by the conditions before it: one law of a condition, put in a row three times, and one of the trouble in the
+-- fields between the first and the second. Assumes nothing.
 use Prim.Native.Nat.{ℕ, zero, suc, _≤_, _<_}
 use mathlib.Core.Path.{_≡_, refl}
 use mathlib.Core.Bool.{Bool, true, false, _&&_, false≢true}

@@ -20,45 +20,52 @@ use Rattle.code.proofs.Sound.{operands-le}
 use Rattle.code.proofs.Complete.{parse-complete}
 use Rattle.code.proofs.Held.{Holds, holds-from, split, holds-self, length-bytes, number-held, operands-held, operands-say, bytes-say, fields-held}
 
--- a record that is laid out so is read so
-module _ (allowed : ℕ → Bool) (l : Layout) (agrees : Agrees allowed l) (wf : WfLayout l) (bs : List ℕ) (at : ℕ)
-    (held : Holds bs at (bytes-of-record l)) where
-  kind-is : byte-at bs at ≡ l .kind
+-- where the parts of a record stand that is laid out so
+module _ (allowed : ℕ → Bool) (l : Layout) (agrees : Agrees allowed l) (bs : List ℕ) (at : ℕ) (held : Holds bs at (bytes-of-record l)) where
+  pub kind-is : byte-at bs at ≡ l .kind
   unfolding bytes-of-record
   kind-is = held .0
 
   body-is : body-length (byte-at bs at) ≡ length (values (l .body))
   body-is = ap body-length kind-is ∙ agrees .shape .sized ∙ sym (length-map (l .body) value)
 
-  count-is : operand-count (byte-at bs at) ≡ length (l .operands)
+  pub count-is : operand-count (byte-at bs at) ≡ length (l .operands)
   count-is = ap operand-count kind-is ∙ agrees .shape .counted
 
-  parts : Holds bs (suc at) (values (l .body)) × Holds bs (behind bs at) (bytes-of-operands (l .operands))
+  pub parts : Holds bs (suc at) (values (l .body)) × Holds bs (behind bs at) (bytes-of-operands (l .operands))
   unfolding bytes-of-record behind
   parts = split bs (suc at) (values (l .body)) (bytes-of-operands (l .operands)) (held .1) (behind bs at) (omega (arith, body-is))
 
-  ends-at : behind bs at + length (bytes-of-operands (l .operands)) ≡ at + length (bytes-of-record l)
+  pub ends-at : behind bs at + length (bytes-of-operands (l .operands)) ≡ at + length (bytes-of-record l)
   unfolding bytes-of-record behind
   ends-at = omega (arith, body-is, length-append (values (l .body)) (bytes-of-operands (l .operands)))
 
   body-said : bytes-at (body-length (byte-at bs at)) bs (at + 1) ≡ values (l .body)
   body-said = rw body-is (bytes-say (values (l .body)) bs (suc at) (parts .0) (at + 1) (omega arith))
 
+-- and what they say, where the fields are right
+module _ (allowed : ℕ → Bool) (l : Layout) (agrees : Agrees allowed l) (wf : WfLayout l) (bs : List ℕ) (at : ℕ)
+    (held : Holds bs at (bytes-of-record l)) where
   operands-said : operands-at (operand-count (byte-at bs at)) bs (behind bs at) ≡ l .operands
-  operands-said = rw count-is (operands-say (l .operands) bs (behind bs at) (parts .1) (bounds l wf .1))
+  operands-said =
+      rw (count-is allowed l agrees bs at held)
+      (operands-say (l .operands) bs (behind bs at) (parts allowed l agrees bs at held .1) (bounds l wf .1))
 
   stands : Stands allowed bs at (at + length (bytes-of-record l))
   stands =
       let e = at + length (bytes-of-record l) in
-      let there = operands-held (l .operands) bs (behind bs at) (parts .1) (bounds l wf .1) in
-      let o : Operands (operand-count (byte-at bs at)) bs (behind bs at) e = rw (← count-is, ends-at) at there in
-      let f = fields-held (l .body) 1 bs at (suc at) (parts .0) (omega arith) (bounds l wf .0) in
+      let where-is = kind-is allowed l agrees bs at held in
+      let stood = parts allowed l agrees bs at held in
+      let there = operands-held (l .operands) bs (behind bs at) (stood .1) (bounds l wf .1) in
+      let o : Operands (operand-count (byte-at bs at)) bs (behind bs at) e =
+      rw (← count-is allowed l agrees bs at held, ends-at allowed l agrees bs at held) at there in
+      let f = fields-held (l .body) 1 bs at (suc at) (stood .0) (omega arith) (bounds l wf .0) in
       record {
         head =
             record {
-              kind = rw kind-is (agrees .right);
+              kind = rw where-is (agrees .right);
               inside = operands-le (operand-count (byte-at bs at)) bs (behind bs at) e o;
-              fields = rw (kind-is, agrees .shape .registers) f;
+              fields = rw (where-is, agrees .shape .registers) f;
             };
         operands = o;
       }
@@ -71,7 +78,7 @@ module _ (bs : List ℕ) (at : ℕ) where
       let l = layout i in
       let a = ins-agrees i in
       let says : ins-at bs at ≡ i =
-      rw (body-said is-ins l a w bs at h, operands-said is-ins l a w bs at h, kind-is is-ins l a w bs at h) (ins-read i) in
+      rw (body-said is-ins l a bs at h, operands-said is-ins l a w bs at h, kind-is is-ins l a bs at h) (ins-read i) in
       (stands is-ins l a w bs at h, says)
 
   -- a comparison's record spells it
@@ -80,7 +87,7 @@ module _ (bs : List ℕ) (at : ℕ) where
   ocmp-written c h w =
       let l = ocmp-layout c in
       let a = ocmp-agrees c in
-      let says : ocmp-at bs at ≡ c = rw (operands-said is-ocmp l a w bs at h, kind-is is-ocmp l a w bs at h) (ocmp-read c) in
+      let says : ocmp-at bs at ≡ c = rw (operands-said is-ocmp l a w bs at h, kind-is is-ocmp l a bs at h) (ocmp-read c) in
       record { place = refl; says = sym says; stands = stands is-ocmp l a w bs at h }
 
 -- a length in four bytes

@@ -89,8 +89,8 @@ fn read_operands(code: &[u8], end: usize, from: usize, count: usize) -> Reach
     Reach::Next(at)
 }
 
-// The body and the operands of the record at `at`, whose kind is used.
-fn read_rest(code: &[u8], end: usize, at: usize) -> Reach
+// The body and the operands of the record at `at`, whose kind is used. A builder judges by it what it has written.
+pub fn read_rest(code: &[u8], end: usize, at: usize) -> Reach
     requires { ⌜ Begins is-used (now code) end at ⌝ }
     ensures { λ r. ⌜ reach r ≡ rest-of-all (now (code .entry)) end at ⌝ }
 {

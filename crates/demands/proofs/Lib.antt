@@ -8,4 +8,5 @@ pub mod Overflowing
 pub mod Filling
 pub mod Watching
 pub mod Sevens
+pub mod AsChecked
 pub mod Scaling

@@ -26,6 +26,7 @@ use Rattle.eval.specs.Counted.{nothing-counted, ended}
 use Rattle.eval.specs.Running.{run-read, run-of}
 use Rattle.demands.specs.Scaling.{reads, InOrder, Scaling}
 use Rattle.demands.proofs.Sevens.{parse-seven}
+use Rattle.demands.proofs.AsChecked.{as-checked}
 
 -- ---- one test, which fails where P does not hold: its trouble, and what follows
 module _ {P : Type 0} {k : Read (Unit {0})} (n p : ℕ) where
@@ -35,7 +36,8 @@ module _ {P : Type 0} {k : Read (Unit {0})} (n p : ℕ) where
   here false is h = (λ e. absurd (h e), λ f. absurd (f (is .0 refl)))
 
   -- anything else exactly where P holds and what follows says so
-  there : (t : Bool) → Exactly (t ≡ false) P → {A : Type 0} {r : Read (Unit {0})} → (trouble n p ≡ r → ⊥) → Exactly (k ≡ r) A → Exactly (unless t n p k ≡ r) (P × A)
+  there : (t : Bool) → Exactly (t ≡ false) P → {A : Type 0} {r : Read (Unit {0})}
+      → (trouble n p ≡ r → ⊥) → Exactly (k ≡ r) A → Exactly (unless t n p k ≡ r) (P × A)
   there true is h f = (λ e. absurd (h e), λ w. absurd (never (is .1 (w .0))))
   there false is h f = (λ e. (is .0 refl, f .0 e), λ w. f .1 (w .1))
 
@@ -169,4 +171,5 @@ scaling =
       none-lost = none-lost;
       not-run = not-run;
       not-built = judged;
+      as-checked = as-checked;
     }

@@ -16,4 +16,5 @@ returns-2 c = c .same .ensures .0
 pub refuses-scale-spec : {M : Type 1} → statement M
 refuses-scale-spec =
     tie.close
-    (tie.spec returns (λ c. sym (length-take-le 10 (now (c .before .before .before .args .text)) (c .before .if1 .left))) (λ c. search needs) (λ c κs. search needs) returns-2)
+    (tie.spec returns (λ c. sym (length-take-le 10 (now (c .before .before .before .args .text)) (c .before .if1 .left))) (λ c. search needs)
+    (λ c κs. search needs) returns-2)

@@ -44,8 +44,8 @@ returns c = let s = c .before .before in below (s .args .scale) (under-bound w16
 returns-2 : tie.Need-returns-2
 returns-2 c =
     let s = c .before .before .before in
-    other (s .args .scale) (under-bound w16 (pos 1) _ (s .fits .scale) false (c .before .if1 .left)) (under-bound w16 (pos 3) _ (s .fits .scale) false (c .if2 .left))
-    (c .before .before .match .rest .1)
+    other (s .args .scale) (under-bound w16 (pos 1) _ (s .fits .scale) false (c .before .if1 .left))
+    (under-bound w16 (pos 3) _ (s .fits .scale) false (c .if2 .left)) (c .before .before .match .rest .1)
 
 returns-3 : tie.Need-returns-3
 returns-3 c = four-or-eight (c .before .args .scale) (c .before .fits .scale) (c .match .keys1)
@@ -53,7 +53,8 @@ returns-3 c = four-or-eight (c .before .args .scale) (c .before .fits .scale) (c
 returns-4 : tie.Need-returns-4
 returns-4 c =
     let s = c .before .before .before in
-    one-or-two (s .args .scale) (under-bound w16 (pos 1) _ (s .fits .scale) false (c .before .if1 .left)) (under-bound w16 (pos 3) _ (s .fits .scale) true (c .if2 .taken))
+    one-or-two (s .args .scale) (under-bound w16 (pos 1) _ (s .fits .scale) false (c .before .if1 .left))
+    (under-bound w16 (pos 3) _ (s .fits .scale) true (c .if2 .taken))
 
 pub is-scale-spec : {M : Type 1} → statement M
 is-scale-spec = tie.close (tie.spec returns returns-2 returns-3 returns-4)

@@ -58,7 +58,8 @@ element-copy-out-exact-address-2 c =
 exact-address-requires : tie.Need-exact-address-requires
 exact-address-requires c κs =
     let k = c .before .before .before .before .before in
-    subst⁻¹ (λ (z : ℤ). is-scale z ≡ true) (toZ-ofZ w16 (k .m3 .given .0 .1 .0) (record { sfits = c .before .before .before .before .known-told3 .given .1 .0 .1 }))
+    let fits = c .before .before .before .before .known-told3 .given .1 .0 .1 in
+    subst⁻¹ (λ (z : ℤ). is-scale z ≡ true) (toZ-ofZ w16 (k .m3 .given .0 .1 .0) (record { sfits = fits }))
     (subst Encodable (k .m3 .given .1) (k .before .before .pre) .1)
 
 returns : tie.Need-returns
