@@ -58,7 +58,7 @@ trouble-at (trouble m p) n e = (p, ap (λ (x : ℕ). trouble x p) e)
 
 pub as-checked : (i : Instruction) → CallTyped (add i) → (n : ℕ) → call-trouble (add i) ≡ suc n
     → (p : ℕ) × (check-code (bytes-of-ins i) ≡ check-refused (suc n) p)
-unfolding CallTyped call-trouble bytes-of-ins check-code parse read-part verdict-of reach
+unfolding CallTyped call-trouble bytes-of-ins bytes-of-record check-code parse read-part verdict-of reach
 as-checked i typed n h =
     let bs = bytes-of-ins i in
     let e = length bs in
