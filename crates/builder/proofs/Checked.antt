@@ -1,5 +1,5 @@
 -- What the check of code says of a record that was written: the number of its first wrong field, in the order of its bytes. Assumes nothing.
-use Prim.Native.Nat.{ℕ, zero, suc, _+_, _≤_, _<_}
+use Prim.Native.Nat.{ℕ, zero, suc, _+_, _≤_}
 use mathlib.Core.Path.{_≡_, refl, sym, ap, subst, subst⁻¹, _∙_}
 use mathlib.Core.Bool.{Bool, true, false, not, _||_}
 use mathlib.Core.List.{List, [], _∷_, _++_, map, append-assoc}
@@ -16,7 +16,7 @@ use Rattle.machine.specs.declared.Operand.{Operand}
 use Rattle.machine.specs.declared.Operand.the-variants.{OConst, OReg, OMem}
 use Rattle.code.specs.Layout.{Byte, number, amount, Layout, values, numbers-from}
 use Rattle.code.specs.Records.{is-ins, is-code, is-ocmp, is-operand, body-length, judged-fields, operand-count, byte-at, signed-at, behind}
-use Rattle.code.specs.Reader.{Read, got, trouble, followed, unless, with-body, with-fields, read-record, read-operands}
+use Rattle.code.specs.Reader.{Read, got, trouble, followed, unless, with-fields, read-record, read-operands}
 use Rattle.code.specs.Kinds.{is-used}
 use Rattle.code.specs.Reached.{Begins, rest-of-record, rest-of-all}
 use Rattle.code.specs.WellFormed.{All}

@@ -1,14 +1,14 @@
 -- The refusals in their order, as the tests find them; and what a call knows that was taken.
-use Prim.Native.Nat.{ℕ, zero, suc, _+_, _≤_, _<_}
+use Prim.Native.Nat.{ℕ, zero, suc, _≤_, _<_}
 use mathlib.Core.Path.{_≡_, refl, sym, ap, _∙_}
-use mathlib.Core.Bool.{Bool, true, false, _&&_, cond}
+use mathlib.Core.Bool.{Bool, true, false, _&&_}
 use mathlib.Core.List.{List}
 use native.Mathlib.Omega.{arith}
-use borrow.Author.Tests.{leb-true, le-leb, lt-leb, eq-eqb, ne-eqb}
-use lib.Dec.{eqb, leb}
+use borrow.Author.Tests.{leb-true, le-leb, lt-leb, ne-eqb}
+use lib.Dec.{leb}
 use Rattle.builder.specs.declared.build.Build.{Build}
 use Rattle.builder.specs.Calls.{first-of}
-use Rattle.builder.specs.Building.{unless, judge, Outcome, outcome, answered}
+use Rattle.builder.specs.Building.{unless, judge, outcome, answered}
 
 -- the first of two numbers
 pub first-is : (n m : ℕ) → (n ≡ 0 → ⊥) → first-of n m ≡ n

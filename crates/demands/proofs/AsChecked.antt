@@ -1,20 +1,20 @@
 -- What checking says of an instruction's bytes alone is the number by which the builder refuses it. Assumes nothing.
-use Prim.Native.Nat.{ℕ, suc, _+_, _*_, _≤_, _<_}
+use Prim.Native.Nat.{ℕ, suc, _*_, _≤_, _<_}
 use mathlib.Core.Path.{_≡_, refl, sym, ap, _∙_}
-use mathlib.Core.Bool.{Bool, true, _&&_, _||_}
-use mathlib.Core.List.{List, [], _∷_, _++_}
+use mathlib.Core.Bool.{Bool, true, _&&_}
+use mathlib.Core.List.{List, [], _∷_}
 use native.Mathlib.Omega.{arith}
 use borrow.Author.Tests.{leb-true, le-ltb, ne-eqb}
-use lib.Dec.{eqb, ltb, leb}
+use lib.Dec.{leb}
 use lib.ListN.{length, length-append, length-map}
 use Rattle.machine.specs.Cells.{refused as check-refused}
 use Rattle.machine.specs.declared.Operand.{Operand}
 use Rattle.code.specs.declared.tree.Instruction.{Instruction}
 use Rattle.code.specs.declared.reader.Reach.the-variants.{Trouble}
 use Rattle.code.specs.Layout.{last-ins, layout, value, values}
-use Rattle.code.specs.Records.{is-ins, body-length, operand-count, byte-at}
+use Rattle.code.specs.Records.{is-ins, body-length, operand-count}
 use Rattle.code.specs.Reader.{Read, got, trouble, read-part, read-code, parse, verdict-of, check-code}
-use Rattle.code.specs.Reached.{reached, reach, rest-of-all}
+use Rattle.code.specs.Reached.{reach, rest-of-all}
 use Rattle.code.specs.Writer.{bytes-of-operand, bytes-of-operands, bytes-of-record, bytes-of-ins}
 use Rattle.code.proofs.Passing.{and-both, between-true}
 use Rattle.code.proofs.KindLaws.{within}
@@ -22,7 +22,7 @@ use Rattle.code.proofs.Layouts.{ins-agrees}
 use Rattle.code.proofs.Reaches.{reached-trouble, stops}
 use Rattle.code.proofs.Parts.{code-ins}
 use Rattle.code.proofs.Held.{operand-length-le, holds-self}
-use Rattle.builder.specs.Calls.{add, record-trouble, call-trouble, RecordTyped, CallTyped}
+use Rattle.builder.specs.Calls.{add, call-trouble, CallTyped}
 use Rattle.builder.specs.Rendered.{trouble-of}
 use Rattle.builder.proofs.Checked.{record-says}
 

@@ -1,17 +1,16 @@
 -- Where reading answers 7: the scale of an MIndex record, the first of its fields that is wrong. By recursion on the depth. Assumes nothing.
-use Prim.Native.Nat.{ℕ, zero, suc, _+_, _-_, _≤_, _<_}
-use mathlib.Core.Path.{_≡_, refl, sym, _∙_, ap}
+use Prim.Native.Nat.{ℕ, zero, suc, _+_, _-_, _≤_}
+use mathlib.Core.Path.{_≡_, refl, sym, _∙_}
 use mathlib.Core.Bool.{Bool, true, false, not, _||_, cond, false≢true}
 use mathlib.Core.List.{List, [], _∷_}
 use mathlib.Core.Logic.{_⊎_, inl, inr, ⊎-elim}
 use native.Mathlib.Omega.{arith}
-use borrow.Author.Tests.{eqb-true, ltb-false, not-true, not-false}
+use borrow.Author.Tests.{eqb-true, ltb-false}
 use lib.Dec.{eqb, ltb, leb}
 use lib.ListN.{length}
 use Rattle.machine.specs.Operands.{is-scale}
-use Rattle.code.specs.declared.tree.Ocmp.{Ocmp}
-use Rattle.code.specs.Layout.{Byte, number, amount, Field, register, scale, numbers-from, shape}
-use Rattle.code.specs.Tree.{Code, Codes}
+use Rattle.code.specs.Layout.{Byte, number, amount, register, scale, numbers-from, shape}
+use Rattle.code.specs.Tree.{Code}
 use Rattle.code.specs.Records.{is-ins, is-code, is-ocmp, is-operand, body-length, operand-count, judged-fields, byte-at, number-at, signed-at, behind, ocmp-at}
 use Rattle.code.specs.Reader.{Read, got, trouble, followed, unless, with-kind, with-fields, read-record, read-operands, read-with, read-ocmp, One, read-part, read-codes, read-block, read-if, read-while, read-structure, read-body, read-code, parse}
 use Rattle.code.proofs.Passing.{clash, got-same, passed, either, went-on}
