@@ -16,11 +16,6 @@ unfolding first-of
 first-is zero m h = absurd (h refl)
 first-is (suc n) m h = refl
 
-pub first-last : (n : ℕ) → n ≡ first-of n 0
-unfolding first-of
-first-last zero = refl
-first-last (suc n) = refl
-
 module _ (fits : Bool) (trouble depth bytes room : ℕ) where
   pub is-51 : fits ≡ false → 51 ≡ judge fits trouble depth bytes room
   unfolding judge unless

@@ -16,7 +16,7 @@ use Rattle.builder.specs.Building.{kind-of, field-of, start-of, is-part, takes-
 use Rattle.built.specs.Claims.{Judged}
 use Rattle.builder.proofs.Judged.{both}
 use Rattle.built.proofs.Filling.{drop-sets}
-use Rattle.built.proofs.Fields.{call-small}
+use Rattle.built.proofs.Fields.{call-known, call-small}
 use Rattle.built.proofs.Judging.{judged-field, judged-51, judged-53, judged-52, judged-0}
 
 module _ (c : Call) (b : Build) (buffer : List ℕ) where
@@ -113,6 +113,7 @@ judged c b buffer =
     let e = answer-is c b buffer in
     record {
       is-51 = rw e (judged-51 fits trouble depth bytes room small);
+      fields = call-known c;
       is-4 = rw e (judged-field fits trouble depth bytes room small 4 (omega arith) (omega arith));
       is-7 = rw e (judged-field fits trouble depth bytes room small 7 (omega arith) (omega arith));
       is-53 = rw e (judged-53 fits trouble depth bytes room small);

@@ -1,9 +1,10 @@
--- A call of the types whose fields are right is well formed, and a well-formed one is such a call; the number of a wrong field is at most 7.
+-- A call of the types whose fields are right is well formed, and a well-formed one is such a call; the number of a wrong field is 4 or 7.
 -- Assumes nothing.
 use Prim.Native.Nat.{ℕ, zero, suc, _≤_, _<_}
 use mathlib.Core.Path.{_≡_, refl}
 use mathlib.Core.Bool.{Bool, true, false, cond}
 use mathlib.Core.List.{List, [], _∷_, _++_, map}
+use mathlib.Core.Logic.{_⊎_, inl, inr, ⊎-elim}
 use native.Mathlib.Omega.{arith}
 use borrow.Author.Tests.{leb-true, le-leb}
 use lib.Dec.{leb}
@@ -145,59 +146,70 @@ wf-call (add i) h = wf-record (layout i) h
 wf-call close h = refl
 
 -- ---- the numbers there are
-one-small : (t : Bool) (n : ℕ) → n ≤ 7 → cond t 0 n ≤ 7
-one-small true n h = omega arith
-one-small false n h = h
+abbrev Known : ℕ → Type 0
+Known n = (n ≡ 0) ⊎ ((n ≡ 4) ⊎ (n ≡ 7))
 
-both-small : (n m : ℕ) → n ≤ 7 → m ≤ 7 → first-of n m ≤ 7
-unfolding first-of
-both-small zero m h k = k
-both-small (suc n) m h k = h
-
-number-small : (n : ℕ) → number-trouble n ≤ 7
+number-known : (n : ℕ) → Known (number-trouble n)
 unfolding number-trouble
-number-small n = one-small (leb n 15) 4 (omega arith)
+number-known n = go (leb n 15)
+  where
+    go : (t : Bool) → Known (cond t 0 4)
+    go true = inl refl
+    go false = inr (inl refl)
 
-scale-small : (z : ℤ) → scale-trouble z ≤ 7
+scale-known : (z : ℤ) → Known (scale-trouble z)
 unfolding scale-trouble
-scale-small z = one-small (is-scale z) 7 (omega arith)
+scale-known z = go (is-scale z)
+  where
+    go : (t : Bool) → Known (cond t 0 7)
+    go true = inl refl
+    go false = inr (inr refl)
 
-maddr-small : (m : Maddr) → maddr-trouble m ≤ 7
+both-known : (n m : ℕ) → Known n → Known m → Known (first-of n m)
+unfolding first-of
+both-known zero m h k = k
+both-known (suc n) m h k = h
+
+maddr-known : (m : Maddr) → Known (maddr-trouble m)
 unfolding maddr-trouble
-maddr-small (MConst n) = omega arith
-maddr-small (MReg r offset) = number-small (r .number)
-maddr-small (MIndex base scale index offset) =
-    both-small _ _ (number-small (base .number)) (both-small _ _ (scale-small scale) (number-small (index .number)))
+maddr-known (MConst n) = inl refl
+maddr-known (MReg r offset) = number-known (r .number)
+maddr-known (MIndex base scale index offset) =
+    both-known _ _ (number-known (base .number)) (both-known _ _ (scale-known scale) (number-known (index .number)))
 
-operand-small : (o : Operand) → operand-trouble o ≤ 7
+operand-known : (o : Operand) → Known (operand-trouble o)
 unfolding operand-trouble
-operand-small (OConst n) = omega arith
-operand-small (OReg r) = number-small (r .number)
-operand-small (OMem m) = maddr-small m
+operand-known (OConst n) = inl refl
+operand-known (OReg r) = number-known (r .number)
+operand-known (OMem m) = maddr-known m
 
-byte-small : (b : Byte) → byte-trouble b ≤ 7
+byte-known : (b : Byte) → Known (byte-trouble b)
 unfolding byte-trouble
-byte-small (number n) = number-small n
-byte-small (amount n) = omega arith
+byte-known (number n) = number-known n
+byte-known (amount n) = inl refl
 
-body-small : (bs : List Byte) → body-trouble bs ≤ 7
+body-known : (bs : List Byte) → Known (body-trouble bs)
 unfolding body-trouble
-body-small [] = omega arith
-body-small (b ∷ bs) = both-small _ _ (byte-small b) (body-small bs)
+body-known [] = inl refl
+body-known (b ∷ bs) = both-known _ _ (byte-known b) (body-known bs)
 
-operands-small : (os : List Operand) → operands-trouble os ≤ 7
+operands-known : (os : List Operand) → Known (operands-trouble os)
 unfolding operands-trouble
-operands-small [] = omega arith
-operands-small (o ∷ os) = both-small _ _ (operand-small o) (operands-small os)
+operands-known [] = inl refl
+operands-known (o ∷ os) = both-known _ _ (operand-known o) (operands-known os)
 
-record-small : (l : Layout) → record-trouble l ≤ 7
+record-known : (l : Layout) → Known (record-trouble l)
 unfolding record-trouble
-record-small l = both-small _ _ (body-small (l .body)) (operands-small (l .operands))
+record-known l = both-known _ _ (body-known (l .body)) (operands-known (l .operands))
+
+pub call-known : (c : Call) → Known (call-trouble c)
+unfolding call-trouble
+call-known open-block = inl refl
+call-known (open-if-else c) = record-known (ocmp-layout c)
+call-known (open-while c) = record-known (ocmp-layout c)
+call-known (add i) = record-known (layout i)
+call-known close = inl refl
 
 pub call-small : (c : Call) → call-trouble c ≤ 7
-unfolding call-trouble
-call-small open-block = omega arith
-call-small (open-if-else c) = record-small (ocmp-layout c)
-call-small (open-while c) = record-small (ocmp-layout c)
-call-small (add i) = record-small (layout i)
-call-small close = omega arith
+call-small c =
+    ⊎-elim (λ e. omega (arith, e)) (λ w. ⊎-elim (λ e. omega (arith, e)) (λ e. omega (arith, e)) w) (call-known c)

@@ -1,9 +1,10 @@
--- The claims of request 2026-01, in one record: `Builder`. What it says of a single call holds of every call, build and buffer; what it says of calls
+-- The claims of request 2026-01, with 7 by request 2026-08, in one record: `Builder`. What it says of a single call holds of every call, build and buffer; what it says of calls
 -- in a row holds of every call of the types (`CallTyped`), which the contracts of the calls promise of theirs.
 use Prim.Native.Nat.{ℕ, _+_, _≤_, _<_}
 use mathlib.Core.Path.{_≡_}
 use mathlib.Core.Bool.{true, cond}
 use mathlib.Core.List.{List, [], _∷_}
+use mathlib.Core.Logic.{_⊎_}
 use lib.Dec.{eqb}
 use lib.ListN.{length, take, drop}
 use Rattle.machine.specs.Cells.{accepted}
@@ -50,7 +51,8 @@ module _ (c : Call) (b : Build) (buffer : List ℕ) where
   -- each refusal exactly where the call fails its test and passes those before it
   pub record Judged : Type 0 where
     pub is-51 : Exactly (leaves .answer ≡ 51) (Fits → ⊥)
-    -- the first field that is wrong, in the order of the record's bytes, decides between 4 and 7
+    -- the first field that is wrong, in the order of the record's bytes, decides between 4 and 7; there is no other number
+    pub fields : (call-trouble c ≡ 0) ⊎ ((call-trouble c ≡ 4) ⊎ (call-trouble c ≡ 7))
     pub is-4 : Exactly (leaves .answer ≡ 4) (Fits × (call-trouble c ≡ 4))
     pub is-7 : Exactly (leaves .answer ≡ 7) (Fits × (call-trouble c ≡ 7))
     pub is-53 : Exactly (leaves .answer ≡ 53) (Fits × Right × (Shallow → ⊥))

@@ -7,7 +7,7 @@ use mathlib.Core.List.{List}
 use native.Mathlib.Omega.{arith}
 use lib.ListN.{length}
 use Rattle.machine.specs.Registers.{reg}
-use Rattle.machine.specs.Operands.{is-scale, Encodable}
+use Rattle.machine.specs.Operands.{is-scale, RightFields}
 use Rattle.machine.specs.declared.reg.Reg.{Reg}
 use Rattle.machine.specs.declared.Maddr.{Maddr}
 use Rattle.machine.specs.declared.Maddr.the-variants.{MIndex}
@@ -44,7 +44,7 @@ one-memory o m n e f = cc
 abbrev Names : Operand → Type 0
 Names (OConst n) = Unit {0}
 Names (OReg r) = r .number < 16
-Names (OMem m) = Encodable m
+Names (OMem m) = RightFields m
 
 module _ (bs : List ℕ) (at : ℕ) (stands : OperandBytes bs at) where
   names : Names (operand-at bs at)
@@ -60,8 +60,8 @@ module _ (bs : List ℕ) (at : ℕ) (stands : OperandBytes bs at) where
   pub register-below : (r : Reg) → operand-at bs at ≡ OReg r → r .number < 16
   register-below r e = rw e at names
 
-  pub encodable : (m : Maddr) → operand-at bs at ≡ OMem m → Encodable m
-  encodable m e = rw e at names
+  pub right-fields : (m : Maddr) → operand-at bs at ≡ OMem m → RightFields m
+  right-fields m e = rw e at names
 
   -- ---- from the kind to the form
   pub else-memory : (byte-at bs at ≡ 0x40 → ⊥) → (byte-at bs at ≡ 0x41 → ⊥) → form-of (operand-at bs at) ≡ Memory

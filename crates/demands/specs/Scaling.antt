@@ -1,5 +1,6 @@
 -- The claims of request 2026-08, in one record: `Scaling`. That the three demands read over the smaller set needs no claim of its own: they are of the
--- code that is accepted, and no scale is named in them. The four scales are `is-scale` (crates/machine/specs/Operands.antt).
+-- code that is accepted, and no scale is named in them. The job program prints what a run says. The four scales are `is-scale`
+-- (crates/machine/specs/Operands.antt).
 use Prim.Native.Nat.{ℕ, suc, _+_, _≤_, _<_}
 use mathlib.Core.Path.{_≡_}
 use mathlib.Core.Bool.{true}
@@ -8,15 +9,14 @@ use mathlib.Core.Option.{Option}
 use lib.ListN.{length}
 use Rattle.machine.specs.Cells.{accepted, refused as check-refused}
 use Rattle.machine.specs.Operands.{is-scale}
-use Rattle.code.specs.declared.tree.Instruction.{Instruction}
 use Rattle.code.specs.Tree.{Code}
 use Rattle.code.specs.Records.{is-operand, byte-at, signed-at}
 use Rattle.code.specs.Reader.{Read, got, trouble, read-record, parse, check-code}
 use Rattle.code.specs.Spells.{Nests}
 use Rattle.code.specs.WellFormed.{Bytes, WfCode}
-use Rattle.code.specs.Writer.{bytes-of-ins, bytes-of-code}
+use Rattle.code.specs.Writer.{bytes-of-code}
 use Rattle.builder.specs.declared.build.Build.{Build}
-use Rattle.builder.specs.Calls.{Call, add, call-trouble, CallTyped}
+use Rattle.builder.specs.Calls.{Call, bytes-of-call, call-trouble, CallTyped}
 use Rattle.built.specs.Claims.{Exactly, Judged}
 use Rattle.eval.specs.Counted.{nothing-counted, ended}
 use Rattle.eval.specs.Config.{Env, Config, refused}
@@ -66,7 +66,7 @@ pub record WrongScale (bs : List ℕ) (p : ℕ) : Type 0 where
 pub record Scaling : Type 0 where
   -- in one record 3, then the base, the scale and the index
   pub in-order : (bs : List ℕ) (at e : ℕ) → byte-at bs at ≡ 0x44 → at < e → InOrder bs at e
-  -- 7 is said of such a scale, at its first byte, and of nothing else
+  -- 7 is said of such a scale alone, at its first byte; which of them is the first, reading from the front says
   pub seven : (bs : List ℕ) (p : ℕ) → check-code bs ≡ check-refused 7 p → WrongScale bs p
   -- accepted code has no other scale: every tree that is read is well formed (`WfMaddr`)
   pub no-other : (bs : List ℕ) → Bytes bs → (c : Code) (e : ℕ) → parse bs ≡ got c e → WfCode c
@@ -77,6 +77,5 @@ pub record Scaling : Type 0 where
       → check-code code ≡ check-refused 7 p → run-of code env fuel limit s ≡ ended (refused 7 p) s nothing-counted
   -- the builder judges 4 and 7 straight after 51 (`is-4`, `is-7`)
   pub not-built : (c : Call) (b : Build) (buffer : List ℕ) → Judged c b buffer
-  -- by the record's bytes: its number is the one with which checking refuses them, for every instruction of the types
-  pub as-checked : (i : Instruction) → CallTyped (add i) → (n : ℕ) → call-trouble (add i) ≡ suc n
-      → (p : ℕ) × (check-code (bytes-of-ins i) ≡ check-refused (suc n) p)
+  -- by the record's bytes: a call of the types is refused with the number with which checking refuses what it would add
+  pub as-checked : (c : Call) → CallTyped c → (n : ℕ) → call-trouble c ≡ suc n → (p : ℕ) × (check-code (bytes-of-call c) ≡ check-refused (suc n) p)

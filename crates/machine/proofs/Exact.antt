@@ -41,16 +41,6 @@ unfolding in-range wild
 above n m h = rw (le-ltb n m (omega arith), le-leb (2 ^ 64) (n - m) (omega arith))
 
 -- ---- both signs of the offset, by the test that the code makes
-pub plus-plus : (base index : ℕ) (s o : ℤ) → is-scale s ≡ true → ltZ o (pos 0) ≡ false → exact base s index o ≡ subℕ (natAbs s * index + base + natAbs o) 0
-plus-plus base index (pos s) (pos o) p q = ap pos (omega arith) ∙ pos-sub (s * index + base + o)
-plus-plus base index (pos s) (negsuc o) p q = cc
-plus-plus base index (negsuc s) o p q = cc
-
-pub plus-minus : (base index : ℕ) (s o : ℤ) → is-scale s ≡ true → ltZ o (pos 0) ≡ true → exact base s index o ≡ subℕ (natAbs s * index + base) (natAbs o)
-plus-minus base index (pos s) (pos o) p q = absurd (omega (arith, ltb-true o 0 q))
-plus-minus base index (pos s) (negsuc o) p q = sub-eq (base + s * index) (suc o) (s * index + base) (suc o) (omega arith)
-plus-minus base index (negsuc s) o p q = cc
-
 pub base-plus : (base : ℕ) (o : ℤ) → ltZ o (pos 0) ≡ false → pos base +ℤ o ≡ subℕ (base + natAbs o) 0
 base-plus base (pos o) p = pos-sub (base + o)
 base-plus base (negsuc o) p = cc
@@ -90,14 +80,16 @@ product-small n s i e h k =
     let l : s * i ≤ 8 * (2 ^ 64 - 1) = mul-le-mul h m in
     omega arith
 
-pub sum-small : (s n b : ℕ) → s ≡ n + b → n < 2 ^ 67 → b < 2 ^ 64 → s < 2 ^ 80
-sum-small s n b e h k = omega arith
+-- and the address of an MIndex is an offset from a sum
+pub exact-is : (base index : ℕ) (s o : ℤ) → is-scale s ≡ true → exact base s index o ≡ pos (natAbs s * index + base) +ℤ o
+exact-is base index (pos s) o h = ap (λ (x : ℕ). pos x +ℤ o) (omega arith)
+exact-is base index (negsuc s) o h = absurd (false≢true h)
 
 -- ---- numbers of two words
-high-small : (w : Wide) → number w < 2 ^ 80 → w .high < 2 ^ 16
+high-small : (w : Wide) → number w < 2 ^ 68 → w .high < 2 ^ 16
 high-small w h = omega arith
 
-pub carry-fits : (w : Wide) (carry : Bool) → number w < 2 ^ 80 → w .high + bit carry < 2 ^ 64
+pub carry-fits : (w : Wide) (carry : Bool) → number w < 2 ^ 68 → w .high + bit carry < 2 ^ 64
 carry-fits w carry h = go (w .high) (bit carry) (high-small w h) (bit-lt carry)
   where
     go : (n b : ℕ) → n < 2 ^ 16 → b < 2 → n + b < 2 ^ 64
@@ -109,29 +101,23 @@ one-word w h = omega arith
 pub two-words : (x : ℕ) (w : Wide) → x < 2 ^ 64 → (w .high ≡ 0 → ⊥) → x < number w
 two-words x w h n = omega arith
 
--- their difference: the difference of the low words, where the high ones are equal with its borrow taken
-module _ (u d : Wide) (word : ℕ) (borrow : Bool) (low : Subtracted 64 (u .low) (d .low) word borrow)
-    (small : u .low < 2 ^ 64) (little : d .low < 2 ^ 64) where
-  spelled : word + d .low ≡ u .low + bit borrow * 2 ^ 64
-  spelled = subtracted-number 64 (u .low) (d .low) word borrow low small little
+-- less a word: the difference of the low words, where the high one is its borrow
+module _ (u : Wide) (d word : ℕ) (borrow : Bool) (low : Subtracted 64 (u .low) d word borrow) (small : u .low < 2 ^ 64) (little : d < 2 ^ 64) where
+  spelled : word + d ≡ u .low + bit borrow * 2 ^ 64
+  spelled = subtracted-number 64 (u .low) d word borrow low small little
 
   word-small : word < 2 ^ 64
-  word-small = rw (low .word-is) (sub-mod-lt 64 (u .low) (d .low))
+  word-small = rw (low .word-is) (sub-mod-lt 64 (u .low) d)
 
-  pub level : u .high ≡ d .high + bit borrow → some word ≡ in-range (subℕ (number u) (number d))
-  level e = sym (inside (number u) (number d) word (omega (arith, spelled)) word-small)
+  pub level : u .high ≡ bit borrow → some word ≡ in-range (subℕ (number u) d)
+  level e = sym (inside (number u) d word (omega (arith, spelled)) word-small)
 
-  pub apart : (u .high ≡ d .high + bit borrow → ⊥) → none ≡ in-range (subℕ (number u) (number d))
-  apart n = go (ltb (u .high) (d .high + bit borrow)) refl
+  pub apart : (u .high ≡ bit borrow → ⊥) → none ≡ in-range (subℕ (number u) d)
+  apart n = go (ltb (u .high) (bit borrow)) refl
     where
-      go : (t : Bool) → ltb (u .high) (d .high + bit borrow) ≡ t → none ≡ in-range (subℕ (number u) (number d))
-      go true p = sym (under (number u) (number d) (omega (arith, spelled, word-small, ltb-true (u .high) (d .high + bit borrow) p)))
-      go false p = sym (above (number u) (number d) (omega (arith, spelled, ltb-false (u .high) (d .high + bit borrow) p)))
-
--- an exact address, from the difference that the code makes
-pub gathered : (word : Option ℕ) (z : ℤ) (u d : Wide) (m n : ℕ) → word ≡ in-range (subℕ (number u) (number d)) → number u ≡ m → number d ≡ n → z ≡ subℕ m n
-    → word ≡ in-range z
-gathered word z u d m n e p q x = e ∙ ap₂ (λ (a b : ℕ). in-range (subℕ a b)) p q ∙ ap in-range (sym x)
+      go : (t : Bool) → ltb (u .high) (bit borrow) ≡ t → none ≡ in-range (subℕ (number u) d)
+      go true p = sym (under (number u) d (omega (arith, spelled, word-small, ltb-true (u .high) (bit borrow) p)))
+      go false p = sym (above (number u) d (omega (arith, spelled, ltb-false (u .high) (bit borrow) p)))
 
 -- ---- the three memory operands
 module _ (m : Maddr) (regs : List ℕ) (word : Option ℕ) where

@@ -23,11 +23,11 @@ abbrev pub is-scale : ℤ → Bool
 is-scale (pos n) = eqb n 1 || (eqb n 2 || (eqb n 4 || eqb n 8))
 is-scale (negsuc n) = false
 
--- a memory operand that machine code has: its registers are numbered below 16, and its scale is one of the four
-abbrev pub Encodable : Maddr → Type 0
-Encodable (MConst n) = Unit {0}
-Encodable (MReg r offset) = r .number < 16
-Encodable (MIndex base scale index offset) = (base .number < 16) × (is-scale scale ≡ true) × (index .number < 16)
+-- the fields of a memory operand are right: its registers are numbered below 16, and its scale is one of the four
+abbrev pub RightFields : Maddr → Type 0
+RightFields (MConst n) = Unit {0}
+RightFields (MReg r offset) = r .number < 16
+RightFields (MIndex base scale index offset) = (base .number < 16) × (is-scale scale ≡ true) × (index .number < 16)
 
 -- the exact address of a memory operand
 unfoldable pub eval-maddr : Maddr → List ℕ → ℤ

@@ -16,7 +16,7 @@ ghost use mathlib.Core.Bool.{cond};
 ghost use Prim.Native.Nat.{ℕ, _+_, _-_, _/_, _^_, _<_};
 ghost use lib.IntN.{pos};
 ghost use lib.ListN.{length, getD, drop};
-ghost use Rattle.machine.specs.Operands.{Encodable, eval-maddr};
+ghost use Rattle.machine.specs.Operands.{RightFields, eval-maddr};
 ghost use Rattle.machine.specs.Wide.{number};
 ghost use Rattle.machine.specs.Cells.{verdict, check-cells, check-from, cell-rule, is-tag, SameLengths, Ascending, Part, Searchable, index-of, find-cell, leads, led-to};
 
@@ -169,7 +169,7 @@ pub fn find_cell(addresses: &[u64], tags: &[u8], address: u64) -> Found
 
 // The 64-bit cell of a memory operand, or why it has none. Its address is worked out here, once for whoever reads or writes it.
 pub fn cell_of(m: Maddr, regs: &[u64; 16], addresses: &[u64], tags: &[u8]) -> Target
-    requires { ⌜ Encodable m ⌝ }
+    requires { ⌜ RightFields m ⌝ }
     requires { ⌜ Searchable (now addresses) (now tags) ⌝ }
     ensures { λ r. ⌜ led-to r ≡ leads (now (addresses .entry)) (now (tags .entry)) (eval-maddr m (now (regs .entry))) ⌝ }
 {

@@ -24,7 +24,7 @@ pub fn of_word(x: u64) -> Wide
 }
 
 pub fn plus(w: Wide, x: u64) -> Wide
-    requires { ⌜ number w < 2 ^ 80 ⌝ }
+    requires { ⌜ number w < 2 ^ 68 ⌝ }
     ensures { λ r. ⌜ number r ≡ number w + x ⌝ }
 {
     let sum = add64(w.low, x, false);
@@ -56,14 +56,13 @@ pub fn is_below(x: u64, w: Wide) -> bool
     if w.high == 0 { x < w.low } else { true }
 }
 
-// The difference of two numbers, where it is a word: the high words are then equal, with the borrow of the low ones taken.
-pub fn difference(up: Wide, down: Wide) -> Address
-    requires { ⌜ number down < 2 ^ 80 ⌝ }
-    ensures { λ r. ⌜ word-of r ≡ in-range (subℕ (number up) (number down)) ⌝ }
+// A number less a word, where that is a word: the high word is then the borrow of the low ones.
+pub fn less(w: Wide, x: u64) -> Address
+    ensures { λ r. ⌜ word-of r ≡ in-range (subℕ (number w) x) ⌝ }
 {
-    let low = sub64(up.low, down.low);
-    let high = down.high + low.carry as u64;
-    if up.high == high {
+    let low = sub64(w.low, x);
+    let high = low.carry as u64;
+    if w.high == high {
         Address::Inside(low.word)
     } else {
         Address::Outside

@@ -7,7 +7,7 @@ use machine::Maddr;
 use machine::Reg;
 ghost use mathlib.Core.Path.{_≡_};
 ghost use mathlib.Core.Bool.{true};
-ghost use Rattle.machine.specs.Operands.{is-scale, Encodable};
+ghost use Rattle.machine.specs.Operands.{is-scale, RightFields};
 
 const TOP: u64 = 18446744073709551615;
 
@@ -47,7 +47,7 @@ fn indexed(t: Tally, base: u64, scale: i16, index: u64, offset: i64, expected: A
 }
 
 fn operand(t: Tally, m: Maddr, expected: Address) -> Tally
-    requires { ⌜ Encodable m ⌝ }
+    requires { ⌜ RightFields m ⌝ }
 {
     let regs: [u64; 16] = [1000, 0, 0, 3, 0, 0, 0, 0, 0, 0, 0, 0, 0, 0, 0, TOP];
     counted(t, is_address(machine::operand_address(m, &regs), expected))

@@ -7,7 +7,7 @@ use machine::Found;
 use machine::Maddr;
 use machine::Reg;
 use machine::Target;
-ghost use Rattle.machine.specs.Operands.{Encodable};
+ghost use Rattle.machine.specs.Operands.{RightFields};
 
 const TOP: u64 = 18446744073709551615;
 
@@ -154,7 +154,7 @@ pub fn tops(t: Tally) -> Tally {
 
 // The cell of an operand, of cells that the check accepts. Rax is 1000, Rdx 3 and R15 the largest word.
 fn named(m: Maddr, addresses: &[u64], tags: &[u8], values: &[u64]) -> Target
-    requires { ⌜ Encodable m ⌝ }
+    requires { ⌜ RightFields m ⌝ }
 {
     let regs: [u64; 16] = [1000, 0, 0, 3, 0, 0, 0, 0, 0, 0, 0, 0, 0, 0, 0, TOP];
     let checked = machine::check_cells(addresses, tags, values);
@@ -165,7 +165,7 @@ fn named(m: Maddr, addresses: &[u64], tags: &[u8], values: &[u64]) -> Target
 }
 
 fn operand(t: Tally, m: Maddr, expected: Target) -> Tally
-    requires { ⌜ Encodable m ⌝ }
+    requires { ⌜ RightFields m ⌝ }
 {
     let addresses: [u64; 5] = [0, 992, 1000, 1008, TOP - 7];
     let got = named(m, &addresses, &[64, 64, 64, 32, 64], &[1, 2, 3, 4, 5]);

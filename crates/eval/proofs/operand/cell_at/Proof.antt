@@ -1,7 +1,7 @@
 -- The memory operand that stands there is the one whose cell is sought, and its registers are numbered below 16; what it leads to has its number.
 -- Assumes nothing.
 use borrow.Author.Needs.{needs}
-use Rattle.code.proofs.Forms.{one-memory, encodable}
+use Rattle.code.proofs.Forms.{one-memory, right-fields}
 use Rattle.eval.proofs.OperandLaws.{seek-cell, seek-absent, seek-wild}
 use Rattle.eval.proofs.operand.cell_at.Statement.{statement}
 use Rattle.eval.proofs.operand.cell_at.Tie as tie
@@ -29,7 +29,7 @@ cell-at-spec =
     tie.close
     (tie.spec
     (λ c κs. search needs)
-    (λ c κs. search encodable)
+    (λ c κs. search right-fields)
     (λ c. search needs)
     (λ c. search needs)
     (λ c. search needs)

@@ -6,7 +6,7 @@ use lib.IntN.{ℤ}
 use mir.Syntax.{w16}
 use mir.ValLaws.{toZ-ofZ}
 use denote.Ref.{now}
-use Rattle.machine.specs.Operands.{is-scale, Encodable}
+use Rattle.machine.specs.Operands.{is-scale, RightFields}
 use Rattle.machine.proofs.Exact.{at-const, at-register, at-index}
 use borrow.Author.Needs.{needs}
 use Rattle.machine.proofs.addressing.operand_address.Statement.{statement}
@@ -25,7 +25,7 @@ mul-register-address : tie.Need-mul-register-address
 mul-register-address c = search needs
 
 element-copy-out-register-address : tie.Need-element-copy-out-register-address
-element-copy-out-register-address c = subst Encodable (c .before .before .m2 .given .1) (c .before .before .before .before .pre)
+element-copy-out-register-address c = subst RightFields (c .before .before .m2 .given .1) (c .before .before .before .before .pre)
 
 register-address-requires : tie.Need-register-address-requires
 register-address-requires c κs = search needs
@@ -45,7 +45,7 @@ mul-exact-address c = search needs
 element-copy-out-exact-address : tie.Need-element-copy-out-exact-address
 element-copy-out-exact-address c =
     let k = c .before .before .before in
-    subst Encodable (k .m3 .given .1) (k .before .before .pre) .0
+    subst RightFields (k .m3 .given .1) (k .before .before .pre) .0
 
 mul-exact-address-2 : tie.Need-mul-exact-address-2
 mul-exact-address-2 c = search needs
@@ -53,14 +53,14 @@ mul-exact-address-2 c = search needs
 element-copy-out-exact-address-2 : tie.Need-element-copy-out-exact-address-2
 element-copy-out-exact-address-2 c =
     let k = c .before .before .before .before in
-    subst Encodable (k .m3 .given .1) (k .before .before .pre) .2
+    subst RightFields (k .m3 .given .1) (k .before .before .pre) .2
 
 exact-address-requires : tie.Need-exact-address-requires
 exact-address-requires c κs =
     let k = c .before .before .before .before .before in
     let fits = c .before .before .before .before .known-told3 .given .1 .0 .1 in
     subst⁻¹ (λ (z : ℤ). is-scale z ≡ true) (toZ-ofZ w16 (k .m3 .given .0 .1 .0) (record { sfits = fits }))
-    (subst Encodable (k .m3 .given .1) (k .before .before .pre) .1)
+    (subst RightFields (k .m3 .given .1) (k .before .before .pre) .1)
 
 returns : tie.Need-returns
 returns c =
