@@ -170,7 +170,7 @@ module _ (bs : List ℕ) where
     inside = omega (arith, ends-at allowed l agrees bs at held)
 
     fields-are : judged-fields (byte-at bs at) ≡ numbers-from 1 (l .body)
-    fields-are = ap judged-fields (kind-is allowed l agrees bs at held) ∙ agrees .shape .registers
+    fields-are = ap judged-fields (kind-is allowed l agrees bs at held) ∙ agrees .shape .judged
 
     head-says : Says (rest-of-record bs e at) (body-trouble (l .body)) (behind bs at)
     unfolding rest-of-record

@@ -1,4 +1,4 @@
--- What the functions below the calls promise: how a record passes from value to bytes, and which builds are closed.
+-- What the functions below the calls promise: how a record passes from value to bytes, what reading these finds, and which builds are closed.
 use Prim.Native.Nat.{ℕ, _+_, _-_, _≤_, _<_}
 use mathlib.Core.Path.{_≡_}
 use mathlib.Core.List.{List, [], _∷_}

@@ -1,5 +1,5 @@
--- The claims of request 2026-01, with 7 by request 2026-08, in one record: `Builder`. What it says of a single call holds of every call, build and buffer; what it says of calls
--- in a row holds of every call of the types (`CallTyped`), which the contracts of the calls promise of theirs.
+-- The claims of request 2026-01, with 7 by request 2026-08, in one record: `Builder`. What it says of a single call holds of every call, build and
+-- buffer; what it says of calls in a row holds of every call of the types (`CallTyped`), which the contracts of the calls promise of theirs.
 use Prim.Native.Nat.{ℕ, _+_, _≤_, _<_}
 use mathlib.Core.Path.{_≡_}
 use mathlib.Core.Bool.{true, cond}

@@ -1,4 +1,4 @@
--- Every tree that bytes spell is well formed: its fields are bytes, numbers of eight bytes, and registers that were checked.
+-- Every tree that bytes spell is well formed: its fields are bytes, numbers of eight bytes, and registers and scales that were checked.
 -- Assumes nothing.
 use Prim.Native.Nat.{ℕ, zero, suc, _+_, _-_, _^_, _≤_, _<_}
 use mathlib.Core.Path.{_≡_, refl, sym, ap, _∙_}

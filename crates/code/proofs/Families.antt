@@ -180,8 +180,8 @@ module _ (bs : List ℕ) (at e : ℕ) (st : Stands is-ins bs at e) (l : e ≤ le
           ends = λ f s. sym (ends-after count bs from f (there f s));
         }
 
-    registers-fit : Fields fields bs at
-    registers-fit = rw (q, shape .registers) at (st .head .fields)
+    fields-fit : Fields fields bs at
+    fields-fit = rw (q, shape .judged) at (st .head .fields)
 
   -- ---- no body
   behind-kind : at + 1 + 0 ≡ at + 1
@@ -234,14 +234,14 @@ module _ (bs : List ℕ) (at e : ℕ) (st : Stands is-ins bs at e) (l : e ≤ le
         Shape k 2 count one-field → OneXmm (ins-of k (byte 1 ∷ byte 2 ∷ []) (operands-at count bs (at + 3))) count (at + 3)
     one-xmm shape =
         let place : at + 1 + 2 ≡ at + 3 = omega arith in
-        let fits = registers-fit k 2 count one-field shape q (at + 3) place in
+        let fits = fields-fit k 2 count one-field shape q (at + 3) place in
         record { stood = rw second at (stood k 2 count one-field shape q (at + 3) place); xmm = omega (arith, fits .0) }
 
     two-xmms :
         Shape k 2 count two-fields → TwoXmms (ins-of k (byte 1 ∷ byte 2 ∷ []) (operands-at count bs (at + 3))) count (at + 3)
     two-xmms shape =
         let place : at + 1 + 2 ≡ at + 3 = omega arith in
-        let fits = registers-fit k 2 count two-fields shape q (at + 3) place in
+        let fits = fields-fit k 2 count two-fields shape q (at + 3) place in
         record {
           stood = rw second at (stood k 2 count two-fields shape q (at + 3) place);
           xmm = omega (arith, fits .0);
@@ -252,7 +252,7 @@ module _ (bs : List ℕ) (at e : ℕ) (st : Stands is-ins bs at e) (l : e ≤ le
         Shape k 3 count two-fields → TwoXmms (ins-of k (byte 1 ∷ byte 2 ∷ byte 3 ∷ []) (operands-at count bs (at + 4))) count (at + 4)
     two-and-imm8 shape =
         let place : at + 1 + 3 ≡ at + 4 = omega arith in
-        let fits = registers-fit k 3 count two-fields shape q (at + 4) place in
+        let fits = fields-fit k 3 count two-fields shape q (at + 4) place in
         record {
           stood = rw (second, third) at (stood k 3 count two-fields shape q (at + 4) place);
           xmm = omega (arith, fits .0);

@@ -1,4 +1,4 @@
--- What the bytes of an operand's record say, by its kind byte: where it ends, which registers it names and what it spells. Assumes nothing.
+-- What the bytes of an operand's record say, by its kind byte: where it ends, which registers and scale it names and what it spells. Assumes nothing.
 use Prim.Native.Nat.{ℕ, _+_, _≤_, _<_}
 use mathlib.Core.Path.{_≡_, refl, subst, _∙_}
 use mathlib.Core.Bool.{Bool, true}

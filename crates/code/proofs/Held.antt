@@ -205,7 +205,7 @@ operands-say (o ∷ os) bs at h l =
     let s = operand-held bs at o (w .0) (l .0) in
     rw (s .says, s .ends, operands-say os bs (at + length (bytes-of-operand o)) (w .1) (l .1))
 
--- the bytes of a body, and its register fields
+-- the bytes of a body, and its numbers
 pub bytes-say : (xs bs : List ℕ) (at : ℕ) → Holds bs at xs → (x : ℕ) → at ≡ x → bytes-at (length xs) bs x ≡ xs
 bytes-say [] bs at h x e = refl
 bytes-say (b ∷ xs) bs at h x e =

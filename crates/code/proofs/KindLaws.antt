@@ -125,7 +125,7 @@ entry-count k r l u h =
     let e : r ≡ 4 * body-length k + operand-count k = rw (h, u) in
     omega arith
 
--- the register fields of a range of kinds, by a test of each
+-- the judged fields of a range of kinds, by a test of each
 unfoldable pub same-field : Field → Field → Bool
 same-field (register m) (register n) = eqb m n
 same-field (register m) (scale n) = false
@@ -171,7 +171,7 @@ last-in r low n k h l m = last-of r k (within (last-is r) n low h k l m)
 pub last-at : (r k x : ℕ) → last-is r x ≡ true → k ≡ x → LastField k r
 last-at r k x h e = last-of r k (rw e h)
 
--- above 17 only four kinds have register fields
+-- above 17 only four kinds have judged fields
 unfoldable pub last-or : ℕ → Bool
 last-or k = eqb k 0x18 || (eqb k 0x41 || (eqb k 0x43 || (eqb k 0x44 || last-is 0 k)))
 

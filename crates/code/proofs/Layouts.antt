@@ -20,11 +20,11 @@ use Rattle.code.specs.WellFormed.{WfByte, WfOperand, All, WfLayout}
 use Rattle.code.proofs.Passing.{and-both, between-true}
 use Rattle.code.proofs.KindLaws.{answers, same-within, same, same-field, same-true}
 
--- ---- the shape of a kind: its body's length, its number of operands, its register fields
+-- ---- the shape of a kind: its body's length, its number of operands, its judged fields
 pub record Shape (k size count : ℕ) (fields : List Field) : Type 0 where
   pub sized : body-length k ≡ size
   pub counted : operand-count k ≡ count
-  pub registers : judged-fields k ≡ fields
+  pub judged : judged-fields k ≡ fields
 
 unfoldable pub shaped : ℕ → ℕ → List Field → ℕ → Bool
 shaped size count fields k = eqb (body-length k) size && (eqb (operand-count k) count && same (judged-fields k) fields)
@@ -34,7 +34,7 @@ unfolding shaped
 shape-of k size count fields h =
     let a = and-both _ _ h in
     let b = and-both _ _ (a .1) in
-    record { sized = eqb-true _ _ (a .0); counted = eqb-true _ _ (b .0); registers = same-true _ _ (b .1) }
+    record { sized = eqb-true _ _ (a .0); counted = eqb-true _ _ (b .0); judged = same-true _ _ (b .1) }
 
 -- a layout is of an allowed kind, and of the shape of its kind
 pub record Agrees (allowed : ℕ → Bool) (l : Layout) : Type 0 where

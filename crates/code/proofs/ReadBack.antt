@@ -65,7 +65,7 @@ module _ (allowed : ℕ → Bool) (l : Layout) (agrees : Agrees allowed l) (wf :
             record {
               kind = rw where-is (agrees .right);
               inside = operands-le (operand-count (byte-at bs at)) bs (behind bs at) e o;
-              fields = rw (where-is, agrees .shape .registers) f;
+              fields = rw (where-is, agrees .shape .judged) f;
             };
         operands = o;
       }

@@ -22,7 +22,7 @@ is-used k = is-code k || (is-ocmp k || is-operand k)
 unfoldable pub entry-of : ℕ → ℕ
 entry-of k = cond (is-used k) (4 * body-length k + operand-count k) 255
 
--- the judged fields up to the last one: none where that is 0; the first stands at 1, and where there are two bytes between them, a scale
+-- the judged fields up to the last one: none where that is 0; the first stands at 1, and where the last is behind 2, a scale at 2
 abbrev pub fields-to : ℕ → List Field
 fields-to zero = []
 fields-to (suc zero) = register 1 ∷ []

@@ -45,6 +45,7 @@ fn read_body(code: &[u8], end: usize, at: usize) -> Reach
     if last == 1 {
         return Reach::Next(next);
     }
+    // Only an MIndex has a field behind 2, and its scale stands there.
     if last > 2 && !is_scale(signed2(code, at + 2)) {
         return Reach::Trouble(7, at + 2);
     }

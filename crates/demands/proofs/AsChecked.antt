@@ -130,9 +130,11 @@ module _ (c : Ocmp) (typed : RecordTyped (ocmp-layout c)) (n : ℕ) (h : record-
       let size : length bs ≡ 5 + length text = omega (arith, length-append (bytes-of 4 0) text, length-bytes 4 0) in
       let held = split bs 1 (bytes-of 4 0) text (holds-self bs .1) 5 (omega (arith, length-bytes 4 0)) .1 in
       let w = ocmp-refused bs c typed 5 held (sym size) n h in
-      let some : 0 < length bs = omega (arith, size) in
-      (w .0, all-refused bs n (w .0) some (omega (arith, size, short .1))
-      (structure-trouble bs n (w .0) some refl (while-trouble bs n (w .0) refl (omega (arith, size)) (w .1))))
+      let some : 0 < length bs = omega (arith, size) in (
+        w .0,
+        all-refused bs n (w .0) some (omega (arith, size, short .1))
+            (structure-trouble bs n (w .0) some refl (while-trouble bs n (w .0) refl (omega (arith, size)) (w .1))),
+      )
 
   if-checked : Refused (open-if-else c) n
   unfolding bytes-of-call bytes-of-ocmp text
@@ -144,9 +146,11 @@ module _ (c : Ocmp) (typed : RecordTyped (ocmp-layout c)) (n : ℕ) (h : record-
       let behind-one = split bs 1 (bytes-of 4 0) rest (holds-self bs .1) 5 (omega (arith, length-bytes 4 0)) .1 in
       let held = split bs 5 (bytes-of 4 0) text behind-one 9 (omega (arith, length-bytes 4 0)) .1 in
       let w = ocmp-refused bs c typed 9 held (sym size) n h in
-      let some : 0 < length bs = omega (arith, size) in
-      (w .0, all-refused bs n (w .0) some (omega (arith, size, short .1))
-      (structure-trouble bs n (w .0) some refl (if-trouble bs n (w .0) refl (omega (arith, size)) (w .1))))
+      let some : 0 < length bs = omega (arith, size) in (
+        w .0,
+        all-refused bs n (w .0) some (omega (arith, size, short .1))
+            (structure-trouble bs n (w .0) some refl (if-trouble bs n (w .0) refl (omega (arith, size)) (w .1))),
+      )
 
 pub as-checked : (c : Call) → CallTyped c → (n : ℕ) → call-trouble c ≡ suc n → (p : ℕ) × (check-code (bytes-of-call c) ≡ check-refused (suc n) p)
 unfolding CallTyped call-trouble

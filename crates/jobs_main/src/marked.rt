@@ -18,7 +18,10 @@ pub fn is_marked(fd: i32) -> bool {
 
 // Whether a text refuses a job for a scale.
 pub fn refuses_scale(text: &[u8]) -> bool
-    ensures { λ r. ⌜ (r ≡ true → take 10 (now (text .entry)) ≡ refused-7) ⌝ }
+    ensures { λ r. ⌜
+        (r ≡ true → take 10 (now (text .entry)) ≡ refused-7)
+        × (take 10 (now (text .entry)) ≡ refused-7 → r ≡ true)
+        ⌝ }
 {
     if text.len() < 10 {
         return false;

@@ -1,4 +1,4 @@
-// The parts of a stored file: a job's bytes and its text by turns, each behind its length in four bytes, low first.
+// The parts of a stored file: a job's bytes and its text, or its two texts, by turns, each behind its length in four bytes, low first.
 
 ghost use Rattle.io.specs.Counts.{Counts};
 use code::number4;

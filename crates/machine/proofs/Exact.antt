@@ -1,6 +1,6 @@
 -- Exact addresses. A sum of signed terms is the difference of two natural numbers, what is added and what is taken away: so
 -- `exact` is a `subℕ`, and whether that is a word is a comparison of natural numbers.
-use Prim.Native.Nat.{ℕ, suc, _+_, _*_, _-_, _^_, _≤_, _<_}
+use Prim.Native.Nat.{ℕ, _+_, _*_, _-_, _^_, _≤_, _<_}
 use mathlib.Core.Path.{_≡_, refl, sym, _∙_, ap, ap₂, subst}
 use mathlib.Core.Bool.{Bool, true, false, _||_, false≢true}
 use mathlib.Core.Option.{Option, none, some}
@@ -17,7 +17,7 @@ use mathlib.Core.List.{List}
 use Rattle.words.specs.Bits.{bit}
 use Rattle.words.specs.Sums.{Subtracted}
 use Rattle.words.proofs.BitLaws.{bit-lt}
-use Rattle.words.proofs.Differences.{sub-eq, pos-sub}
+use Rattle.words.proofs.Differences.{pos-sub}
 use Rattle.words.proofs.SumLaws.{sub-mod-lt, subtracted-number}
 use Rattle.machine.specs.Registers.{reg-at}
 use Rattle.machine.specs.Operands.{in-range, wild, exact, is-scale, eval-maddr}

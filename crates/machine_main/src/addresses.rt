@@ -13,6 +13,11 @@ const TOP: u64 = 18446744073709551615;
 
 const HALF: u64 = 9223372036854775808;
 
+// 2^61 and 2^62: 8 and 4 times these are 2^64.
+const EIGHTH: u64 = 2305843009213693952;
+
+const QUARTER: u64 = 4611686018427387904;
+
 const LEAST: i64 = -9223372036854775808;
 
 const MOST: i64 = 9223372036854775807;
@@ -83,16 +88,9 @@ pub fn extremes(t: Tally) -> Tally {
     let t = indexed(t, TOP, 1, TOP, LEAST, Address::Outside);
     let t = indexed(t, TOP, 2, HALF, LEAST, Address::Outside);
     let t = indexed(t, TOP, 1, HALF - 1, LEAST, Address::Inside(TOP - 1));
-    let t = indexed(t, 0, 4, 2305843009213693952, LEAST, Address::Inside(0));
-    let t = indexed(t, 0, 8, 1152921504606846976, LEAST, Address::Inside(0));
-    let t = indexed(
-        t,
-        0,
-        2,
-        HALF - 1,
-        LEAST,
-        Address::Inside(9223372036854775806),
-    );
+    let t = indexed(t, 0, 4, EIGHTH, LEAST, Address::Inside(0));
+    let t = indexed(t, 0, 8, EIGHTH / 2, LEAST, Address::Inside(0));
+    let t = indexed(t, 0, 2, HALF - 1, LEAST, Address::Inside(HALF - 2));
     let t = indexed(t, 0, 1, 0, MOST, Address::Inside(HALF - 1));
     t
 }
@@ -107,14 +105,14 @@ pub fn edges(t: Tally) -> Tally {
     let t = indexed(t, 0, 2, HALF, 0, Address::Outside);
     let t = indexed(t, 0, 2, HALF - 1, 1, Address::Inside(TOP));
     let t = indexed(t, 0, 2, HALF - 1, 2, Address::Outside);
-    let t = indexed(t, 0, 4, 4611686018427387904, -1, Address::Inside(TOP));
-    let t = indexed(t, 0, 4, 4611686018427387904, 0, Address::Outside);
-    let t = indexed(t, 0, 4, 4611686018427387903, 3, Address::Inside(TOP));
-    let t = indexed(t, 0, 4, 4611686018427387903, 4, Address::Outside);
-    let t = indexed(t, 0, 8, 2305843009213693952, -1, Address::Inside(TOP));
-    let t = indexed(t, 0, 8, 2305843009213693952, 0, Address::Outside);
-    let t = indexed(t, 0, 8, 2305843009213693951, 7, Address::Inside(TOP));
-    let t = indexed(t, 0, 8, 2305843009213693951, 8, Address::Outside);
+    let t = indexed(t, 0, 4, QUARTER, -1, Address::Inside(TOP));
+    let t = indexed(t, 0, 4, QUARTER, 0, Address::Outside);
+    let t = indexed(t, 0, 4, QUARTER - 1, 3, Address::Inside(TOP));
+    let t = indexed(t, 0, 4, QUARTER - 1, 4, Address::Outside);
+    let t = indexed(t, 0, 8, EIGHTH, -1, Address::Inside(TOP));
+    let t = indexed(t, 0, 8, EIGHTH, 0, Address::Outside);
+    let t = indexed(t, 0, 8, EIGHTH - 1, 7, Address::Inside(TOP));
+    let t = indexed(t, 0, 8, EIGHTH - 1, 8, Address::Outside);
     let t = indexed(t, 4096, 8, 3, -4120, Address::Inside(0));
     let t = indexed(t, 4096, 8, 3, -4121, Address::Outside);
     let t = indexed(t, 5, 4, 0, -5, Address::Inside(0));
@@ -124,44 +122,16 @@ pub fn edges(t: Tally) -> Tally {
 
 // Both sides of the index below which one multiplication does, and products with a carry between the halves.
 pub fn products(t: Tally) -> Tally {
-    let t = indexed(t, 0, 8, 2305843009213693951, 0, Address::Inside(TOP - 7));
-    let t = indexed(t, 0, 8, 2305843009213693952, LEAST, Address::Inside(HALF));
-    let t = indexed(t, HALF, 8, 1152921504606846976, -1, Address::Inside(TOP));
-    let t = indexed(t, HALF, 8, 1152921504606846976, 0, Address::Outside);
-    let t = indexed(
-        t,
-        0,
-        1,
-        2305843009213693951,
-        0,
-        Address::Inside(2305843009213693951),
-    );
-    let t = indexed(
-        t,
-        0,
-        1,
-        2305843009213693952,
-        0,
-        Address::Inside(2305843009213693952),
-    );
-    let t = indexed(
-        t,
-        0,
-        2,
-        2305843009213693952,
-        0,
-        Address::Inside(4611686018427387904),
-    );
-    let t = indexed(t, 0, 4, 2305843009213693952, 0, Address::Inside(HALF));
-    let t = indexed(
-        t,
-        0,
-        4,
-        2305843009213693951,
-        0,
-        Address::Inside(9223372036854775804),
-    );
-    let t = indexed(t, TOP, 8, 2305843009213693952, LEAST, Address::Outside);
+    let t = indexed(t, 0, 8, EIGHTH - 1, 0, Address::Inside(TOP - 7));
+    let t = indexed(t, 0, 8, EIGHTH, LEAST, Address::Inside(HALF));
+    let t = indexed(t, HALF, 8, EIGHTH / 2, -1, Address::Inside(TOP));
+    let t = indexed(t, HALF, 8, EIGHTH / 2, 0, Address::Outside);
+    let t = indexed(t, 0, 1, EIGHTH - 1, 0, Address::Inside(EIGHTH - 1));
+    let t = indexed(t, 0, 1, EIGHTH, 0, Address::Inside(EIGHTH));
+    let t = indexed(t, 0, 2, EIGHTH, 0, Address::Inside(QUARTER));
+    let t = indexed(t, 0, 4, EIGHTH, 0, Address::Inside(HALF));
+    let t = indexed(t, 0, 4, EIGHTH - 1, 0, Address::Inside(9223372036854775804));
+    let t = indexed(t, TOP, 8, EIGHTH, LEAST, Address::Outside);
     let t = indexed(t, TOP - 7, 1, 7, 0, Address::Inside(TOP));
     let t = indexed(t, TOP - 7, 8, 1, 0, Address::Outside);
     let t = indexed(t, 4096, 8, 3, 16, Address::Inside(4136));

@@ -8,6 +8,7 @@ use machine::Maddr;
 use machine::Reg;
 use machine::Target;
 ghost use Rattle.machine.specs.Operands.{RightFields};
+ghost use Rattle.machine.specs.declared.Maddr.the-variants.{MIndex};
 
 const TOP: u64 = 18446744073709551615;
 
@@ -172,6 +173,12 @@ fn operand(t: Tally, m: Maddr, expected: Target) -> Tally
     counted(t, is_target(got, expected))
 }
 
+fn indexed(t: Tally, base: Reg, scale: i16, index: Reg, offset: i64, expected: Target) -> Tally
+    requires { ⌜ RightFields (MIndex base scale index offset) ⌝ }
+{
+    operand(t, Maddr::MIndex(base, scale, index, offset), expected)
+}
+
 // A cell, none, and outside where the address modulo 2^64 is that of a cell.
 pub fn operands(t: Tally) -> Tally {
     let t = operand(t, Maddr::MConst(1000), Target::Cell(2));
@@ -193,47 +200,19 @@ pub fn operands(t: Tally) -> Tally {
 
 // The same by an index: sums that leave the range and come back, and a multiple of 2^64 beside a cell.
 pub fn indexed_operands(t: Tally) -> Tally {
-    let t = operand(
-        t,
-        Maddr::MIndex(Reg::RAX, 8, Reg::RDX, -24),
-        Target::Cell(2),
-    );
-    let t = operand(
-        t,
-        Maddr::MIndex(Reg::RDX, 1, Reg::RAX, -1003),
-        Target::Cell(0),
-    );
-    let t = operand(t, Maddr::MIndex(Reg::RDX, 1, Reg::RAX, -1004), Target::Wild);
-    let t = operand(t, Maddr::MIndex(Reg::RDX, 2, Reg::RAX, -2011), Target::Wild);
-    let t = operand(
-        t,
-        Maddr::MIndex(Reg::RAX, 4, Reg::RDX, -20),
-        Target::Cell(1),
-    );
-    let t = operand(
-        t,
-        Maddr::MIndex(Reg::RDX, 4, Reg::RAX, -3003),
-        Target::Cell(2),
-    );
-    let t = operand(
-        t,
-        Maddr::MIndex(Reg::RAX, 1, Reg::R15, -1000),
-        Target::Absent,
-    );
-    let t = operand(
-        t,
-        Maddr::MIndex(Reg::RAX, 1, Reg::R15, -1007),
-        Target::Cell(4),
-    );
-    let t = operand(t, Maddr::MIndex(Reg::RAX, 1, Reg::R15, -999), Target::Wild);
-    let t = operand(t, Maddr::MIndex(Reg::RAX, 1, Reg::R15, 1), Target::Wild);
-    let t = operand(
-        t,
-        Maddr::MIndex(Reg::R15, 2, Reg::RDX, -13),
-        Target::Cell(4),
-    );
-    let t = operand(t, Maddr::MIndex(Reg::R15, 8, Reg::R15, 9), Target::Wild);
-    let t = operand(t, Maddr::MIndex(Reg::R15, 8, Reg::R15, -1000), Target::Wild);
+    let t = indexed(t, Reg::RAX, 8, Reg::RDX, -24, Target::Cell(2));
+    let t = indexed(t, Reg::RDX, 1, Reg::RAX, -1003, Target::Cell(0));
+    let t = indexed(t, Reg::RDX, 1, Reg::RAX, -1004, Target::Wild);
+    let t = indexed(t, Reg::RDX, 2, Reg::RAX, -2011, Target::Wild);
+    let t = indexed(t, Reg::RAX, 4, Reg::RDX, -20, Target::Cell(1));
+    let t = indexed(t, Reg::RDX, 4, Reg::RAX, -3003, Target::Cell(2));
+    let t = indexed(t, Reg::RAX, 1, Reg::R15, -1000, Target::Absent);
+    let t = indexed(t, Reg::RAX, 1, Reg::R15, -1007, Target::Cell(4));
+    let t = indexed(t, Reg::RAX, 1, Reg::R15, -999, Target::Wild);
+    let t = indexed(t, Reg::RAX, 1, Reg::R15, 1, Target::Wild);
+    let t = indexed(t, Reg::R15, 2, Reg::RDX, -13, Target::Cell(4));
+    let t = indexed(t, Reg::R15, 8, Reg::R15, 9, Target::Wild);
+    let t = indexed(t, Reg::R15, 8, Reg::R15, -1000, Target::Wild);
     t
 }
 

@@ -1,4 +1,4 @@
--- The memory operand that stands there is the one whose cell is sought, and its registers are numbered below 16; what it leads to has its number.
+-- The memory operand that stands there is the one whose cell is sought, and its fields are right; what it leads to has its number.
 -- Assumes nothing.
 use borrow.Author.Needs.{needs}
 use Rattle.code.proofs.Forms.{one-memory, right-fields}
