@@ -25,18 +25,6 @@ fn read() -> Code {
     ins(Adox64(reg(OTHER), number(0)))
 }
 
-fn nothing() -> Code {
-    block(Vec::new())
-}
-
-fn always() -> Ocmp {
-    compare(Eq, reg(LEFT), reg(LEFT))
-}
-
-fn never() -> Ocmp {
-    compare(Ne, reg(LEFT), reg(LEFT))
-}
-
 /// LEFT and RIGHT are small; TARGET is what the sums are made in.
 fn start(code: Code) -> Job {
     let job = bare(code).fuel(9).reg(OTHER, UNREAD);

@@ -22,18 +22,6 @@ fn step() -> Code {
     ins(Add64(reg(OTHER), number(1)))
 }
 
-fn nothing() -> Code {
-    block(Vec::new())
-}
-
-fn always() -> Ocmp {
-    compare(Eq, reg(LEFT), reg(LEFT))
-}
-
-fn never() -> Ocmp {
-    compare(Ne, reg(LEFT), reg(LEFT))
-}
-
 /// A Block that says so many bytes of codes.
 fn part(length: usize, codes: &[&[u8]]) -> Vec<u8> {
     let mut out = vec![0x20];

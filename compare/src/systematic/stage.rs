@@ -1,7 +1,7 @@
 //! What systematic jobs share: registers and cells with a part to play, and
 //! the jobs that hold them.
 
-use crate::build::of_code;
+use crate::build::{block, of_code, reg};
 use crate::job::Job;
 use crate::tree::*;
 
@@ -52,4 +52,16 @@ pub fn stage(code: Code) -> Job {
 
 pub fn compare(relation: Relation, left: Operand, right: Operand) -> Ocmp {
     Ocmp::unplaced(relation, left, right)
+}
+
+pub fn nothing() -> Code {
+    block(Vec::new())
+}
+
+pub fn always() -> Ocmp {
+    compare(Relation::Eq, reg(LEFT), reg(LEFT))
+}
+
+pub fn never() -> Ocmp {
+    compare(Relation::Ne, reg(LEFT), reg(LEFT))
 }

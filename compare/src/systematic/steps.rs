@@ -16,24 +16,12 @@ fn bad() -> Code {
     ins(Shl64(reg(OTHER), number(64)))
 }
 
-fn nothing() -> Code {
-    block(Vec::new())
-}
-
 fn less(counter: Reg) -> Code {
     ins(Sub64(reg(counter), number(1)))
 }
 
 fn set(counter: Reg, n: u64) -> Code {
     ins(Mov64(reg(counter), number(n)))
-}
-
-fn always() -> Ocmp {
-    compare(Eq, reg(LEFT), reg(LEFT))
-}
-
-fn never() -> Ocmp {
-    compare(Ne, reg(LEFT), reg(LEFT))
 }
 
 fn differs(counter: Reg, n: u64) -> Ocmp {

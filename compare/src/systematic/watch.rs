@@ -12,18 +12,6 @@ use Relation::{Eq, Ne};
 
 pub const READERS: [OfTwo; 3] = [AddCarry64, Adcx64, Adox64];
 
-fn nothing() -> Code {
-    block(Vec::new())
-}
-
-fn always() -> Ocmp {
-    compare(Eq, reg(LEFT), reg(LEFT))
-}
-
-fn never() -> Ocmp {
-    compare(Ne, reg(LEFT), reg(LEFT))
-}
-
 fn open() -> Code {
     ins(Sub64(reg(RIGHT), number(1)))
 }
