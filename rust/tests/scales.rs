@@ -151,46 +151,47 @@ fn base_scale_and_index_are_judged_in_this_order() {
     }
 }
 
+/// A wrong scale and a wrong number elsewhere in the record: the number of what stands first, and its place.
+const ELSEWHERE: [(Host, u8, usize); 5] = [
+    (
+        host(&[0x01], &[0x41, 16], |b, o| b.add(Mov64(o, ABSENT))),
+        7,
+        3,
+    ),
+    (
+        host(&[0x01, 0x41, 16], &[], |b, o| b.add(Mov64(ABSENT, o))),
+        4,
+        2,
+    ),
+    (
+        host(&[0x17, 16, 1], &[], |b, o| b.add(Pinsrq(Xmm(16), o, 1))),
+        4,
+        1,
+    ),
+    (
+        host(
+            &[0x22, 3, 0, 0, 0, 0x30],
+            &[0x41, 16, 0x10, 0, 1],
+            |b, o| b.open_while(OEq(o, ABSENT)),
+        ),
+        7,
+        8,
+    ),
+    (
+        host(
+            &[0x22, 3, 0, 0, 0, 0x30, 0x41, 16],
+            &[0x10, 0, 1],
+            |b, o| b.open_while(OEq(ABSENT, o)),
+        ),
+        4,
+        7,
+    ),
+];
+
 #[test]
 fn a_wrong_scale_and_a_wrong_number_elsewhere_in_the_record() {
-    // The number of what stands first, and its place.
-    let table = [
-        (
-            host(&[0x01], &[0x41, 16], |b, o| b.add(Mov64(o, ABSENT))),
-            7,
-            3,
-        ),
-        (
-            host(&[0x01, 0x41, 16], &[], |b, o| b.add(Mov64(ABSENT, o))),
-            4,
-            2,
-        ),
-        (
-            host(&[0x17, 16, 1], &[], |b, o| b.add(Pinsrq(Xmm(16), o, 1))),
-            4,
-            1,
-        ),
-        (
-            host(
-                &[0x22, 3, 0, 0, 0, 0x30],
-                &[0x41, 16, 0x10, 0, 1],
-                |b, o| b.open_while(OEq(o, ABSENT)),
-            ),
-            7,
-            8,
-        ),
-        (
-            host(
-                &[0x22, 3, 0, 0, 0, 0x30, 0x41, 16],
-                &[0x10, 0, 1],
-                |b, o| b.open_while(OEq(ABSENT, o)),
-            ),
-            4,
-            7,
-        ),
-    ];
     let fields = Fields(0, 3, 0, 0);
-    for (host, number, place) in table {
+    for (host, number, place) in ELSEWHERE {
         refused(&host.code(fields), number, place);
         not_built(host.call, fields.operand(), number);
     }
@@ -223,30 +224,32 @@ fn the_four_scales_are_accepted_and_built_to_their_bytes() {
     }
 }
 
+const LAST: u64 = u64::MAX - 7;
+
+/// Base, scale, index and offset, and the address: none outside the range.
+const ADDRESSES: [(u64, i16, u64, i64, Option<u64>); 13] = [
+    (4096, 1, 24, -8, Some(4112)),
+    (4096, 2, 24, -8, Some(4136)),
+    (4096, 4, 24, -8, Some(4184)),
+    (4096, 8, 24, -8, Some(4280)),
+    (0, 8, LAST / 8, 0, Some(LAST)),
+    (8, 8, LAST / 8, 0, None),
+    (8, 8, LAST / 8, -8, Some(LAST)),
+    (0, 2, 1 << 63, 0, None),
+    (0, 2, 1 << 63, -8, Some(LAST)),
+    (0, 4, 1 << 62, -8, Some(LAST)),
+    (u64::MAX, 8, u64::MAX, i64::MIN, None),
+    (0, 1, 8, -8, Some(0)),
+    (0, 1, 7, -8, None),
+];
+
 #[test]
 fn addresses_by_the_four_scales() {
-    const LAST: u64 = u64::MAX - 7;
-    // Base, scale, index and offset, and the address: none outside the range.
-    let table = [
-        (4096, 1, 24, -8, Some(4112)),
-        (4096, 2, 24, -8, Some(4136)),
-        (4096, 4, 24, -8, Some(4184)),
-        (4096, 8, 24, -8, Some(4280)),
-        (0, 8, LAST / 8, 0, Some(LAST)),
-        (8, 8, LAST / 8, 0, None),
-        (8, 8, LAST / 8, -8, Some(LAST)),
-        (0, 2, 1 << 63, 0, None),
-        (0, 2, 1 << 63, -8, Some(LAST)),
-        (0, 4, 1 << 62, -8, Some(LAST)),
-        (u64::MAX, 8, u64::MAX, i64::MIN, None),
-        (0, 1, 8, -8, Some(0)),
-        (0, 1, 7, -8, None),
-    ];
     let wild = Answer::Fault {
         number: 36,
         place: 0,
     };
-    for (base, scale, index, offset, address) in table {
+    for (base, scale, index, offset, address) in ADDRESSES {
         // Rbx and Rcx are base and index, Rax is read or written.
         let operand = Fields(1, scale, 2, offset).bytes();
         let load = [&[0x01, 0x41, 0], &operand[..]].concat();
