@@ -6,7 +6,7 @@ ghost use Rattle.builder.specs.Building.{empty, kind_of, field_of, start_of, tak
 
 // What a build holds besides its bytes, which stand at the front of the lent buffer: how many they are, and the open
 // parts, outermost first. A part has a kind, the place of the length that counts it, and the place where it begins.
-#[derive(Drop)]
+#[derive(Clone, Copy)]
 pub struct Build {
     pub length: u16,
     pub depth: u16,
@@ -16,7 +16,7 @@ pub struct Build {
 }
 
 // What a call answers: 0 or the number of a refusal, and the build.
-#[derive(Drop)]
+#[derive(Clone, Copy)]
 pub struct Built {
     pub answer: u8,
     pub build: Build,
@@ -55,7 +55,7 @@ pub fn wide(n: u16) -> usize
 }
 
 // The innermost open part.
-#[derive(Drop)]
+#[derive(Clone, Copy)]
 pub struct Part {
     pub kind: u8,
     pub field: u16,

@@ -1,4 +1,5 @@
 // A builder for code records: calls open structures, add instructions and close, and the lengths are filled in.
+#![tactic(auto)]
 
 mod build;
 mod calls;

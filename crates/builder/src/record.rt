@@ -7,7 +7,7 @@ use code::{Instruction, Ocmp};
 use machine::Operand;
 
 // The bodies there are: xmm numbers, then an amount or imm8.
-#[derive(Drop)]
+#[derive(Clone, Copy)]
 pub enum Body {
     Nothing,
     Xmms(u8, u8),
@@ -15,7 +15,7 @@ pub enum Body {
     XmmsAmount(u8, u8, u8),
 }
 
-#[derive(Drop)]
+#[derive(Clone, Copy)]
 pub enum Operands {
     Nothing,
     One(Operand),
@@ -23,7 +23,7 @@ pub enum Operands {
     Three(Operand, Operand, Operand),
 }
 
-#[derive(Drop)]
+#[derive(Clone, Copy)]
 pub struct Record {
     pub kind: u8,
     pub body: Body,

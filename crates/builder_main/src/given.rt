@@ -21,7 +21,7 @@ pub const ADD: u8 = 4;
 pub const CLOSE: u8 = 5;
 
 // Numbers that give no instruction or comparison are no call of the builder's.
-#[derive(Drop)]
+#[derive(Clone, Copy)]
 pub enum Given {
     Begin,
     OpenBlock,

@@ -1,6 +1,7 @@
 // Makes the stored calls of data/ and compares what each answers and leaves with what is stored, all of it: the answer, the
 // five fields of the build and the whole buffer. The expected outcomes are those of the separately written builder in
 // compare/, whose README says how the files are made. A line that does not say "N of N" is an error.
+#![tactic(auto)]
 
 mod agrees;
 mod given;
@@ -22,7 +23,7 @@ const MOST: u64 = 100_000;
 const FILL: u8 = 7;
 
 // The stored build, from which the next call starts, and what was counted so far.
-#[derive(Drop)]
+#[derive(Clone, Copy)]
 struct Trial {
     more: bool,
     build: Build,

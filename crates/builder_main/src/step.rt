@@ -9,7 +9,7 @@ use numbered::Numbers;
 
 // Head: kind, lent length (4 bytes), answer, length (2), depth (2), index of an open part, its kind, field (2), start (2),
 // place in the buffer (4), count of the bytes that stand there.
-#[derive(Drop)]
+#[derive(Clone, Copy)]
 pub struct Step {
     pub whole: bool,
     pub head: [u8; 21],

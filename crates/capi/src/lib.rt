@@ -1,4 +1,6 @@
 // The C interface: the entry points on numbers and lent arrays. A slice passes as a pointer and a length.
+#![tactic(auto)]
+
 mod build;
 
 ghost use Rattle.std.specs.Prelude.{◌≡◌};
@@ -120,7 +122,7 @@ fn tell_watch(watch: Watch, mark: &mut usize, opened: &mut u8) -> u8
 }
 
 // C names an evaluation by a number.
-#[derive(Drop)]
+#[derive(Clone, Copy)]
 pub enum GivenEvaluation {
     Value(Evaluation),
     Nothing,

@@ -8,7 +8,7 @@ ghost use Rattle.code.specs.Kinds.{class, is_used, entry_of, LastField};
 use crate::numbers::wide;
 
 // What a kind byte begins.
-#[derive(Drop)]
+#[derive(Clone, Copy)]
 pub enum Class {
     Instruction,
     Structure,

@@ -1,4 +1,5 @@
 // Code records: the table of kinds, reading and checking code, and decoding one record.
+#![tactic(auto)]
 
 mod kinds;
 mod numbers;

@@ -12,7 +12,7 @@ use crate::numbers::{number4, signed2};
 use machine::{Checked, is_scale};
 
 // Where a reading goes on, or the number and the place of its trouble.
-#[derive(Drop)]
+#[derive(Clone, Copy)]
 pub enum Reach {
     Next(usize),
     Trouble(u8, usize),

@@ -11,7 +11,7 @@ use machine::{Maddr, Reg};
 
 // An operand as far as its record is decoded in place. Memory is decoded by `memory_at`, so that an operand that is no
 // memory costs no call.
-#[derive(Drop)]
+#[derive(Clone, Copy)]
 pub enum Form {
     Const(u64),
     Register(Reg),

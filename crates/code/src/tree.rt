@@ -2,7 +2,7 @@
 // 2026-02's.
 use machine::Operand;
 
-#[derive(Drop)]
+#[derive(Clone, Copy)]
 pub enum Instruction {
     Mov64(Operand, Operand),
     Add64(Operand, Operand),
@@ -33,7 +33,7 @@ pub enum Instruction {
     Tzcnt64(Operand, Operand),
 }
 
-#[derive(Drop)]
+#[derive(Clone, Copy)]
 pub enum Ocmp {
     OEq(Operand, Operand),
     ONe(Operand, Operand),

@@ -1,5 +1,7 @@
 // Byte examples of checking code. Every number and place below was worked out by hand from document 01 and requests 2026-02 and
 // 2026-08, and none was taken from the checker: a group whose cases do not all agree prints FAILED.
+#![tactic(auto)]
+
 ghost use Rattle.std.specs.Prelude.{◌*◌, ◌≤◌};
 
 use libc::STDOUT_FILENO;

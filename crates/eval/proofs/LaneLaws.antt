@@ -126,7 +126,7 @@ module _ (addresses tags regs xmms values : List ℕ) (fill : ℕ) (rule : FlagR
         Ran (run_ins env p (Pextrq dst src index) now_s) n (exit 0 t.next) (held regs' xmms flags values')
     unfolding run_ins act
     extract_done h x v regs' values' a b e f =
-        finished _ n t.next p _ (rw (e, f, b, extract_nat64_is, a) (wrote env now_s p dst n t resolves h _ _)) resolves.next
+        finished _ n t.next p _ (rw (e, f, b, a, extract_nat64_is) (wrote env now_s p dst n t resolves h _ _)) resolves.next
 
   module _ (k : ℕ) (is : is_inserts k ≡ true) (src : Operand) (dst index n : ℕ) (r : Loaded) (loads : Loads env now_s src n r) where
     abbrev InsertsShape : ℕ → Instruction → Type 0

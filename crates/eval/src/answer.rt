@@ -1,7 +1,7 @@
 use machine::State;
 
 // How a run ended: each but a run that is done has a place.
-#[derive(Drop)]
+#[derive(Clone, Copy)]
 pub enum Answer {
     Done,
     Fault(u8, usize),
@@ -11,14 +11,14 @@ pub enum Answer {
 }
 
 // The place of the first instruction that has read an open flag, if one has.
-#[derive(Drop)]
+#[derive(Clone, Copy)]
 pub enum Mark {
     Unmarked,
     Marked(usize),
 }
 
 // Whether an end can hang on the fill word: the mark, and whether carry and overflow are open, which is to say the fill word's.
-#[derive(Drop)]
+#[derive(Clone, Copy)]
 pub struct Watch {
     pub mark: Mark,
     pub carry: bool,
@@ -27,7 +27,7 @@ pub struct Watch {
 
 // What a run hands back, beside the lent cells. With less fuel than `needed` it is Spent; a run that is Spent has needed all of its fuel,
 // and one that is refused none.
-#[derive(Drop)]
+#[derive(Clone, Copy)]
 pub struct Run {
     pub answer: Answer,
     pub state: State,
@@ -37,14 +37,14 @@ pub struct Run {
 }
 
 // Which flags Add64 and AddCarry64 leave: F*'s, or those of the board.
-#[derive(Drop)]
+#[derive(Clone, Copy)]
 pub enum Evaluation {
     Base,
     Board,
 }
 
 // What a caller names for a run beside code, cells and start.
-#[derive(Drop)]
+#[derive(Clone, Copy)]
 pub struct Setting {
     pub fill: u64,
     pub fuel: u32,

@@ -15,7 +15,7 @@ use words::{
 };
 
 // What an instruction writes to its destination and to the flags.
-#[derive(Drop)]
+#[derive(Clone, Copy)]
 pub struct Effect {
     pub word: u64,
     pub flags: u64,

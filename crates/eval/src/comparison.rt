@@ -8,7 +8,7 @@ use crate::operand::load;
 
 // 0 where it does not hold, 1 where it holds, or the number with which the run ends there; and, where both
 // operands were read, the place behind.
-#[derive(Drop)]
+#[derive(Clone, Copy)]
 pub struct Compared {
     pub how: u8,
     pub next: usize,

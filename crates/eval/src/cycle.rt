@@ -32,7 +32,7 @@ fn test_at(at: usize, chooses: bool) -> usize
 
 // Where an IfElse or a While goes on behind its comparison: where the part begins that is run next, where that ends, and where
 // the whole ends. The second part of a While is empty, and stands at its end.
-#[derive(Drop)]
+#[derive(Clone, Copy)]
 pub struct Way {
     pub part: usize,
     pub behind: usize,

@@ -1,4 +1,5 @@
 // Running: the evaluator of accepted code over lent cells.
+#![tactic(auto)]
 
 mod answer;
 mod arithmetic;

@@ -1,4 +1,5 @@
 // The job program's work: a job's bytes are read, run, and what is printed is rendered.
+#![tactic(auto)]
 
 mod cells;
 mod lines;

@@ -1,4 +1,6 @@
 // Reads a job from standard input, runs it, and writes what it prints.
+#![tactic(auto)]
+
 use libc::{STDIN_FILENO, STDOUT_FILENO};
 
 // One byte more than a job may have is read, which tells a job that is too long.

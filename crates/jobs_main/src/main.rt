@@ -2,6 +2,7 @@
 // rule with the second of its two; and the stored sums, by both evaluations, with the word and the flags that are stored. What is
 // expected is of the separately written evaluator in compare/, whose README says how the files are made. A line that does not say
 // "N of N" is an error.
+#![tactic(auto)]
 
 mod marked;
 mod part;
@@ -19,7 +20,7 @@ use tally::{Tally, counted, none_yet, tell};
 const MOST: u64 = 100_000;
 
 // What a file holds.
-#[derive(Drop)]
+#[derive(Clone, Copy)]
 enum Holds {
     Jobs,
     Marked,
@@ -27,7 +28,7 @@ enum Holds {
 }
 
 // What was tried, or that the file has ended.
-#[derive(Drop)]
+#[derive(Clone, Copy)]
 enum Trial {
     Made(Tally),
     End,

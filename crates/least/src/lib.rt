@@ -1,4 +1,6 @@
 // The least fuel at or below a cap with which a run is not Spent. It takes one run, at the cap: that run tells how much fuel it needed.
+#![tactic(auto)]
+
 ghost use Rattle.std.specs.Prelude.{◌≡◌};
 ghost use Rattle.std.proofs.Math.Option.{some};
 ghost use Rattle.eval.specs.FlagRule.{flag_rule};
@@ -12,7 +14,7 @@ use machine::State;
 
 // The least fuel, with how the run with it ended; or 61, where the run at the cap is Spent, with that place; or code or cells were not
 // accepted.
-#[derive(Drop)]
+#[derive(Clone, Copy)]
 pub enum Least {
     Done(u32),
     Fault(u32, u8, usize),
@@ -23,7 +25,7 @@ pub enum Least {
 
 // What is handed back beside the lent cells: the report, and all else as the run with the least fuel hands it back, or the run at the
 // cap where there is no such fuel.
-#[derive(Drop)]
+#[derive(Clone, Copy)]
 pub struct LeastRun {
     pub least: Least,
     pub state: State,

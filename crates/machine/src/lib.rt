@@ -1,4 +1,5 @@
 // X64.Machine_s: registers, the state, operands, exact addresses, and the cells that a caller lends.
+#![tactic(auto)]
 
 mod addressing;
 mod cells;
@@ -13,7 +14,7 @@ pub use wide::Wide;
 pub use xmm::{set_xmm, xmm_at};
 
 // The state by value. Word j of xmm i stands at 4 * i + j.
-#[derive(Drop)]
+#[derive(Clone, Copy)]
 pub struct State {
     pub regs: [u64; 16],
     pub xmms: [u32; 64],
@@ -21,14 +22,14 @@ pub struct State {
 }
 
 // A memory operand, with the bounded fields that a code record holds.
-#[derive(Drop)]
+#[derive(Clone, Copy)]
 pub enum Maddr {
     MConst(u64),
     MReg(Reg, i64),
     MIndex(Reg, i16, Reg, i64),
 }
 
-#[derive(Drop)]
+#[derive(Clone, Copy)]
 pub enum Operand {
     OConst(u64),
     OReg(Reg),
@@ -36,21 +37,21 @@ pub enum Operand {
 }
 
 // Whether an exact address lies in the 64-bit range.
-#[derive(Drop)]
+#[derive(Clone, Copy)]
 pub enum Address {
     Inside(u64),
     Outside,
 }
 
 // What a check answers: the number of a refusal, and its place or index.
-#[derive(Drop)]
+#[derive(Clone, Copy)]
 pub enum Checked {
     Accepted,
     Refused(u8, usize),
 }
 
 // What a search for a cell finds.
-#[derive(Drop)]
+#[derive(Clone, Copy)]
 pub enum Found {
     At(usize),
     Nothing,
@@ -58,7 +59,7 @@ pub enum Found {
 
 // What a memory operand leads to: the index of its 64-bit cell, no such cell at its address, or an exact address below 0
 // or above 2^64 - 1.
-#[derive(Drop)]
+#[derive(Clone, Copy)]
 pub enum Target {
     Cell(usize),
     Absent,

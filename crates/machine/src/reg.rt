@@ -2,7 +2,7 @@ ghost use Rattle.std.specs.Prelude.{◌≡◌, ◌==◌};
 ghost use Rattle.machine.specs.Registers.{Rsp};
 
 // A register by its number in the source's order, which is not the processor's.
-#[derive(Drop)]
+#[derive(Clone, Copy)]
 pub struct Reg {
     pub number: u8,
 }

@@ -9,7 +9,7 @@ use crate::Address;
 use words::{add64, mul_wide, sub64};
 
 // high * 2^64 + low
-#[derive(Drop)]
+#[derive(Clone, Copy)]
 pub struct Wide {
     pub high: u64,
     pub low: u64,

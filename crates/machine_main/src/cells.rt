@@ -8,7 +8,7 @@ use machine::Checked;
 const TOP: u64 = 18446744073709551615;
 
 // address, tag, value
-#[derive(Drop)]
+#[derive(Clone, Copy)]
 struct Cell(u64, u8, u64);
 
 pub fn is_verdict(got: Checked, expected: Checked) -> bool {

@@ -1,4 +1,5 @@
 // Executes the boundary cases of cells, their splits, exact addresses, searches and xmms. A line that does not say "N of N" is an error.
+#![tactic(auto)]
 
 mod addresses;
 mod cells;

@@ -12,7 +12,7 @@ const TOP: u64 = 18446744073709551615;
 
 // Four cells, and the ends that none, one, .. four of them leave, in two words each. Where a front is refused, its end is not
 // looked at.
-#[derive(Drop)]
+#[derive(Clone, Copy)]
 struct Cells {
     addresses: [u64; 4],
     tags: [u8; 4],

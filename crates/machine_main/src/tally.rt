@@ -1,6 +1,6 @@
 // How many cases were tried, and how many of them came out as expected.
 
-#[derive(Drop)]
+#[derive(Clone, Copy)]
 pub struct Tally {
     pub tried: u64,
     pub right: u64,

@@ -1,4 +1,5 @@
 // Instructions and comparisons that are given as numbers and arrays, for callers that have no enums.
+#![tactic(auto)]
 
 mod operands;
 mod values;

@@ -8,7 +8,7 @@ use words::{signed16, signed64};
 
 // A kind, the bytes of a body, and up to three operands: their kinds, registers or bases, indexes, scales, constants or
 // addresses, and offsets; scales and offsets in two's complement. What the kind does not have is not looked at.
-#[derive(Drop)]
+#[derive(Clone, Copy)]
 pub struct Numbers {
     pub kind: u8,
     pub body: [u8; 3],

@@ -10,13 +10,13 @@ use code::{Class, Instruction, Ocmp, class_of, operand_count};
 use machine::Operand;
 
 // What numbers give: a kind that is none of an instruction's, or of its operands', gives nothing.
-#[derive(Drop)]
+#[derive(Clone, Copy)]
 pub enum GivenInstruction {
     Value(Instruction),
     Nothing,
 }
 
-#[derive(Drop)]
+#[derive(Clone, Copy)]
 pub enum GivenComparison {
     Value(Ocmp),
     Nothing,

@@ -1,6 +1,8 @@
 // Words_s, Words.Two_s, Words.Four_s, Types_s and TypesNative_s: words of 32 and 64 bits, their
 // halves and quarters, their bits, and the carry and overflow bits of a flags word. The counts of bits are request
 // 2026-02's, the overflow of signed sums 2026-06's.
+#![tactic(auto)]
+
 mod bits;
 mod counts;
 mod flags;
@@ -25,21 +27,21 @@ pub use signed::{add_overflows, signed16, signed64};
 pub use sums::{add32, add64, sub32, sub64};
 
 // `double32`: two 32-bit words, the low one first.
-#[derive(Drop)]
+#[derive(Clone, Copy)]
 pub struct Double32 {
     pub lo: u32,
     pub hi: u32,
 }
 
 // The two halves of a quad.
-#[derive(Drop)]
+#[derive(Clone, Copy)]
 pub struct TwoDoubles {
     pub lo: Double32,
     pub hi: Double32,
 }
 
 // `quad32`: four 32-bit words, the lowest first.
-#[derive(Drop)]
+#[derive(Clone, Copy)]
 pub struct Quad32 {
     pub lo0: u32,
     pub lo1: u32,
@@ -48,7 +50,7 @@ pub struct Quad32 {
 }
 
 // `bits_of_byte`: the four two-bit parts of a byte, the lowest first.
-#[derive(Drop)]
+#[derive(Clone, Copy)]
 pub struct BitsOfByte {
     pub lo0: u8,
     pub lo1: u8,
@@ -57,21 +59,21 @@ pub struct BitsOfByte {
 }
 
 // A 32-bit word and what left it: the carry of a sum, the borrow of a difference.
-#[derive(Drop)]
+#[derive(Clone, Copy)]
 pub struct Sum32 {
     pub word: u32,
     pub carry: bool,
 }
 
 // A 64-bit word and what left it: the carry of a sum, the borrow of a difference.
-#[derive(Drop)]
+#[derive(Clone, Copy)]
 pub struct Sum64 {
     pub word: u64,
     pub carry: bool,
 }
 
 // The two words of a product.
-#[derive(Drop)]
+#[derive(Clone, Copy)]
 pub struct Product64 {
     pub low: u64,
     pub high: u64,

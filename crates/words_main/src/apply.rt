@@ -2,7 +2,7 @@
 // words each, s the selector, amount, carry or flag, and the result is two words.
 use words::{Double32, Quad32};
 
-#[derive(Drop)]
+#[derive(Clone, Copy)]
 pub struct Pair {
     pub lo: u64,
     pub hi: u64,

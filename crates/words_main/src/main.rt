@@ -1,6 +1,8 @@
 // Runs every function of `words` on the rows of vectors.rt, whose expected numbers come from
 // vectors.py, and writes a line for each: its name and the count of rows that agree, or the first
 // row that does not.
+#![tactic(auto)]
+
 mod apply;
 mod vectors;
 

@@ -1,0 +1,12 @@
+-- Below the width the language's shift is the definition, and from the width on nothing is left.
+use Rattle.std.proofs.Common.{sym, refl, rules}
+use Rattle.words.specs.Bits.{ishl}
+use Rattle.words.proofs.ShiftLaws.{ishl_past}
+use Rattle.words.proofs.bits.ishl64.Goals as goal
+
+pub returns-then-s-lt64 : goal.returns-then-s-lt64
+unfolding ishl
+returns-then-s-lt64 c = refl
+
+pub returns-else-s-lt64 : goal.returns-else-s-lt64
+returns-else-s-lt64 c = sym (ishl_past 64 c.args.x c.args.s c.if-s-lt64.false)

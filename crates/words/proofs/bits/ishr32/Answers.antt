@@ -1,0 +1,12 @@
+-- Below the width the language's shift is the definition, and from the width on nothing is left.
+use Rattle.std.proofs.Common.{sym, refl, rules}
+use Rattle.words.specs.Bits.{ishr}
+use Rattle.words.proofs.ShiftLaws.{ishr_past}
+use Rattle.words.proofs.bits.ishr32.Goals as goal
+
+pub returns-then-s-lt32 : goal.returns-then-s-lt32
+unfolding ishr
+returns-then-s-lt32 c = refl
+
+pub returns-else-s-lt32 : goal.returns-else-s-lt32
+returns-else-s-lt32 c = sym (ishr_past 32 c.args.s c.ranges.x.fits c.if-s-lt32.false)

@@ -1,0 +1,14 @@
+-- Taking the bit out and putting the new one in is the definition's choice of four.
+use Rattle.std.proofs.Common.{sym, arith, rules}
+use Rattle.words.proofs.BitLaws.{bit_lt}
+use Rattle.words.proofs.FlagLaws.{update_of_is}
+use Rattle.words.proofs.flags.update_of.Goals as goal
+
+pub overflow_mul-result-2 : goal.overflow_mul-result-2
+overflow_mul-result-2 c = omega (arith, bit_lt c.args.new_of)
+
+pub overflow_add-result : goal.overflow_add-result
+overflow_add-result c = omega (arith, bit_lt c.args.new_of)
+
+pub returns : goal.returns
+returns c = sym (update_of_is c.args.flags c.args.new_of)
