@@ -5,8 +5,7 @@ use mathlib.Core.Path.{subst⁻¹}
 use lib.Signed.{lt_z, non_neg, mag}
 use mir.ValLaws.{to_z-of_z}
 use Rattle.machine.proofs.Exact.{sign}
-use Rattle.machine.proofs.addressing.magnitude.Statement.{statement}
-use Rattle.machine.proofs.addressing.magnitude.Tie as tie
+use Rattle.machine.proofs.addressing.magnitude.Goals as goal
 
 next : (z : ℤ) → SFits w64 z → lt_z z (pos 0) ≡ true → SFits w64 (z +ℤ pos 1)
 next (pos n) f p = absurd (omega (arith, ltb-true n 0 p))
@@ -47,36 +46,31 @@ nonneg : (z : ℤ) → SFits w64 z → lt_z z (pos 0) ≡ false → T (non_neg z
 nonneg (pos n) f p = (tt, record { fits = omega (arith, f.sfits) })
 nonneg (negsuc n) f p = absurd (let z : ◌≡◌ {A = ℕ} 0 1 = cc in omega arith)
 
-add-result : tie.Need-overflow-add-result
-add-result c = up _ c.before.ranges.x c.if1.true
+pub overflow_add-result : goal.overflow_add-result
+overflow_add-result c = up _ c.ranges.x c.if-x-lt0.true
 
-sub-result : tie.Need-overflow-sub-result
-sub-result c = subst⁻¹ (SFits w64) (down _ c.before.ranges.x c.if1.true) (fits _ c.before.ranges.x c.if1.true)
+pub overflow_sub-result : goal.overflow_sub-result
+overflow_sub-result c = subst⁻¹ (SFits w64) (down _ c.ranges.x c.if-x-lt0.true) (fits _ c.ranges.x c.if-x-lt0.true)
 
-cast-result : tie.Need-overflow-cast-result
-cast-result c =
-    subst⁻¹ (λ (y : ℤ). T (non_neg y) × Fits w64 (nat_abs y)) (whole _ c.before.ranges.x c.if1.true)
-    (tt, record { fits = omega (arith, c.before.ranges.x.sfits) })
+pub overflow_cast-result : goal.overflow_cast-result
+overflow_cast-result c =
+    subst⁻¹ (λ (y : ℤ). T (non_neg y) × Fits w64 (nat_abs y)) (whole _ c.ranges.x c.if-x-lt0.true)
+    (tt, record { fits = omega (arith, c.ranges.x.sfits) })
 
-add-result-2 : tie.Need-overflow-add-result-2
-add-result-2 c =
-    subst⁻¹ (λ (y : ℤ). Fits w64 (nat_abs y + 1)) (whole _ c.before.ranges.x c.if1.true)
-    (record { fits = omega (arith, c.before.ranges.x.sfits) })
+pub overflow_add-result-then-x-lt0 : goal.overflow_add-result-then-x-lt0
+overflow_add-result-then-x-lt0 c =
+    subst⁻¹ (λ (y : ℤ). Fits w64 (nat_abs y + 1)) (whole _ c.ranges.x c.if-x-lt0.true)
+    (record { fits = omega (arith, c.ranges.x.sfits) })
 
-cast-result-2 : tie.Need-overflow-cast-result-2
-cast-result-2 c =
-    subst⁻¹ (λ (y : ℤ). T (non_neg y) × Fits w64 (nat_abs y)) (back _ c.before.ranges.x)
-    (nonneg _ c.before.ranges.x (sign w64 _ c.before.ranges.x false c.if1.false))
+pub overflow_cast-result-else-x-lt0 : goal.overflow_cast-result-else-x-lt0
+overflow_cast-result-else-x-lt0 c =
+    subst⁻¹ (λ (y : ℤ). T (non_neg y) × Fits w64 (nat_abs y)) (back _ c.ranges.x)
+    (nonneg _ c.ranges.x (sign w64 _ c.ranges.x false c.if-x-lt0.false))
 
-returns : tie.Need-returns
-returns c =
-    ap (λ (y : ℤ). nat_abs y + 1) (whole _ c.before.ranges.x c.if1.true)
-    ∙ one_more c.before.args.x (sign w64 _ c.before.ranges.x true c.if1.true)
+pub returns-then-x-lt0 : goal.returns-then-x-lt0
+returns-then-x-lt0 c =
+    ap (λ (y : ℤ). nat_abs y + 1) (whole _ c.ranges.x c.if-x-lt0.true)
+    ∙ one_more c.args.x (sign w64 _ c.ranges.x true c.if-x-lt0.true)
 
-returns-2 : tie.Need-returns-2
-returns-2 c = ap nat_abs (back _ c.before.ranges.x)
-
-pub magnitude-spec : {M : Type 1} → statement M
-magnitude-spec =
-    tie.close
-    (tie.spec add-result sub-result cast-result add-result-2 cast-result-2 returns returns-2)
+pub returns-else-x-lt0 : goal.returns-else-x-lt0
+returns-else-x-lt0 c = ap nat_abs (back _ c.ranges.x)

@@ -3,8 +3,7 @@ use Rattle.std.proofs.Common.{◌≡◌, zero, suc, true, false, ◌⊎◌, ℤ,
 use lib.Signed.{lt_z}
 use Rattle.machine.specs.Operands.{is_scale}
 use Rattle.machine.proofs.Exact.{under_bound}
-use Rattle.machine.proofs.addressing.is_scale.Statement.{statement}
-use Rattle.machine.proofs.addressing.is_scale.Tie as tie
+use Rattle.machine.proofs.addressing.is_scale.Goals as goal
 
 below : (z : ℤ) → lt_z z (pos 1) ≡ true → false ≡ is_scale z
 below (pos zero) t = refl
@@ -30,23 +29,18 @@ other (pos n) t u k =
     rw (ne_eqb n 1 (omega (arith, h)), ne_eqb n 2 (omega (arith, h)), ne_eqb n 4 (λ e. k (inl e)), ne_eqb n 8 (λ e. k (inr e))) refl
 other (negsuc n) t u k = refl
 
-returns : tie.Need-returns
-returns c = let s = c.before.before in below s.args.scale (under_bound w16 (pos 1) _ s.ranges.scale true c.if1.true)
+pub returns-in_default : goal.returns-in_default
+returns-in_default c = below c.args.scale (under_bound w16 (pos 1) _ c.ranges.scale true c.in_default.if-scale-lt1-own.true)
 
-returns-2 : tie.Need-returns-2
-returns-2 c =
-    let s = c.before.before.before in
-    other s.args.scale (under_bound w16 (pos 1) _ s.ranges.scale false c.before.if1.false)
-    (under_bound w16 (pos 3) _ s.ranges.scale false c.if2.false) c.before.before.match.rest.1
+pub returns-in_default-2 : goal.returns-in_default-2
+returns-in_default-2 c =
+    other c.args.scale (under_bound w16 (pos 1) _ c.ranges.scale false c.in_default.if-scale-lt1-own.false)
+    (under_bound w16 (pos 3) _ c.ranges.scale false c.in_default.if-scale-lt3-own.false) c.in_default.in_default-own.rest.1
 
-returns-3 : tie.Need-returns-3
-returns-3 c = four_or_eight c.before.args.scale c.before.ranges.scale c.match.keys1
+pub returns-in-1 : goal.returns-in-1
+returns-in-1 c = four_or_eight c.args.scale c.ranges.scale c.in-1.in-1-own.keys1
 
-returns-4 : tie.Need-returns-4
-returns-4 c =
-    let s = c.before.before.before in
-    one_or_two s.args.scale (under_bound w16 (pos 1) _ s.ranges.scale false c.before.if1.false)
-    (under_bound w16 (pos 3) _ s.ranges.scale true c.if2.true)
-
-pub is-scale-spec : {M : Type 1} → statement M
-is-scale-spec = tie.close (tie.spec returns returns-2 returns-3 returns-4)
+pub returns-in-1-2 : goal.returns-in-1-2
+returns-in-1-2 c =
+    one_or_two c.args.scale (under_bound w16 (pos 1) _ c.ranges.scale false c.in-1.if-scale-lt1-own.false)
+    (under_bound w16 (pos 3) _ c.ranges.scale true c.in-1.if-scale-lt3-own.true)

@@ -1,0 +1,44 @@
+-- `machine::addressing::exact_address` meets its contract: an offset from the base and the product, which is far below 2^68.
+use Rattle.std.proofs.Common.{◌≡◌, ℕ, ◌+◌, ◌*◌, ◌^◌, ◌<◌, ◌≤◌, T, ℤ, pos, ◌+ℤ◌, nat_abs, sym, ap, ◌∙◌, ap₂, arith, w16, w64, Fits}
+use mathlib.Core.Path.{subst⁻¹}
+use lib.Signed.{non_neg}
+use mir.ValLaws.{to_z-of_z}
+use Rattle.machine.specs.Operands.{in_range}
+use Rattle.machine.specs.Wide.{number}
+use Rattle.machine.proofs.Exact.{scale_small, product_small, exact_is}
+use Rattle.machine.proofs.addressing.exact_address.Goals as goal
+use Rattle.machine.proofs.addressing.exact_address.Goals.{After-times, Start}
+
+-- the scale is a small number, read back as itself
+scale : (c : Start) → T (non_neg c.args.scale) × (nat_abs c.args.scale ≤ 8)
+scale c = scale_small c.args.scale c.requires
+
+product : (c : After-times) → number c.times.result ≡ nat_abs c.args.scale * c.args.index
+product c = let e = to_z-of_z w16 c.args.scale c.ranges.scale in cc c.times.ensures
+
+small : (c : After-times) → number c.times.result < 2 ^ 67
+small c =
+    let a = c.args in
+    product_small (number c.times.result) (nat_abs a.scale) a.index (product c) (scale c.before).1 c.ranges.index.fits
+
+pub overflow_cast-scale : goal.overflow_cast-scale
+overflow_cast-scale c =
+    subst⁻¹ (λ (z : ℤ). T (non_neg z) × Fits w64 (nat_abs z)) (to_z-of_z w16 c.args.scale c.ranges.scale)
+    ((scale c).0, record { fits = omega (arith, (scale c).1) })
+
+pub times-requires : goal.times-requires
+times-requires c = subst⁻¹ (λ (z : ℤ). nat_abs z ≤ 8) (to_z-of_z w16 c.args.scale c.ranges.scale) (scale c).1
+
+pub plus-requires : goal.plus-requires
+plus-requires c = let p = small c in omega arith
+
+pub moved-requires : goal.moved-requires
+moved-requires c = let b = c.ranges.base.fits in omega (arith, small (goal.at.moved-requires c).After-times, c.plus.ensures)
+
+pub returns : goal.returns
+returns c =
+    let a = c.args in
+    let sum : number c.plus.result ≡ nat_abs a.scale * a.index + a.base = cc (c.plus.ensures, product (goal.at.returns c).After-times) in
+    c.moved.ensures
+    ∙ ap₂ (λ (x : ℕ) (z : ℤ). in_range (pos x +ℤ z)) sum (to_z-of_z w64 a.offset c.ranges.offset)
+    ∙ ap in_range (sym (exact_is a.base a.index a.scale a.offset c.requires))

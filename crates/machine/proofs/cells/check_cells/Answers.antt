@@ -1,0 +1,23 @@
+-- `machine::cells::check_cells` meets its contract: the lengths and the count are tested first, and the rest is `check_from`.
+use Rattle.machine.proofs.CellLaws.{tags_differ, values_differ, too_many, from_first}
+use Rattle.std.proofs.Common.{rules}
+use Rattle.machine.proofs.cells.check_cells.Goals as goal
+
+pub returns-then-tags-addresses : goal.returns-then-tags-addresses
+returns-then-tags-addresses c =
+    tags_differ c.args.addresses.now c.args.tags.now c.args.values.now c.if-tags-addresses.true
+
+pub returns-then-values-addresses : goal.returns-then-values-addresses
+returns-then-values-addresses c =
+    values_differ c.args.addresses.now c.args.tags.now c.args.values.now c.if-tags-addresses.false c.if-values-addresses.true
+
+pub returns-then-addresses-gt1024 : goal.returns-then-addresses-gt1024
+returns-then-addresses-gt1024 c =
+    too_many c.args.addresses.now c.args.tags.now c.args.values.now
+    (record { tags = c.if-tags-addresses.false; values = c.if-values-addresses.false }) c.if-addresses-gt1024.true
+
+-- from the first cell on, with the end 0
+pub returns : goal.returns
+returns c =
+    from_first c.args.addresses.now c.args.tags.now c.args.values.now _ _ c.check_from.ensures c.of_word.ensures
+    (record { tags = c.if-tags-addresses.false; values = c.if-values-addresses.false }) c.if-addresses-gt1024.false
