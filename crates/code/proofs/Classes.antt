@@ -110,20 +110,31 @@ ocmp_used k h = or_there (is_code k) (is_ocmp k || is_operand k) (or_here (is_oc
 pub operand_used : (k : ℕ) → is_operand k ≡ true → is_used k ≡ true
 operand_used k h = or_there (is_code k) (is_ocmp k || is_operand k) (or_there (is_ocmp k) (is_operand k) h)
 
--- a tag that is one of others is not this one
-pub others_3 : (n : ℕ) → (n ≡ 0) ⊎ ((n ≡ 1) ⊎ ((n ≡ 2) ⊎ (n ≡ 4))) → n ≡ 3 → ⊥
-others_3 n (inl h) e = omega arith
-others_3 n (inr (inl h)) e = omega arith
-others_3 n (inr (inr (inl h))) e = omega arith
-others_3 n (inr (inr (inr h))) e = omega arith
+-- a class that is not this one has not its tag
+pub no_3 : (r : Class) → (r ≡ Operand → ⊥) → tag r ≡ 3 → ⊥
+no_3 Instruction f e = omega arith
+no_3 Structure f e = omega arith
+no_3 Comparison f e = omega arith
+no_3 Operand f e = f refl
+no_3 Unused f e = omega arith
 
-pub others_2 : (n : ℕ) → (n ≡ 0) ⊎ ((n ≡ 1) ⊎ ((n ≡ 3) ⊎ (n ≡ 4))) → n ≡ 2 → ⊥
-others_2 n (inl h) e = omega arith
-others_2 n (inr (inl h)) e = omega arith
-others_2 n (inr (inr (inl h))) e = omega arith
-others_2 n (inr (inr (inr h))) e = omega arith
+pub no_2 : (r : Class) → (r ≡ Comparison → ⊥) → tag r ≡ 2 → ⊥
+no_2 Instruction f e = omega arith
+no_2 Structure f e = omega arith
+no_2 Comparison f e = f refl
+no_2 Operand f e = omega arith
+no_2 Unused f e = omega arith
 
-pub others_01 : (n : ℕ) → (n ≡ 2) ⊎ ((n ≡ 3) ⊎ (n ≡ 4)) → (n ≡ 0 → ⊥) × (n ≡ 1 → ⊥)
-others_01 n (inl h) = (λ e. omega arith, λ e. omega arith)
-others_01 n (inr (inl h)) = (λ e. omega arith, λ e. omega arith)
-others_01 n (inr (inr h)) = (λ e. omega arith, λ e. omega arith)
+pub no_0 : (r : Class) → (r ≡ Instruction → ⊥) → tag r ≡ 0 → ⊥
+no_0 Instruction f e = f refl
+no_0 Structure f e = omega arith
+no_0 Comparison f e = omega arith
+no_0 Operand f e = omega arith
+no_0 Unused f e = omega arith
+
+pub no_1 : (r : Class) → (r ≡ Structure → ⊥) → tag r ≡ 1 → ⊥
+no_1 Instruction f e = omega arith
+no_1 Structure f e = f refl
+no_1 Comparison f e = omega arith
+no_1 Operand f e = omega arith
+no_1 Unused f e = omega arith

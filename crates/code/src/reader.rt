@@ -111,7 +111,7 @@ fn read_ocmp(code: &[u8], end: usize, at: usize) -> Reach
 }
 
 // The code at `at`, in the part that ends at `end`; `depth` more codes may nest.
-#[cycle(read_block_read_code_read_codes_read_if_read_part_read_structure_read_while)]
+#[cycle(reading)]
 fn read_code(code: &[u8], end: usize, at: usize, depth: usize) -> Reach
     requires { end ≤ length code.now }
     ensures { reach result ≡ reached (read_code depth code.now end at) }
@@ -137,7 +137,7 @@ fn read_code(code: &[u8], end: usize, at: usize, depth: usize) -> Reach
     }
 }
 
-#[cycle(read_block_read_code_read_codes_read_if_read_part_read_structure_read_while)]
+#[cycle(reading)]
 fn read_structure(code: &[u8], end: usize, at: usize, depth: usize) -> Reach
     requires { Begins is_structure code.now end at }
     ensures { reach result ≡ reached (structure_of depth code.now end at) }
@@ -155,7 +155,7 @@ fn read_structure(code: &[u8], end: usize, at: usize, depth: usize) -> Reach
     read_while(code, end, at, depth)
 }
 
-#[cycle(read_block_read_code_read_codes_read_if_read_part_read_structure_read_while)]
+#[cycle(reading)]
 fn read_block(code: &[u8], end: usize, at: usize, depth: usize) -> Reach
     requires { (at + 5 ≤ end) × (end ≤ length code.now) }
     ensures { reach result ≡ reached (read_block (read_code depth code.now) code.now end at) }
@@ -169,7 +169,7 @@ fn read_block(code: &[u8], end: usize, at: usize, depth: usize) -> Reach
 }
 
 // Both lengths are judged together, before either part is read.
-#[cycle(read_block_read_code_read_codes_read_if_read_part_read_structure_read_while)]
+#[cycle(reading)]
 fn read_if(code: &[u8], end: usize, at: usize, depth: usize) -> Reach
     requires { (at + 9 ≤ end) × (end ≤ length code.now) }
     ensures { reach result ≡ reached (read_if (read_code depth code.now) code.now end at) }
@@ -190,7 +190,7 @@ fn read_if(code: &[u8], end: usize, at: usize, depth: usize) -> Reach
     read_part(code, mid + other, mid, depth)
 }
 
-#[cycle(read_block_read_code_read_codes_read_if_read_part_read_structure_read_while)]
+#[cycle(reading)]
 fn read_while(code: &[u8], end: usize, at: usize, depth: usize) -> Reach
     requires { (at + 5 ≤ end) × (end ≤ length code.now) }
     ensures { reach result ≡ reached (read_while (read_code depth code.now) code.now end at) }
@@ -207,7 +207,7 @@ fn read_while(code: &[u8], end: usize, at: usize, depth: usize) -> Reach
 }
 
 // One code that fills its part.
-#[cycle(read_block_read_code_read_codes_read_if_read_part_read_structure_read_while)]
+#[cycle(reading)]
 fn read_part(code: &[u8], end: usize, at: usize, depth: usize) -> Reach
     requires { end ≤ length code.now }
     ensures { reach result ≡ reached (read_part (read_code depth code.now) end at) }
@@ -222,7 +222,7 @@ fn read_part(code: &[u8], end: usize, at: usize, depth: usize) -> Reach
     read
 }
 
-#[cycle(read_block_read_code_read_codes_read_if_read_part_read_structure_read_while)]
+#[cycle(reading)]
 fn read_codes(code: &[u8], end: usize, from: usize, depth: usize) -> Reach
     requires { (from ≤ end) × (end ≤ length code.now) }
     ensures { reach result ≡ reached (read_codes (read_code depth code.now) (end - from) end from) }
