@@ -694,11 +694,11 @@ module _ (env : Env) (limit : Option ℕ) (bs : List ℕ) (at fuel : ℕ) (s₀ 
   test_stands chooses w = rw w.is_test (test_there bs at chooses w.tested)
 
   -- by the loop's test, neither does it choose nor is fuel left
-  pub turns_spent : (chooses : Bool) → Head chooses → chooses ≡ false → not (eqb left 0) ≡ false → Runs env limit bs at fuel s₀ k₀ (exit 1 at) s k
+  pub turns_spent : (chooses : Bool) → Head chooses → chooses ≡ false → left ≡ 0 → Runs env limit bs at fuel s₀ k₀ (exit 1 at) s k
   turns_spent true w h z = absurd (true≢false h)
   turns_spent false w h z =
       looped env limit bs at fuel s₀ k₀ left s k w.looping (exit 1 at) s k
-      (loop_spent env limit bs at left s k w.tested.kind (eqb-true left 0 (not-false _ z)))
+      (loop_spent env limit bs at left s k w.tested.kind z)
 
   -- its comparison has answered x and left j counted
   module _ (x : Compared) (j : Counted) where
@@ -736,20 +736,20 @@ module _ (env : Env) (limit : Option ℕ) (bs : List ℕ) (at fuel : ℕ) (s₀ 
     -- a While whose comparison does not hold is at its end
     pub turns_over :
         (chooses : Bool) → Head chooses → (chooses ≡ false → left ≡ 0 → ⊥) → DecidesAt env limit bs test s k x j →
-        (way : Way) → way ≡ way_from bs at chooses x → x.how ≡ 0 → not chooses ≡ true →
+        (way : Way) → way ≡ way_from bs at chooses x → x.how ≡ 0 → chooses ≡ false →
         Runs env limit bs at fuel s₀ k₀ (exit 0 way.end) (with_flags env.fill s) j
-    turns_over true w some_fuel compared way is z c = absurd (true≢false (sym c))
+    turns_over true w some_fuel compared way is z c = absurd (true≢false c)
     turns_over false w some_fuel compared way is z c =
         looped env limit bs at fuel s₀ k₀ left s k w.looping (exit 0 way.end) (with_flags env.fill s) j
         (round_over env limit bs at left s k x j way.end (round_at w some_fuel compared (omega (arith, z)) way is) z)
 
 -- by the loop's test a While has fuel for the round, and by the test behind its comparison that holds
-pub some_fuel : (chooses : Bool) (left : ℕ) → (chooses ≡ true) ⊎ ((chooses ≡ false) × (not (eqb left 0) ≡ true)) → chooses ≡ false → left ≡ 0 → ⊥
+pub some_fuel : (chooses : Bool) (left : ℕ) → (chooses ≡ true) ⊎ ((chooses ≡ false) × (left ≡ 0 → ⊥)) → chooses ≡ false → left ≡ 0 → ⊥
 some_fuel chooses left (inl h) f z = true≢false (sym h ∙ f)
-some_fuel chooses left (inr h) f z = true≢false (sym h.1 ∙ ap not (eq-eqb left 0 z))
+some_fuel chooses left (inr h) f z = h.1 z
 
-pub goes_round : (chooses : Bool) (n : ℕ) → ((n ≡ 0) × (not chooses ≡ false)) ⊎ (n ≡ 0 → ⊥) → chooses ≡ false → n ≡ 0 → ⊥
-goes_round chooses n (inl h) f z = true≢false (sym (ap not f) ∙ h.1)
+pub goes_round : (chooses : Bool) (n : ℕ) → ((n ≡ 0) × (chooses ≡ true)) ⊎ (n ≡ 0 → ⊥) → chooses ≡ false → n ≡ 0 → ⊥
+goes_round chooses n (inl h) f z = true≢false (sym h.1 ∙ f)
 goes_round chooses n (inr h) f z = h z
 
 -- a round whose comparison has answered x and left j counted, and goes on, where the evaluator has come to it with the measure m
@@ -806,6 +806,13 @@ pub record Taken (env : Env) (limit : Option ℕ) (bs : List ℕ) (at fuel m : �
   pub turn : Turn env limit bs at fuel m s₀ k₀ test left s k x j way chooses
   pub begins : p ≡ codes_from bs way.part
   pub fuel_is : given ≡ part_fuel chooses left
+
+pub taking :
+    {env : Env} {limit : Option ℕ} {bs : List ℕ} {at fuel m : ℕ} {s₀ : Config} {k₀ : Counted} {test left : ℕ} {s : Config} {k : Counted}
+    {x : Compared} {j : Counted} {way : Way} {chooses : Bool} {p given : ℕ} →
+    Turn env limit bs at fuel m s₀ k₀ test left s k x j way chooses → p ≡ codes_from bs way.part → given ≡ part_fuel chooses left →
+    Taken env limit bs at fuel m s₀ k₀ test left s k x j way chooses p given
+taking w begins fuel_is = record { turn = w; begins = begins; fuel_is = fuel_is }
 
 module _ (env : Env) (limit : Option ℕ) (bs : List ℕ) (at fuel m : ℕ) (s₀ : Config) (k₀ : Counted) (test left : ℕ) (s : Config)
     (k : Counted) (x : Compared) (j : Counted) (way : Way) (p given : ℕ) where

@@ -144,10 +144,10 @@ module _ {env : Env} {limit : Option ℕ} {bs : List ℕ} {at fuel : ℕ} {s₀ 
     none_left :
         (e : ℕ) → Testing env limit bs at (fuel - e) s₀ k₀ chooses test (left - e) s k → chooses ≡ false → left - e ≡ 0 →
         Runs env limit bs at (fuel - e) s₀ k₀ (exit 1 at) s k
-    none_left e v c z = turns_spent env limit bs at (fuel - e) s₀ k₀ test (left - e) s k chooses v c (ap not (eq-eqb (left - e) 0 z))
+    none_left e v c z = turns_spent env limit bs at (fuel - e) s₀ k₀ test (left - e) s k chooses v c z
 
-    pub turns_spent_less : chooses ≡ false → not (eqb left 0) ≡ false → OneLess env limit bs at fuel s₀ k₀ was (exit 1 at) s k mid
-    turns_spent_less c z = let none = eqb-true left 0 (not-false _ z) in less_map (λ e v. none_left e v c (omega (arith, none))) w.less
+    pub turns_spent_less : chooses ≡ false → left ≡ 0 → OneLess env limit bs at fuel s₀ k₀ was (exit 1 at) s k mid
+    turns_spent_less c z = less_map (λ e v. none_left e v c (omega (arith, z))) w.less
 
     pub begins_less :
         {is : ℕ} → (chooses ≡ false → left ≡ 0 → ⊥) → is ≡ tested_with chooses left mid →
@@ -162,7 +162,7 @@ module _ {env : Env} {limit : Option ℕ} {bs : List ℕ} {at fuel : ℕ} {s₀ 
           less_map (λ e v. turn_stopped env limit bs at (fuel - e) s₀ k₀ test (left - e) s k x j chooses v.0 v.1 compared h) w.less
 
       pub turns_over_less :
-          (way : Way) → way ≡ way_from bs at chooses x → x.how ≡ 0 → not chooses ≡ true →
+          (way : Way) → way ≡ way_from bs at chooses x → x.how ≡ 0 → chooses ≡ false →
           OneLess env limit bs at fuel s₀ k₀ was (exit 0 way.end) (with_flags env.fill s) j mid
       turns_over_less way is z c =
           less_map (λ e v. turns_over env limit bs at (fuel - e) s₀ k₀ test (left - e) s k x j chooses v.0 v.1 compared way is z c) w.less

@@ -2,7 +2,7 @@
 -- They are said of the parts that are lent: addresses and tags, code bytes, registers, xmm words, flags, values, and what is counted.
 use Rattle.std.specs.Prelude.{ℕ, ◌+◌, ◌-◌, ◌/◌, ◌%◌, ◌≤◌, ◌<◌, min, ◌≡◌, Bool, true, false, not, cond, List, [], ◌∷◌, eqb, ltb, leb, length, get_or, set}
 use Rattle.std.proofs.Math.Option.{Option, some}
-use Rattle.std.specs.Borrow.{Bor}
+use Rattle.std.specs.Borrow.{Bor, MutBor}
 use denote.Triple.Both.{Both}
 use Rattle.machine.specs.Operands.{eval_maddr, wild_or}
 use Rattle.machine.specs.Cells.{Searchable, find_cell, is_cell}
@@ -137,9 +137,13 @@ abbrev pub ComparesAt : Env → List ℕ → ℕ → Config → Compared → Typ
 ComparesAt env bs at s r = (e : ℕ) → Stands is_ocmp bs at e → Compares env s (ocmp_at bs at) e r
 
 -- ---- steps
--- a lent value, as it is given and as it is left
+-- a lent value that is read, as it is given and as it is left
 abbrev Lent : Type 0 → Type 0
 Lent A = Both (Bor A) (Bor A)
+
+-- a lent value that may be changed, as it is given and as it is left
+abbrev LentMut : Type 0 → Type 0
+LentMut A = Both (MutBor A) (MutBor A)
 
 -- a mark as a word: 0 for none, or the place and one more
 abbrev pub mark_of : ℕ → Mark
@@ -167,7 +171,7 @@ unfoldable pub least_tested : List ℕ → ℕ
 least_tested words = get_or words 3 0
 
 -- it is left as it was given
-abbrev pub TestedNone : Lent (List ℕ) → Type 0
+abbrev pub TestedNone : LentMut (List ℕ) → Type 0
 TestedNone counted = least_tested counted.exit.now ≡ least_tested counted.entry.now
 
 -- the least tested fuel where a round has begun with so much left: a While tests it, and an IfElse, which chooses, does not
@@ -281,7 +285,9 @@ way_from bs at chooses x =
     cond (eqb x.how 1) (record { part = x.next; behind = second; end = end }) (record { part = second; behind = end; end = end })
 
 -- ---- the cycle, of what it is lent
-module _ (code : Lent (List ℕ)) (fill : ℕ) (rule : FlagRule) (regs xmms : Lent (List ℕ)) (flags : Lent ℕ) (addresses tags values : Lent (List ℕ)) where
+module _
+    (code : Lent (List ℕ)) (fill : ℕ) (rule : FlagRule) (regs xmms : LentMut (List ℕ)) (flags : LentMut ℕ) (addresses tags : Lent (List ℕ))
+    (values : LentMut (List ℕ)) where
   -- the environment that is lent
   abbrev env : Env
   env = environment addresses.entry.now tags.entry.now fill rule
@@ -298,7 +304,7 @@ module _ (code : Lent (List ℕ)) (fill : ℕ) (rule : FlagRule) (regs xmms : Le
   abbrev pub EvaluatesIns : ℕ → Exit → Type 0
   EvaluatesIns at r = RunsIns env code.entry.now at given r left
 
-  module _ (counted : Lent (List ℕ)) (limit : ℕ) where
+  module _ (counted : LentMut (List ℕ)) (limit : ℕ) where
     -- the same of that instruction as a step
     abbrev pub EvaluatesStep : ℕ → Exit → Type 0
     EvaluatesStep at r = StepsIns env (some limit) code.entry.now at given (tally counted.entry.now) r left (tally counted.exit.now)

@@ -80,7 +80,7 @@ fn reads_open(kind: u8, was: u64) -> bool
 
 // An open flag was read: the mark stays at the first.
 fn mark(at: usize, counted: &mut [u64; COUNTED])
-    requires in_bounds { 3 < length counted.old }
+    requires in_bounds { 2 < length counted.old }
     requires at_bound { at + 1 < 2 ^ 64 }
     ensures counted_after { let before = tally counted.old in let w = before.watch in
         tally counted.new ≡ Counted.counted before.steps (watch w.carry w.overflow (first_mark true at w.mark)) }
@@ -94,7 +94,7 @@ fn mark(at: usize, counted: &mut [u64; COUNTED])
 
 // One of the first six kinds: some of them keep one flag, and some read one.
 fn watch_sum(kind: u8, at: usize, evaluation: Evaluation, counted: &mut [u64; COUNTED])
-    requires in_bounds { 3 < length counted.old }
+    requires in_bounds { 2 < length counted.old }
     requires kind_bound { kind < 7 }
     requires at_bound { at + 1 < 2 ^ 64 }
     ensures counted_after { let before = tally counted.old in
@@ -115,7 +115,7 @@ fn watch_sum(kind: u8, at: usize, evaluation: Evaluation, counted: &mut [u64; CO
 }
 
 pub fn count_instruction(kind: u8, at: usize, evaluation: Evaluation, counted: &mut [u64; COUNTED])
-    requires in_bounds { 3 < length counted.old }
+    requires in_bounds { 2 < length counted.old }
     requires kind_bound { kind < 32 }
     requires at_bound { at + 1 < 2 ^ 64 }
     requires counted_bound { get_or counted.old 0 0 + 1 < 2 ^ 64 }
@@ -135,7 +135,7 @@ pub fn count_instruction(kind: u8, at: usize, evaluation: Evaluation, counted: &
 
 // A comparison opens both.
 pub fn count_comparison(counted: &mut [u64; COUNTED])
-    requires in_bounds { 3 < length counted.old }
+    requires in_bounds { 2 < length counted.old }
     requires counted_bound { get_or counted.old 0 0 + 1 < 2 ^ 64 }
     ensures counted_after { (rule : FlagRule) (kind at : ℕ) → is_ocmp kind ≡ true →
         tally counted.new ≡ count done (watched rule kind at) (tally counted.old) }

@@ -75,7 +75,7 @@ fn part_fuel(chooses: bool, left: u32) -> u32
 
 // An instruction is run in place, and costs no turn of the cycle. Nor does a Block: its codes stand behind its length, and
 // end where it does.
-#[cycle(eval_code_eval_codes)]
+#[cycle(evaluating)]
 pub fn eval_codes(
     code: &[u8],
     from: usize,
@@ -130,7 +130,7 @@ pub fn eval_codes(
 
 // An IfElse, which chooses between two parts and has one round, or a While, which has rounds while there is fuel and its
 // comparison holds. As one function they call `step_comparison` in one place, where it is inlined.
-#[cycle(eval_code_eval_codes)]
+#[cycle(evaluating)]
 fn eval_code(
     code: &[u8],
     at: usize,

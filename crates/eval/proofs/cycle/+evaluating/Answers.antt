@@ -1,0 +1,221 @@
+-- The evaluator's cycle meets its contracts. A list of codes and a code are what their bytes spell; each function runs its parts by the
+-- other, and the laws of CycleLaws say that the run's definition goes the same way, those of LessLaws what it does with less fuel. Assumes nothing.
+use Rattle.std.proofs.Common.{◌≡◌, ℕ, ◌∙◌, Bool, false, eqb, eq-eqb, ne_eqb, inl, inr, arith, rules}
+use mathlib.Core.Option.{some}
+use Rattle.code.specs.Records.{byte_at}
+use Rattle.eval.specs.FlagRule.{flag_rule}
+use Rattle.eval.specs.Promises.{environment, held, tally, least_tested, DecidesAt}
+use Rattle.eval.proofs.CycleLaws.{starts, ins_ran, going_starts, block_goes, codes_go, codes_stop, codes_done}
+use Rattle.eval.proofs.Asked.{next_code, next_ins, next_less, rest_less, rest_less_ins, block_less, past_block, test_stands, testing_starts, some_fuel, goes_round, turn_stopped, behind_test, turns_over, turns_spent, Turn, turn_code, taking, taken_codes, taken_cells, taken_less, taken_falls, taken_stops, taken_done, taken_goes}
+use Rattle.eval.proofs.LessLaws.{going_starts_less, ins_goes_less, ins_stops_less, block_goes_less, codes_go_less, codes_stop_less, codes_done_less, testing_starts_less, turns_spent_less, BegunLess, begins_less, turn_stopped_less, turns_over_less, taken_stops_less, taken_done_less, taken_goes_less}
+use Rattle.eval.proofs.cycle.+evaluating.Goals as goal
+use Rattle.eval.proofs.cycle.+evaluating.Goals.{eval_code-After-step_comparison-compared, eval_code-Joined-else-compared-eq0, eval_code-then-chooses, eval_code-else-chooses+then-left-ne0, eval_code-else-compared-eq0-via-then-compared-eq0+else-not-chooses, eval_code-else-compared-eq0-via-else-compared-eq0}
+
+-- ---- a list of codes
+pub eval_codes-loop-next-init : goal.eval_codes-loop-next-init
+eval_codes-loop-next-init t c = record { runs = search going_starts; less = search going_starts_less }
+
+pub eval_codes-step_instruction-ran-requires-clause-ins_at : goal.eval_codes-step_instruction-ran-requires-clause-ins_at
+eval_codes-step_instruction-ran-requires-clause-ins_at t c = let g = c.loop-next.invariant.runs in search next_ins
+
+pub eval_codes-returns-then-ran-ne0 : goal.eval_codes-returns-then-ran-ne0
+eval_codes-returns-then-ran-ne0 t c =
+    let inv = c.loop-next.invariant in
+    let ran = c.step_instruction-ran.ensures in
+    record {
+      evaluates_all = search (codes_stop, ins_ran);
+      with_less_all = ins_stops_less inv.less c.loop-next-test.true c.if-kind-lt32.true ran.evaluates_step ran.tested_none c.if-ran-ne0.true;
+    }
+
+pub eval_codes-loop-next-smaller-then-kind-lt32 : goal.eval_codes-loop-next-smaller-then-kind-lt32
+eval_codes-loop-next-smaller-then-kind-lt32 t c = let g = c.loop-next.invariant.runs in search rest_less_ins
+
+pub eval_codes-loop-next-preserved-then-kind-lt32 : goal.eval_codes-loop-next-preserved-then-kind-lt32
+eval_codes-loop-next-preserved-then-kind-lt32 t c =
+    let inv = c.loop-next.invariant in
+    let ran = c.step_instruction-ran.ensures in
+    record {
+      runs = search (codes_go, ins_ran);
+      less = ins_goes_less inv.less c.loop-next-test.true c.if-kind-lt32.true ran.evaluates_step ran.tested_none c.if-ran-ne0.false
+          c.step_instruction-ran.auto.values;
+    }
+
+pub eval_codes-loop-next-preserved-then-kind-eq32 : goal.eval_codes-loop-next-preserved-then-kind-eq32
+eval_codes-loop-next-preserved-then-kind-eq32 t c =
+    let inv = c.loop-next.invariant in
+    record { runs = search block_goes; less = block_goes_less inv.less c.if-kind-eq32.true c.loop-next-test.true }
+
+pub eval_codes-eval_code-went-requires : goal.eval_codes-eval_code-went-requires
+eval_codes-eval_code-went-requires t c =
+    let g = c.loop-next.invariant.runs in (search next_less, (search next_code, (search past_block, search)))
+
+pub eval_codes-returns-then-went-ne0 : goal.eval_codes-returns-then-went-ne0
+eval_codes-returns-then-went-ne0 t c =
+    let inv = c.loop-next.invariant in
+    let went = c.eval_code-went.ensures in
+    record { evaluates_all = search codes_stop; with_less_all = codes_stop_less inv.less c.loop-next-test.true went.with_less c.if-went-ne0.true }
+
+pub eval_codes-loop-next-smaller : goal.eval_codes-loop-next-smaller
+eval_codes-loop-next-smaller t c = let g = c.loop-next.invariant.runs in search rest_less
+
+pub eval_codes-loop-next-preserved : goal.eval_codes-loop-next-preserved
+eval_codes-loop-next-preserved t c =
+    let inv = c.loop-next.invariant in
+    let went = c.eval_code-went.ensures in
+    record {
+      runs = search codes_go;
+      less = codes_go_less inv.less c.loop-next-test.true went.with_less c.if-went-ne0.false c.eval_code-went.auto.values;
+    }
+
+pub eval_codes-returns : goal.eval_codes-returns
+eval_codes-returns t c =
+    let inv = c.loop-next.invariant in
+    record { evaluates_all = search codes_done; with_less_all = codes_done_less inv.less c.loop-next-test.false }
+
+-- ---- a code
+-- there is fuel for the round
+fuelled :
+    (t : ℕ) (c : eval_code-After-step_comparison-compared t) → eqb (byte_at c.args.code.now c.args.at) 0x21 ≡ false → c.loop-evaluation.left ≡ 0 → ⊥
+fuelled t c =
+    some_fuel _ _ (elim c.if-chooses.branch [
+      | eval_code-then-chooses w ↦ inl (eq-eqb _ _ w.if-chooses.true)
+      | eval_code-else-chooses+then-left-ne0 w ↦ inr (ne_eqb _ _ w.if-chooses.false, w.if-left-ne0.true)
+    ])
+
+-- what the comparison has answered
+compared :
+    (t : ℕ) (c : eval_code-After-step_comparison-compared t) →
+    let a = c.args in
+    let l = c.loop-evaluation in
+    let x = c.step_comparison-compared in
+    DecidesAt (environment a.addresses.now a.tags.now a.fill (flag_rule a.evaluation)) (some a.limit) a.code.now c.test_at-test.result
+    (held l.regs l.xmms l.flags l.values) (tally l.counted) x.result (tally x.new.counted)
+compared t c =
+    let a = c.args in
+    let l = c.loop-evaluation in
+    rw c.count_test.ensures.counted_unchanged at (c.step_comparison-compared.ensures.by_index a.fill (flag_rule a.evaluation) l.flags l.xmms)
+
+-- what less fuel would have done up to there
+begun :
+    (t : ℕ) (c : eval_code-After-step_comparison-compared t) →
+    let a = c.args in
+    let l = c.loop-evaluation in
+    BegunLess (environment a.addresses.now a.tags.now a.fill (flag_rule a.evaluation)) (some a.limit) a.code.now a.at a.fuel
+    (held a.regs.now a.xmms.now a.flags.now a.values.now) (tally a.counted.now) (least_tested a.counted.now)
+    (eqb (byte_at a.code.now a.at) 0x21) c.test_at-test.result l.left (held l.regs l.xmms l.flags l.values)
+    (tally l.counted) (least_tested c.step_comparison-compared.new.counted)
+begun t c =
+    begins_less c.loop-evaluation.invariant.less (fuelled t c)
+    (c.step_comparison-compared.ensures.tested_none ∙ c.count_test.ensures.counted_after)
+
+-- the round that the comparison began
+turn :
+    (t : ℕ) (c : eval_code-Joined-else-compared-eq0 t) →
+    let a = c.args in
+    let l = c.loop-evaluation in
+    let x = c.step_comparison-compared in
+    Turn (environment a.addresses.now a.tags.now a.fill (flag_rule a.evaluation)) (some a.limit) a.code.now a.at a.fuel t
+    (held a.regs.now a.xmms.now a.flags.now a.values.now) (tally a.counted.now) c.test_at-test.result l.left
+    (held l.regs l.xmms l.flags l.values) (tally l.counted) x.result (tally x.new.counted) c.way_from-way.result
+    (eqb (byte_at a.code.now a.at) 0x21)
+turn t c =
+    let a = c.args in
+    let l = c.loop-evaluation in
+    record {
+      head = l.invariant.runs;
+      some_fuel =
+          some_fuel _ _ (elim c.if-chooses.branch [
+            | eval_code-then-chooses w ↦ inl (eq-eqb _ _ w.if-chooses.true)
+            | eval_code-else-chooses+then-left-ne0 w ↦ inr (ne_eqb _ _ w.if-chooses.false, w.if-left-ne0.true)
+          ]);
+      compared =
+          rw c.count_test.ensures.counted_unchanged at (c.step_comparison-compared.ensures.by_index a.fill (flag_rule a.evaluation) l.flags l.xmms);
+      read = c.if-compared-gt1.false;
+      holds =
+          goes_round _ _ (elim c.else-compared-eq0.branch [
+            | eval_code-else-compared-eq0-via-then-compared-eq0+else-not-chooses w ↦ inl (w.if-compared-eq0.true, eq-eqb _ _ w.if-not-chooses.false)
+            | eval_code-else-compared-eq0-via-else-compared-eq0 w ↦ inr w.if-compared-eq0.false
+          ]);
+      way_is = c.way_from-way.ensures;
+      cells = c.requires.cells;
+      measured = c.decreases;
+    }
+
+pub eval_code-loop-evaluation-init : goal.eval_code-loop-evaluation-init
+eval_code-loop-evaluation-init t c = record { runs = search testing_starts; less = search testing_starts_less }
+
+pub eval_code-step_comparison-compared-requires-clause-ocmp_at : goal.eval_code-step_comparison-compared-requires-clause-ocmp_at
+eval_code-step_comparison-compared-requires-clause-ocmp_at t c = let head = c.loop-evaluation.invariant.runs in search test_stands
+
+pub eval_code-returns-then-compared-gt1 : goal.eval_code-returns-then-compared-gt1
+eval_code-returns-then-compared-gt1 t c =
+    let x = (goal.at.eval_code-returns-then-compared-gt1 t c).After-step_comparison-compared in
+    let answer = compared t x in
+    let f = fuelled t x in
+    let head = c.loop-evaluation.invariant.runs in
+    record { evaluates = search turn_stopped; with_less = turn_stopped_less (begun t x) _ _ answer c.if-compared-gt1.true }
+
+pub eval_code-way_from-way-requires-clause-behind_test : goal.eval_code-way_from-way-requires-clause-behind_test
+eval_code-way_from-way-requires-clause-behind_test t c =
+    let x = (goal.at.eval_code-way_from-way-requires-clause-behind_test t c).After-step_comparison-compared in
+    behind_test _ _ _ _ _ _ _ _ _ _ _ _ _ _ c.loop-evaluation.invariant.runs (compared t x) c.if-compared-gt1.false
+
+pub eval_code-returns-then-not-chooses : goal.eval_code-returns-then-not-chooses
+eval_code-returns-then-not-chooses t c =
+    let x = (goal.at.eval_code-returns-then-not-chooses t c).After-step_comparison-compared in
+    let way_is = c.way_from-way.ensures in
+    record {
+      evaluates =
+          turns_over _ _ _ _ _ _ _ _ _ _ _ _ _ _ c.loop-evaluation.invariant.runs (fuelled t x) (compared t x) _ way_is
+          c.if-compared-eq0.true (ne_eqb _ _ c.if-not-chooses.true);
+      with_less = turns_over_less (begun t x) _ _ (compared t x) _ way_is c.if-compared-eq0.true (ne_eqb _ _ c.if-not-chooses.true);
+    }
+
+pub eval_code-first_code-requires : goal.eval_code-first_code-requires
+eval_code-first_code-requires t c = let w = turn t (goal.at.eval_code-first_code-requires t c).Joined-else-compared-eq0 in search turn_code
+
+pub eval_code-eval_codes-ran-requires : goal.eval_code-eval_codes-ran-requires
+eval_code-eval_codes-ran-requires t c =
+    let w = taking (turn t (goal.at.eval_code-eval_codes-ran-requires t c).Joined-else-compared-eq0) c.first_code.ensures c.part_fuel-given.ensures in
+    (search taken_less, (search taken_codes, search taken_cells))
+
+pub eval_code-returns-then-ran-ne0 : goal.eval_code-returns-then-ran-ne0
+eval_code-returns-then-ran-ne0 t c =
+    let at = goal.at.eval_code-returns-then-ran-ne0 t c in
+    let w = taking (turn t at.Joined-else-compared-eq0) c.first_code.ensures c.part_fuel-given.ensures in
+    let b = begun t at.After-step_comparison-compared in
+    record { evaluates = search taken_stops; with_less = taken_stops_less b w c.eval_codes-ran.ensures.with_less_all c.if-ran-ne0.true }
+
+pub eval_code-returns-then-chooses-2 : goal.eval_code-returns-then-chooses-2
+eval_code-returns-then-chooses-2 t c =
+    let at = goal.at.eval_code-returns-then-chooses-2 t c in
+    let w = taking (turn t at.Joined-else-compared-eq0) c.first_code.ensures c.part_fuel-given.ensures in
+    let b = begun t at.After-step_comparison-compared in
+    let ran = c.eval_codes-ran.ensures in
+    record {
+      evaluates = taken_done _ _ _ _ _ _ _ _ _ _ _ _ _ _ _ _ _ _ _ _ ran.evaluates_all _ w (eq-eqb _ _ c.if-chooses-2.true) c.if-ran-ne0.false;
+      with_less = taken_done_less b w ran.with_less_all (eq-eqb _ _ c.if-chooses-2.true) c.if-ran-ne0.false;
+    }
+
+pub eval_code-loop-evaluation-smaller : goal.eval_code-loop-evaluation-smaller
+eval_code-loop-evaluation-smaller t c =
+    let w = taking (turn t (goal.at.eval_code-loop-evaluation-smaller t c).Joined-else-compared-eq0) c.first_code.ensures c.part_fuel-given.ensures in
+    search taken_falls
+
+pub eval_code-loop-evaluation-preserved : goal.eval_code-loop-evaluation-preserved
+eval_code-loop-evaluation-preserved t c =
+    let at = goal.at.eval_code-loop-evaluation-preserved t c in
+    let w = taking (turn t at.Joined-else-compared-eq0) c.first_code.ensures c.part_fuel-given.ensures in
+    let b = begun t at.After-step_comparison-compared in
+    let ran = c.eval_codes-ran.ensures in
+    let same = c.eval_codes-ran.auto.values in
+    record {
+      runs = taken_goes _ _ _ _ _ _ _ _ _ _ _ _ _ _ _ _ _ _ _ _ ran.evaluates_all _ w (ne_eqb _ _ c.if-chooses-2.false) c.if-ran-ne0.false same;
+      less = taken_goes_less b w ran.with_less_all (ne_eqb _ _ c.if-chooses-2.false) c.if-ran-ne0.false same;
+    }
+
+pub eval_code-returns : goal.eval_code-returns
+eval_code-returns t c =
+    let inv = c.loop-evaluation.invariant in
+    let looped = ne_eqb _ _ c.if-chooses.false in
+    record { evaluates = search turns_spent; with_less = turns_spent_less inv.less looped c.if-left-ne0.false }

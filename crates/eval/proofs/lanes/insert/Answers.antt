@@ -1,0 +1,29 @@
+-- A source that cannot be read ends the run with its number; else its word goes into the quad. Assumes nothing.
+use native.Mathlib.Omega.{arith}
+use borrow.Author.Rules.{rules}
+use Rattle.eval.proofs.Asked.{operand_starts, inserts_nothing, inserts}
+use Rattle.eval.proofs.lanes.insert.Goals as goal
+
+pub overflow_add-at : goal.overflow_add-at
+overflow_add-at c = omega (arith, operand_starts)
+
+pub returns-then-src-ne0 : goal.returns-then-src-ne0
+returns-then-src-ne0 c = search inserts_nothing
+
+pub overflow_add-dst : goal.overflow_add-dst
+overflow_add-dst c = omega (arith, operand_starts)
+
+pub bounds-code-at : goal.bounds-code-at
+bounds-code-at c = omega (arith, operand_starts)
+
+pub bounds-code-at-2 : goal.bounds-code-at-2
+bounds-code-at-2 c = omega (arith, operand_starts)
+
+pub overflow_add-at-2 : goal.overflow_add-at-2
+overflow_add-at-2 c = omega (arith, operand_starts)
+
+pub bounds-code-at-3 : goal.bounds-code-at-3
+bounds-code-at-3 c = omega (arith, operand_starts)
+
+pub returns : goal.returns
+returns c = let kind = c.requires.at_value in search inserts

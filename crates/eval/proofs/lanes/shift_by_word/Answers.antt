@@ -1,0 +1,10 @@
+-- A count that is not 4 is the fault 35; else the quad is shifted by a word. Assumes nothing.
+use borrow.Author.Rules.{rules}
+use Rattle.eval.proofs.LaneLaws.{word_shift_fails, word_shift_done}
+use Rattle.eval.proofs.lanes.shift_by_word.Goals as goal
+
+pub returns-then-code-at-ne4 : goal.returns-then-code-at-ne4
+returns-then-code-at-ne4 c = search word_shift_fails
+
+pub returns : goal.returns
+returns c = search word_shift_done

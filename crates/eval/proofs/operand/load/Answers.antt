@@ -1,0 +1,28 @@
+-- What is decoded says which operand it is: its word is the constant, the register's or the cell's. Assumes nothing.
+use borrow.Author.Rules.{rules}
+use Rattle.eval.proofs.Asked.{register_inside, is_memory, found_source, found_inside, found_fits, loads_constant, loads_register, loads_cell, loads_none}
+use Rattle.eval.proofs.operand.load.Goals as goal
+
+pub bounds-regs-index : goal.bounds-regs-index
+bounds-regs-index c = search register_inside
+
+pub cell_at-cell-requires : goal.cell_at-cell-requires
+cell_at-cell-requires c = search is_memory
+
+pub returns-then-cell-ne0 : goal.returns-then-cell-ne0
+returns-then-cell-ne0 c = search loads_none
+
+pub offset_bounds-values-index : goal.offset_bounds-values-index
+offset_bounds-values-index c = let cell = c.cell_at-cell in let found = found_source _ _ _ _ _ cell.result cell.ensures in search found_fits
+
+pub bounds-values-index : goal.bounds-values-index
+bounds-values-index c = let cell = c.cell_at-cell in let found = found_source _ _ _ _ _ cell.result cell.ensures in search found_inside
+
+pub returns-in-Const : goal.returns-in-Const
+returns-in-Const c = search loads_constant
+
+pub returns-in-Register : goal.returns-in-Register
+returns-in-Register c = search loads_register
+
+pub returns-else-cell-ne0 : goal.returns-else-cell-ne0
+returns-else-cell-ne0 c = search loads_cell

@@ -1,0 +1,32 @@
+-- What is decoded says which operand it is: a constant and Rsp are no destination, and memory is one where its cell is found. Assumes
+-- nothing.
+use borrow.Author.Rules.{rules}
+use Rattle.eval.proofs.Asked.{register_inside, is_memory, found_destination, found_inside, found_fits, no_constant, no_rsp, resolves_register, resolves_cell, no_cell}
+use Rattle.eval.proofs.operand.resolve.Goals as goal
+
+pub returns-then-is_rsp : goal.returns-then-is_rsp
+returns-then-is_rsp c = search no_rsp
+
+pub bounds-regs-index : goal.bounds-regs-index
+bounds-regs-index c = search register_inside
+
+pub cell_at-cell-requires : goal.cell_at-cell-requires
+cell_at-cell-requires c = search is_memory
+
+pub returns-then-cell-ne0 : goal.returns-then-cell-ne0
+returns-then-cell-ne0 c = search no_cell
+
+pub offset_bounds-values-index : goal.offset_bounds-values-index
+offset_bounds-values-index c = let cell = c.cell_at-cell in let found = found_destination _ _ _ _ _ cell.result cell.ensures in search found_fits
+
+pub bounds-values-index : goal.bounds-values-index
+bounds-values-index c = let cell = c.cell_at-cell in let found = found_destination _ _ _ _ _ cell.result cell.ensures in search found_inside
+
+pub returns-in-Const : goal.returns-in-Const
+returns-in-Const c = search no_constant
+
+pub returns-else-is_rsp : goal.returns-else-is_rsp
+returns-else-is_rsp c = search resolves_register
+
+pub returns-else-cell-ne0 : goal.returns-else-cell-ne0
+returns-else-cell-ne0 c = search resolves_cell
