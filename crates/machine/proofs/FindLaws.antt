@@ -150,7 +150,8 @@ pub find_hit : (xs ts : List ℕ) (z : ℤ) (i : ℕ) → find_cell xs ts z ≡ 
 find_hit xs ts z i e = hit_of xs ts z i (at_of xs ts z i e)
 
 -- where none is found, no 64-bit cell stands at that address
-pub find_miss : (xs ts : List ℕ) (z : ℤ) → Searchable xs ts → find_cell xs ts z ≡ none → (k : ℕ) → k < length xs → pos (get_or xs k 0) ≡ z → get_or ts k 0 ≡ 64 → ⊥
+pub find_miss : (xs ts : List ℕ) (z : ℤ) → Searchable xs ts → find_cell xs ts z ≡ none → (k : ℕ) → k < length xs → pos (get_or xs k 0) ≡ z →
+    get_or ts k 0 ≡ 64 → ⊥
 find_miss xs ts z s e k h p t =
     let f = find_first xs ts z k h s.tags p (λ j l q. let r : get_or xs j 0 ≡ get_or xs k 0 = cc in omega (arith, s.ascending j k l h)) in
     let g : cond (eqb (get_or ts k 0) 64) (some k) none ≡ some k = rw (eq-eqb (get_or ts k 0) 64 t) in

@@ -34,7 +34,9 @@ pub read_code-returns-else-depth-eq0-2 : goal.read_code-returns-else-depth-eq0-2
 read_code-returns-else-depth-eq0-2 t c = search (code_structure, structure_kind)
 
 pub read_code-returns-in_default : goal.read_code-returns-in_default
-read_code-returns-in_default t c = let f = no_0 c.class_of-class.result c.in_default.not-Instruction in let g = no_1 c.class_of-class.result c.in_default.not-Structure in search (code_wrong, not_code)
+read_code-returns-in_default t c =
+    let f = no_0 c.class_of-class.result c.in_default.not-Instruction in
+    let g = no_1 c.class_of-class.result c.in_default.not-Structure in search (code_wrong, not_code)
 
 -- a list of codes
 pub read_codes-loop-at-init : goal.read_codes-loop-at-init

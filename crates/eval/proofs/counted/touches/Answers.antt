@@ -8,4 +8,8 @@ use Rattle.eval.proofs.counted.touches.Goals as goal
 
 pub returns : goal.returns
 unfolding touched open_after reads_open first_mark watched
-returns c = record { keeps_flags = λ z rule at w. not_touched rule _ c.args.kind at w refl c.requires z; sets_flags = λ z l rule at word mark. sets_both rule _ c.args.kind at nothing_open word mark refl c.requires l z }
+returns c =
+    record {
+      keeps_flags = λ z rule at w. not_touched rule _ c.args.kind at w refl c.requires z;
+      sets_flags = λ z l rule at word mark. sets_both rule _ c.args.kind at nothing_open word mark refl c.requires l z;
+    }

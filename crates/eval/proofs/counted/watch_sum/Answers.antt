@@ -15,7 +15,12 @@ kept-left-requires c =
 pub returns-then-left-was : goal.returns-then-left-was
 returns-then-left-was c =
     let long : 3 < length c.args.counted.now = omega arith in
-    let a = c.args in record { counted_after = same_so a.counted.now long (flag_rule a.evaluation) a.kind a.at _ _ c.open_bits-was.ensures.1 c.kept-left.ensures c.if-left-was.true; tested_none = refl }
+    let a = c.args in
+    record {
+      counted_after =
+          same_so a.counted.now long (flag_rule a.evaluation) a.kind a.at _ _ c.open_bits-was.ensures.1 c.kept-left.ensures c.if-left-was.true;
+      tested_none = refl;
+    }
 
 pub reads_open-requires : goal.reads_open-requires
 reads_open-requires c =
@@ -25,9 +30,21 @@ reads_open-requires c =
 pub returns-then-reads_open : goal.returns-then-reads_open
 returns-then-reads_open c =
     let long : 3 < length c.args.counted.now = omega arith in
-    let a = c.args in record { counted_after = read_so a.counted.now long (flag_rule a.evaluation) a.kind a.at _ _ c.open_bits-was.ensures.1 c.kept-left.ensures _ c.reads_open.ensures c.if-reads_open.true _ c.mark.ensures.counted_after; tested_none = c.mark.ensures.tested_none ∙ untested _ 1 _ (omega arith) }
+    let a = c.args in
+    record {
+      counted_after =
+          read_so a.counted.now long (flag_rule a.evaluation) a.kind a.at _ _ c.open_bits-was.ensures.1 c.kept-left.ensures _ c.reads_open.ensures
+              c.if-reads_open.true _ c.mark.ensures.counted_after;
+      tested_none = c.mark.ensures.tested_none ∙ untested _ 1 _ (omega arith);
+    }
 
 pub returns : goal.returns
 returns c =
     let long : 3 < length c.args.counted.now = omega arith in
-    let a = c.args in record { counted_after = unread_so a.counted.now long (flag_rule a.evaluation) a.kind a.at _ _ c.open_bits-was.ensures.1 c.kept-left.ensures _ c.reads_open.ensures c.if-reads_open.false; tested_none = untested _ 1 _ (omega arith) }
+    let a = c.args in
+    record {
+      counted_after =
+          unread_so a.counted.now long (flag_rule a.evaluation) a.kind a.at _ _ c.open_bits-was.ensures.1 c.kept-left.ensures _ c.reads_open.ensures
+              c.if-reads_open.false;
+      tested_none = untested _ 1 _ (omega arith);
+    }

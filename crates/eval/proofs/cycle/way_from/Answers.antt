@@ -34,7 +34,9 @@ pub overflow_add-end : goal.overflow_add-end
 overflow_add-end c = search end_fits
 
 pub returns-then-compared-eq1 : goal.returns-then-compared-eq1
-returns-then-compared-eq1 c = let a = c.args in way_holds _ a.at a.chooses a.compared _ c.number4.ensures.0 _ (ends (goal.at.returns-then-compared-eq1 c).Joined-chooses) c.if-compared-eq1.true
+returns-then-compared-eq1 c =
+    let a = c.args in
+    way_holds _ a.at a.chooses a.compared _ c.number4.ensures.0 _ (ends (goal.at.returns-then-compared-eq1 c).Joined-chooses) c.if-compared-eq1.true
 
 pub returns : goal.returns
 returns c = let a = c.args in way_fails _ a.at a.chooses a.compared _ c.number4.ensures.0 _ (ends (goal.at.returns c).Joined-chooses) c.if-compared-eq1.false

@@ -48,7 +48,10 @@ resolve-low-requires c = search second_there
 
 pub load-src-requires : goal.load-src-requires
 load-src-requires c = let asked = c.requires in
-    record { operand_bytes = third_there _ _ _ _ c.operand_behind-second.ensures (c.resolve-low.ensures 0 base_rule 0 []).next asked.operands_from.1.1.0; cells = asked.cells }
+    record {
+      operand_bytes = third_there _ _ _ _ c.operand_behind-second.ensures (c.resolve-low.ensures 0 base_rule 0 []).next asked.operands_from.1.1.0;
+      cells = asked.cells;
+    }
 
 pub returns-then-src-ne0 : goal.returns-then-src-ne0
 returns-then-src-ne0 c = let w = operands (goal.at.returns-then-src-ne0 c).After-load-src in search product_unread
@@ -57,7 +60,8 @@ pub returns-then-low-gt1 : goal.returns-then-low-gt1
 returns-then-low-gt1 c = let w = operands (goal.at.returns-then-low-gt1 c).After-load-src in search product_unwritten
 
 pub registers_with-after-requires : goal.registers_with-after-requires
-registers_with-after-requires c = (((operands (goal.at.registers_with-after-requires c).After-load-src).low 0 base_rule 0 []).bounds c.if-low-gt1.false).register
+registers_with-after-requires c =
+    (((operands (goal.at.registers_with-after-requires c).After-load-src).low 0 base_rule 0 []).bounds c.if-low-gt1.false).register
 
 pub overflow_add-at-2 : goal.overflow_add-at-2
 overflow_add-at-2 c = let asked = c.requires in omega (arith, operand_starts)

@@ -20,4 +20,9 @@ needed_fuel-needed-requires c =
 pub returns : goal.returns
 unfolding least_tested
 returns c =
-    let pre = c.requires in record { values_after = rw c.told_watch-watch.ensures (search run_ran); needed_value = needed_is _ _ _ _ _ pre.code_value pre.values_value _ _ _ _ _ c.eval_codes-exit.ensures.with_less_all refl _ c.needed_fuel-needed.ensures }
+    let pre = c.requires in
+    record {
+      values_after = rw c.told_watch-watch.ensures (search run_ran);
+      needed_value =
+          needed_is _ _ _ _ _ pre.code_value pre.values_value _ _ _ _ _ c.eval_codes-exit.ensures.with_less_all refl _ c.needed_fuel-needed.ensures;
+    }

@@ -32,7 +32,11 @@ is_input c =
 
 pub returns-in-Refused : goal.returns-in-Refused
 returns-in-Refused c =
-    record { values_after = search refused_code; needed_value = refused_code_needs _ _ _ _ _ _ _ _ _ c.check_code-checked.ensures _ _ c.in-Refused.is; input = is_input (goal.at.returns-in-Refused c).After-shared_slice_known-1 }
+    record {
+      values_after = search refused_code;
+      needed_value = refused_code_needs _ _ _ _ _ _ _ _ _ c.check_code-checked.ensures _ _ c.in-Refused.is;
+      input = is_input (goal.at.returns-in-Refused c).After-shared_slice_known-1;
+    }
 
 pub returns-in-Refused-cells : goal.returns-in-Refused-cells
 returns-in-Refused-cells c =
@@ -44,4 +48,8 @@ evaluate-requires c = record { code_value = search is_accepted; values_value = i
 
 pub returns : goal.returns
 returns c =
-    record { values_after = c.evaluate.ensures.values_after; needed_value = c.evaluate.ensures.needed_value; input = is_input (goal.at.returns c).After-shared_slice_known-1 }
+    record {
+      values_after = c.evaluate.ensures.values_after;
+      needed_value = c.evaluate.ensures.needed_value;
+      input = is_input (goal.at.returns c).After-shared_slice_known-1;
+    }

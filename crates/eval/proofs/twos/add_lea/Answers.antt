@@ -24,7 +24,11 @@ load-one-requires c = let next = (c.resolve-dst.ensures 0 base_rule 0 []).next i
 
 pub load-two-requires : goal.load-two-requires
 load-two-requires c = let asked = c.requires in
-    record { operand_bytes = third_there _ _ _ _ (c.resolve-dst.ensures 0 base_rule 0 []).next (c.load-one.ensures 0 base_rule 0 []).next asked.operands_from.1.1.0; cells = asked.cells }
+    record {
+      operand_bytes =
+          third_there _ _ _ _ (c.resolve-dst.ensures 0 base_rule 0 []).next (c.load-one.ensures 0 base_rule 0 []).next asked.operands_from.1.1.0;
+      cells = asked.cells;
+    }
 
 pub returns-then-one-ne0 : goal.returns-then-one-ne0
 returns-then-one-ne0 c = let w = operands (goal.at.returns-then-one-ne0 c).After-load-two in search sum_unread

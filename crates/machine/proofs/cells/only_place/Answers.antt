@@ -42,4 +42,7 @@ loop-high-preserved c =
 pub returns : goal.returns
 returns c =
     let l = c.loop-high in
-    record { upper_bound = omega (arith, l.invariant.within, l.invariant.more); by_index = last_left c.args.addresses.now c.args.address l.low l.high l.invariant c.loop-high-test.false }
+    record {
+      upper_bound = omega (arith, l.invariant.within, l.invariant.more);
+      by_index = last_left c.args.addresses.now c.args.address l.low l.high l.invariant c.loop-high-test.false;
+    }
