@@ -5,7 +5,7 @@ use mathlib.Core.Bool.{Bool, true, ◌&&◌, cond}
 use mathlib.Core.List.{List, [], ◌∷◌}
 use native.Mathlib.Omega.{arith}
 use lib.ListN.{length}
-use Rattle.machine.specs.Operands.{wild_or, unread_number}
+use Rattle.machine.specs.Operands.{unread_number}
 use Rattle.machine.specs.declared.Operand.{Operand}
 use Rattle.machine.proofs.OperandLaws.{wild_or_above, unread_here, unread_later}
 use Rattle.code.specs.Records.{is_ocmp, byte_at, behind, operand_at, ocmp_at}

@@ -18,7 +18,7 @@ use Rattle.code.proofs.Families.{by_quads_ins, by_shifts_ins, by_inserts_ins}
 use Rattle.eval.specs.FlagRule.{FlagRule}
 use Rattle.eval.specs.Config.{Env, Config, check}
 use Rattle.eval.specs.Instructions.{quads_word, quads_flags, shifts_word, inserts_word, eval_operand, act, run_ins}
-use Rattle.eval.specs.Promises.{environment, held, Loads, Resolves, put_regs, put_values, how, Ran}
+use Rattle.eval.specs.Promises.{environment, held, Loads, Resolves, put_regs, put_values, Ran}
 use Rattle.eval.specs.declared.operand.Loaded.{Loaded}
 use Rattle.eval.specs.declared.operand.Slot.{Slot}
 use Rattle.eval.proofs.Shapes.{read_check, write_xmm}

@@ -1,6 +1,6 @@
 -- Operands: which are destinations, the cell that a memory operand names, and the numbers of their checks. Addresses of cells are words, so an
 -- exact address that is no word is none of them.
-use Rattle.std.proofs.Common.{◌≡◌, ℕ, ◌^◌, ◌<◌, Bool, true, false, cond, not, eqb, List, [], ◌∷◌, get_or, ℤ, pos, negsuc, sym, refl, ap, ◌∙◌, arith, leb-true}
+use Rattle.std.proofs.Common.{◌≡◌, ℕ, ◌^◌, ◌<◌, Bool, true, false, cond, not, eqb, List, [], ◌∷◌, get_or, ℤ, pos, negsuc, refl, ap, ◌∙◌, arith, leb-true}
 use mathlib.Core.Option.{Option, none, some}
 use Rattle.machine.specs.Registers.{Rsp}
 use Rattle.machine.specs.Operands.{eval_maddr, in_range, wild, wild_operand, wild_or, unread_number, valid_dst}

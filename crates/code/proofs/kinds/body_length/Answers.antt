@@ -1,7 +1,6 @@
 -- `code::kinds::body_length` meets its contract: the body length is its part of a used kind's entry.
 -- Assumes nothing.
 use native.Mathlib.Omega.{arith}
-use borrow.Author.Rules.{rules}
 use Rattle.code.proofs.KindLaws.{entry_body}
 use Rattle.code.proofs.kinds.body_length.Goals as goal
 

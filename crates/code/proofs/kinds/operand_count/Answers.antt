@@ -1,7 +1,6 @@
 -- `code::kinds::operand_count` meets its contract: the operand count is its part of a used kind's entry.
 -- Assumes nothing.
 use native.Mathlib.Omega.{arith}
-use borrow.Author.Rules.{rules}
 use Rattle.code.proofs.KindLaws.{entry_count}
 use Rattle.code.proofs.kinds.operand_count.Goals as goal
 

@@ -3,7 +3,6 @@
 use Prim.Native.Nat.{◌+◌}
 use native.Mathlib.Omega.{arith}
 use Rattle.code.proofs.NumberLaws.{one_byte, number_split}
-use borrow.Author.Rules.{rules}
 use Rattle.code.proofs.numbers.number2.Goals as goal
 
 pub returns : goal.returns

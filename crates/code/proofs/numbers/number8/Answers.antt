@@ -2,7 +2,6 @@
 -- Assumes nothing.
 use native.Mathlib.Omega.{arith}
 use Rattle.code.proofs.NumberLaws.{number_split}
-use borrow.Author.Rules.{rules}
 use Rattle.code.proofs.numbers.number8.Goals as goal
 
 pub returns : goal.returns

@@ -4,7 +4,6 @@ use mir.Syntax.{w64}
 use mir.ValLaws.{to_z-of_z}
 use Rattle.words.specs.Signed.{signed_word}
 use Rattle.code.specs.Records.{signed_at}
-use borrow.Author.Rules.{rules}
 use Rattle.code.proofs.numbers.signed8.Goals as goal
 
 pub returns : goal.returns

@@ -1,7 +1,6 @@
 -- `code::reader::check_code` meets its contract: the length is judged, and then all the bytes are one part.
 -- Assumes nothing.
 use Rattle.code.proofs.Parts.{check_empty, check_long, check_accepts, check_refuses}
-use borrow.Author.Rules.{rules}
 use Rattle.code.proofs.reader.check_code.Goals as goal
 
 pub returns-then-len-eq0 : goal.returns-then-len-eq0

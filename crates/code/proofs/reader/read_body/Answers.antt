@@ -1,18 +1,14 @@
 -- `code::reader::read_body` meets its contract: the body fits, the fields up to the last are at most 15, and a scale between them is
 -- one of the four. Assumes nothing.
-use Prim.Native.Nat.{ℕ}
 use mathlib.Core.Path.{◌≡◌, ap, sym, ◌∙◌}
 use mathlib.Core.Bool.{Bool}
-use mathlib.Core.Logic.{⊎_elim}
 use native.Mathlib.Omega.{arith}
-use borrow.Author.Tests.{not-true, not-false}
 use lib.IntN.{ℤ}
 use mir.Syntax.{w16}
 use mir.Val.{SFits, to_z, of_z}
 use mir.ValLaws.{to_z-of_z}
 use Rattle.machine.specs.Operands.{is_scale}
 use Rattle.code.proofs.Reaches.{RightScale, body_short, body_none, body_first, body_one, body_scale, body_last, body_all}
-use borrow.Author.Rules.{rules}
 use Rattle.code.proofs.reader.read_body.Goals as goal
 use Rattle.code.proofs.reader.read_body.Goals.{Joined-else-last-gt2, else-last-gt2-via-then-last-gt2+else-not-is_scale, else-last-gt2-via-else-last-gt2}
 

@@ -2,7 +2,6 @@
 -- Assumes nothing.
 use Rattle.code.proofs.Classes.{ocmp_kind, not_ocmp, ocmp_used, no_2}
 use Rattle.code.proofs.Reaches.{ocmp_short, ocmp_wrong, ocmp_right}
-use borrow.Author.Rules.{rules}
 use Rattle.code.proofs.reader.read_ocmp.Goals as goal
 
 pub returns-then-end-at : goal.returns-then-end-at

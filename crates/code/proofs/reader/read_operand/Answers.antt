@@ -2,7 +2,6 @@
 -- Assumes nothing.
 use Rattle.code.proofs.Classes.{operand_kind, not_operand, operand_used, no_3}
 use Rattle.code.proofs.Reaches.{operand_short, operand_wrong, operand_right}
-use borrow.Author.Rules.{rules}
 use Rattle.code.proofs.reader.read_operand.Goals as goal
 
 pub returns-then-end-at : goal.returns-then-end-at

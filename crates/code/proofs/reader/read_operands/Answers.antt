@@ -1,8 +1,6 @@
 -- `code::reader::read_operands` meets its contract. The loop's invariant: reading all of the operands reaches what
 -- reading those that are left reaches from here. Assumes nothing.
-use mathlib.Core.Path.{◌≡◌, refl, sym, ◌∙◌}
-use borrow.Author.Rules.{rules}
-use Rattle.code.specs.Reader.{read_operands}
+use mathlib.Core.Path.{refl, sym, ◌∙◌}
 use Rattle.code.proofs.Reaches.{operands_go, operands_stop, operands_end}
 use Rattle.code.proofs.reader.read_operands.Goals as goal
 

@@ -1,9 +1,7 @@
 -- `code::reader::read_operands` meets its contract. The loop's invariant: reading all of the operands reaches what
 -- reading those that are left reaches from here. Assumes nothing.
-use mathlib.Core.Path.{◌≡◌, refl, sym, ◌∙◌}
-use borrow.Author.Rules.{rules}
+use mathlib.Core.Path.{◌≡◌}
 use Rattle.code.specs.Reader.{read_operands}
-use Rattle.code.proofs.Reaches.{operands_go, operands_stop, operands_end}
 use Rattle.code.proofs.reader.read_operands.Given as goal
 
 abbrev pub invariant-loop-left : goal.invariant-loop-left

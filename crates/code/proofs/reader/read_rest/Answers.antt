@@ -1,7 +1,6 @@
 -- `code::reader::read_rest` meets its contract: `read_body`, and then the operands that the table counts.
 -- Assumes nothing.
 use Rattle.code.proofs.Reaches.{rest_go, rest_stop}
-use borrow.Author.Rules.{rules}
 use Rattle.code.proofs.reader.read_rest.Goals as goal
 
 pub returns-in-Next : goal.returns-in-Next

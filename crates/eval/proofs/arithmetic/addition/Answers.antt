@@ -1,6 +1,5 @@
 -- Each evaluation has its rule.
 use Rattle.eval.specs.FlagRule.{base_flags}
-use borrow.Author.Rules.{rules}
 use Rattle.eval.proofs.arithmetic.addition.Goals as goal
 
 pub returns-in-Base : goal.returns-in-Base

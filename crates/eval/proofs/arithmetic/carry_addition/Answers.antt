@@ -1,5 +1,4 @@
 -- Word and carry are those of the sum with the carry that is handed in.
-use borrow.Author.Rules.{rules}
 use Rattle.eval.proofs.arithmetic.carry_addition.Goals as goal
 
 pub returns : goal.returns

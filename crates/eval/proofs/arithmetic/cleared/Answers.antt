@@ -1,5 +1,4 @@
 -- Carry and overflow of the fill word are cleared in turn.
-use borrow.Author.Rules.{rules}
 use Rattle.eval.proofs.arithmetic.cleared.Goals as goal
 
 pub returns : goal.returns

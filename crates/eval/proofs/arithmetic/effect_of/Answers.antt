@@ -5,7 +5,6 @@ use Rattle.code.specs.Families.{twos}
 use Rattle.code.proofs.Passing.{never}
 use Rattle.code.proofs.Families.{none_matched}
 use Rattle.eval.proofs.InstructionLaws.{plus_none}
-use borrow.Author.Rules.{rules}
 use Rattle.eval.proofs.arithmetic.effect_of.Goals as goal
 
 pub returns-in-1 : goal.returns-in-1

@@ -1,5 +1,4 @@
 -- Word and overflow are those of the sum with the old overflow.
-use borrow.Author.Rules.{rules}
 use Rattle.eval.proofs.arithmetic.overflow_addition.Goals as goal
 
 pub returns : goal.returns

@@ -1,6 +1,5 @@
 -- `count_comparison` meets its contract: one step more, and both are open. Assumes nothing.
 use native.Mathlib.Omega.{arith}
-use borrow.Author.Rules.{rules}
 use Rattle.eval.proofs.CountedLaws.{compared_so, untested_twice}
 use Rattle.std.proofs.Common.{◌<◌, length}
 use Rattle.eval.proofs.counted.count_comparison.Goals as goal

@@ -1,8 +1,6 @@
 -- `count_instruction` meets its contract: one step more, and the watch where its kind touches it. Assumes nothing.
 use mathlib.Core.Path.{◌∙◌}
 use native.Mathlib.Omega.{arith}
-use borrow.Author.Rules.{rules}
-use borrow.Author.Tests.{not-true, not-false}
 use Rattle.eval.specs.FlagRule.{flag_rule}
 use Rattle.eval.proofs.CountedLaws.{untested, untested_twice, still_long, counted_so, unwatched_so, set_so}
 use Rattle.std.proofs.Common.{◌<◌, length}
@@ -15,7 +13,7 @@ returns-then-not-touches c =
     record {
       counted_after =
           unwatched_so a.counted.now long (flag_rule a.evaluation) a.kind a.at
-              (c.touches.ensures.keeps_flags c.if-not-touches.true (flag_rule a.evaluation) a.at);
+          (c.touches.ensures.keeps_flags c.if-not-touches.true (flag_rule a.evaluation) a.at);
       tested_none = untested _ 0 _ (omega arith);
     }
 

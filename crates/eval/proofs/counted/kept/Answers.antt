@@ -1,7 +1,6 @@
 -- `kept` meets its contract: the bits of each kind say what it keeps, by either evaluation. Assumes nothing.
 use mathlib.Core.Path.{refl}
 use native.Mathlib.Omega.{arith}
-use borrow.Author.Rules.{rules}
 use Rattle.eval.specs.FlagRule.{base_rule, board_rule}
 use Rattle.eval.specs.Watch.{touched, open_after, reads_open}
 use Rattle.eval.proofs.CountedLaws.{keeps_as}

@@ -1,7 +1,6 @@
 -- `mark` meets its contract: a mark that is there stays, and where there is none the place makes one. Assumes nothing.
 use mathlib.Core.Path.{refl}
 use native.Mathlib.Omega.{arith}
-use borrow.Author.Rules.{rules}
 use Rattle.eval.proofs.CountedLaws.{untested, stays_so, marks_so}
 use Rattle.std.proofs.Common.{◌<◌, length}
 use Rattle.eval.proofs.counted.mark.Goals as goal

@@ -1,5 +1,4 @@
 -- `told_mark` meets its contract: 0 is no mark, and any other word the place and one more. Assumes nothing.
-use borrow.Author.Rules.{rules}
 use borrow.Author.Tests.{eq-eqb, ne_eqb}
 use Rattle.eval.proofs.counted.told_mark.Goals as goal
 

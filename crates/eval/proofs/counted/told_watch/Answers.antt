@@ -1,5 +1,4 @@
 -- `told_watch` meets its contract: the two bits and the mark. Assumes nothing.
-use borrow.Author.Rules.{rules}
 use Rattle.eval.proofs.counted.told_watch.Goals as goal
 
 pub returns : goal.returns

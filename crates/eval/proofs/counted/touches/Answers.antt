@@ -1,7 +1,6 @@
 -- `touches` meets its contract: where the bit of a kind is clear, the watch stays as it is, and behind the first six kinds it is else told by the kind.
 -- Assumes nothing.
 use mathlib.Core.Path.{refl}
-use borrow.Author.Rules.{rules}
 use Rattle.eval.specs.Watch.{nothing_open, touched, open_after, reads_open, first_mark, watched}
 use Rattle.eval.proofs.CountedLaws.{not_touched, sets_both}
 use Rattle.eval.proofs.counted.touches.Goals as goal

@@ -1,7 +1,6 @@
 -- `watch_sum` meets its contract: what is kept open is written, and an open flag that was read is marked. Assumes nothing.
 use mathlib.Core.Path.{refl, ◌∙◌}
 use native.Mathlib.Omega.{arith}
-use borrow.Author.Rules.{rules}
 use Rattle.eval.specs.FlagRule.{flag_rule}
 use Rattle.eval.proofs.CountedLaws.{untested, same_so, unread_so, read_so}
 use Rattle.std.proofs.Common.{◌<◌, length}
@@ -34,7 +33,7 @@ returns-then-reads_open c =
     record {
       counted_after =
           read_so a.counted.now long (flag_rule a.evaluation) a.kind a.at _ _ c.open_bits-was.ensures.1 c.kept-left.ensures _ c.reads_open.ensures
-              c.if-reads_open.true _ c.mark.ensures.counted_after;
+          c.if-reads_open.true _ c.mark.ensures.counted_after;
       tested_none = c.mark.ensures.tested_none ∙ untested _ 1 _ (omega arith);
     }
 
@@ -45,6 +44,6 @@ returns c =
     record {
       counted_after =
           unread_so a.counted.now long (flag_rule a.evaluation) a.kind a.at _ _ c.open_bits-was.ensures.1 c.kept-left.ensures _ c.reads_open.ensures
-              c.if-reads_open.false;
+          c.if-reads_open.false;
       tested_none = untested _ 1 _ (omega arith);
     }

@@ -1,12 +1,12 @@
 -- The evaluator's cycle meets its contracts. A list of codes and a code are what their bytes spell; each function runs its parts by the
 -- other, and the laws of CycleLaws say that the run's definition goes the same way, those of LessLaws what it does with less fuel. Assumes nothing.
-use Rattle.std.proofs.Common.{◌≡◌, ℕ, ◌∙◌, Bool, false, eqb, eq-eqb, ne_eqb, inl, inr, arith, rules}
+use Rattle.std.proofs.Common.{◌≡◌, ℕ, ◌∙◌, false, eqb, eq-eqb, ne_eqb, inl, inr}
 use mathlib.Core.Option.{some}
 use Rattle.code.specs.Records.{byte_at}
 use Rattle.eval.specs.FlagRule.{flag_rule}
 use Rattle.eval.specs.Promises.{environment, held, tally, least_tested, DecidesAt}
-use Rattle.eval.proofs.CycleLaws.{starts, ins_ran, going_starts, block_goes, codes_go, codes_stop, codes_done}
-use Rattle.eval.proofs.Asked.{next_code, next_ins, next_less, rest_less, rest_less_ins, block_less, past_block, test_stands, testing_starts, some_fuel, goes_round, turn_stopped, behind_test, turns_over, turns_spent, Turn, turn_code, taking, taken_codes, taken_cells, taken_less, taken_falls, taken_stops, taken_done, taken_goes}
+use Rattle.eval.proofs.CycleLaws.{ins_ran, going_starts, block_goes, codes_go, codes_stop, codes_done}
+use Rattle.eval.proofs.Asked.{next_code, next_ins, next_less, rest_less, rest_less_ins, past_block, test_stands, testing_starts, some_fuel, goes_round, turn_stopped, behind_test, turns_over, turns_spent, Turn, turn_code, taking, taken_codes, taken_cells, taken_less, taken_falls, taken_stops, taken_done, taken_goes}
 use Rattle.eval.proofs.LessLaws.{going_starts_less, ins_goes_less, ins_stops_less, block_goes_less, codes_go_less, codes_stop_less, codes_done_less, testing_starts_less, turns_spent_less, BegunLess, begins_less, turn_stopped_less, turns_over_less, taken_stops_less, taken_done_less, taken_goes_less}
 use Rattle.eval.proofs.cycle.+evaluating.Goals as goal
 use Rattle.eval.proofs.cycle.+evaluating.Goals.{eval_code-After-step_comparison-compared, eval_code-Joined-else-compared-eq0, eval_code-then-chooses, eval_code-else-chooses+then-left-ne0, eval_code-else-compared-eq0-via-then-compared-eq0+else-not-chooses, eval_code-else-compared-eq0-via-else-compared-eq0}

@@ -1,5 +1,4 @@
 -- Each kind stands as an instruction of its family, whose function runs it. Assumes nothing.
-use borrow.Author.Rules.{rules}
 use Rattle.eval.proofs.Asked.{ins_starts, two_asked, two_ran, lane_asked, lea_asked, lea_ran, mul_asked, mul_ran, mulx_asked, mulx_ran, no_other}
 use Rattle.eval.proofs.instruction.instruction.Goals as goal
 

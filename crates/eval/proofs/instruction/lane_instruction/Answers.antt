@@ -1,7 +1,6 @@
 -- Each kind stands as an instruction of its family, whose function runs it. Assumes nothing.
 use mathlib.Core.Path.{refl}
 use native.Mathlib.Omega.{arith}
-use borrow.Author.Rules.{rules}
 use Rattle.code.specs.Families.{quads, shifts}
 use Rattle.code.proofs.Families.{in_family, inserts_kind}
 use Rattle.eval.proofs.OtherKinds.{past_15}

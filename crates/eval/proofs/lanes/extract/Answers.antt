@@ -1,7 +1,6 @@
 -- A destination that cannot be written ends the run with its number; else it takes the pair that the index names. Assumes nothing.
 use mathlib.Core.List.{[]}
 use native.Mathlib.Omega.{arith}
-use borrow.Author.Rules.{rules}
 use Rattle.eval.specs.FlagRule.{base_rule}
 use Rattle.eval.proofs.Asked.{operand_starts, extracts_nowhere, extracts}
 use Rattle.eval.proofs.lanes.extract.Goals as goal

@@ -1,6 +1,5 @@
 -- A source that cannot be read ends the run with its number; else its word goes into the quad. Assumes nothing.
 use native.Mathlib.Omega.{arith}
-use borrow.Author.Rules.{rules}
 use Rattle.eval.proofs.Asked.{operand_starts, inserts_nothing, inserts}
 use Rattle.eval.proofs.lanes.insert.Goals as goal
 

@@ -1,5 +1,4 @@
 -- A count that is not 4 is the fault 35; else the quad is shifted by a word. Assumes nothing.
-use borrow.Author.Rules.{rules}
 use Rattle.eval.proofs.LaneLaws.{word_shift_fails, word_shift_done}
 use Rattle.eval.proofs.lanes.shift_by_word.Goals as goal
 

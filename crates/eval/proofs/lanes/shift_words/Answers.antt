@@ -1,5 +1,4 @@
 -- An amount above 31 is the fault 34; else each word is shifted. Assumes nothing.
-use borrow.Author.Rules.{rules}
 use Rattle.eval.proofs.LaneLaws.{shifts_fail, shifts_done}
 use Rattle.eval.proofs.lanes.shift_words.Goals as goal
 

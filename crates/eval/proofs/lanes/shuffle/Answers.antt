@@ -1,5 +1,4 @@
 -- The quad that is written is the source's, in the order of the imm8. Assumes nothing.
-use borrow.Author.Rules.{rules}
 use Rattle.eval.proofs.LaneLaws.{shuffle_done}
 use Rattle.eval.proofs.lanes.shuffle.Goals as goal
 

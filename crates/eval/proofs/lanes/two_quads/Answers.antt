@@ -1,5 +1,4 @@
 -- The quad that is written, and the flags, are those of the kind. Assumes nothing.
-use borrow.Author.Rules.{rules}
 use Rattle.eval.proofs.LaneLaws.{quads_done}
 use Rattle.eval.proofs.lanes.two_quads.Goals as goal
 

@@ -1,6 +1,5 @@
 -- The memory operand that stands there is the one whose cell is sought, and its fields are right; what it leads to has its number.
 -- Assumes nothing.
-use borrow.Author.Rules.{rules}
 use Rattle.code.proofs.Forms.{one_memory, right_fields}
 use Rattle.eval.proofs.OperandLaws.{seek_cell, seek_absent, seek_wild}
 use Rattle.eval.proofs.operand.cell_at.Goals as goal

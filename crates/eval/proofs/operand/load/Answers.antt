@@ -1,5 +1,4 @@
 -- What is decoded says which operand it is: its word is the constant, the register's or the cell's. Assumes nothing.
-use borrow.Author.Rules.{rules}
 use Rattle.eval.proofs.Asked.{register_inside, is_memory, found_source, found_inside, found_fits, loads_constant, loads_register, loads_cell, loads_none}
 use Rattle.eval.proofs.operand.load.Goals as goal
 

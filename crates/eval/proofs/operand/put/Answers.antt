@@ -1,6 +1,5 @@
 -- A slot is a register or a cell, and its index is in bounds of either.
 use native.Mathlib.Omega.{arith}
-use borrow.Author.Rules.{rules}
 use borrow.Author.Tests.{eq-eqb, ne_eqb}
 use Rattle.eval.proofs.operand.put.Goals as goal
 

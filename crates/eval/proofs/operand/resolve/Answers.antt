@@ -1,6 +1,5 @@
 -- What is decoded says which operand it is: a constant and Rsp are no destination, and memory is one where its cell is found. Assumes
 -- nothing.
-use borrow.Author.Rules.{rules}
 use Rattle.eval.proofs.Asked.{register_inside, is_memory, found_destination, found_inside, found_fits, no_constant, no_rsp, resolves_register, resolves_cell, no_cell}
 use Rattle.eval.proofs.operand.resolve.Goals as goal
 

@@ -1,6 +1,5 @@
 -- A source that cannot be read ends the run with its number; else Rax and Rdx take the two words of the product. Assumes nothing.
 use native.Mathlib.Omega.{arith}
-use borrow.Author.Rules.{rules}
 use Rattle.eval.proofs.Asked.{operand_starts, multiply_unread, multiply_done}
 use Rattle.eval.proofs.products.multiply.Goals as goal
 

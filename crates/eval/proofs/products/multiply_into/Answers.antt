@@ -29,7 +29,10 @@ halves c =
     record {
       operands =
           record {
-            second = c.operand_behind-second.result; is_second = c.operand_behind-second.ensures; low = c.resolve-low.ensures; src = c.load-src.ensures
+            second = c.operand_behind-second.result;
+            is_second = c.operand_behind-second.ensures;
+            low = c.resolve-low.ensures;
+            src = c.load-src.ensures;
           };
       found = c.if-src-ne0.false;
       valid = c.if-low-gt1.false;

@@ -2,7 +2,6 @@
 -- what every loop test had to spare. Assumes nothing.
 use mathlib.Core.Path.{refl}
 use native.Mathlib.Omega.{arith}
-use borrow.Author.Rules.{rules}
 use Rattle.eval.specs.Promises.{least_tested}
 use Rattle.eval.proofs.RunLaws.{accepted_cells, accepted_codes, run_ran}
 use Rattle.eval.proofs.NeededLaws.{needed_is}

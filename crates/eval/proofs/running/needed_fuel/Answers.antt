@@ -1,5 +1,4 @@
 -- `needed_fuel` meets its contract: a run that is Spent needs all of its fuel. Assumes nothing.
-use borrow.Author.Rules.{rules}
 use borrow.Author.Tests.{eq-eqb, ne_eqb}
 use Rattle.eval.proofs.running.needed_fuel.Goals as goal
 

@@ -2,7 +2,6 @@
 -- types is an input. Assumes nothing.
 use Prim.Native.Nat.{◌^◌}
 use native.Mathlib.Omega.{arith}
-use borrow.Author.Rules.{rules}
 use denote.Struct.Field.{u32-field, u64-field}
 use Rattle.eval.specs.Inputs.{IsInput}
 use Rattle.eval.proofs.InputLaws.{words_of}
@@ -40,8 +39,12 @@ returns-in-Refused c =
 
 pub returns-in-Refused-cells : goal.returns-in-Refused-cells
 returns-in-Refused-cells c =
-    record { values_after = search refused_cells; needed_value = refused_cells_needs _ _ _ _ _ _ _ _ _ c.check_code-checked.ensures c.in_default.is _
-            c.check_cells-cells.ensures _ _ c.in-Refused-cells.is; input = is_input (goal.at.returns-in-Refused-cells c).After-shared_slice_known-1 }
+    record {
+      values_after = search refused_cells;
+      needed_value = refused_cells_needs _ _ _ _ _ _ _ _ _ c.check_code-checked.ensures c.in_default.is _
+          c.check_cells-cells.ensures _ _ c.in-Refused-cells.is;
+      input = is_input (goal.at.returns-in-Refused-cells c).After-shared_slice_known-1;
+    }
 
 pub evaluate-requires : goal.evaluate-requires
 evaluate-requires c = record { code_value = search is_accepted; values_value = is_accepted _ _ c.check_cells-cells.ensures c.in_default-cells.is }

@@ -20,6 +20,6 @@ returns c =
     record {
       by_index =
           λ fill rule flags xmms. let w = c.compare-compared.ensures fill rule flags xmms in let a = c.args in let more =
-              c.count_comparison.ensures.counted_after rule (byte_at a.code.now a.at) a.at c.requires.ocmp_at.1.head.kind in search ocmp_counted;
+          c.count_comparison.ensures.counted_after rule (byte_at a.code.now a.at) a.at c.requires.ocmp_at.1.head.kind in search ocmp_counted;
       tested_none = c.count_comparison.ensures.tested_none;
     }

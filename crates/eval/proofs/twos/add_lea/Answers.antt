@@ -1,7 +1,6 @@
 -- Each check that fails is the fault of the definition; where all pass, the sum is put. Assumes nothing.
 use mathlib.Core.List.{[]}
 use native.Mathlib.Omega.{arith}
-use borrow.Author.Rules.{rules}
 use Rattle.eval.specs.FlagRule.{base_rule}
 use Rattle.eval.proofs.Asked.{operand_starts, second_there, third_there, Operands3, sum_unread, sum_unread_second, sum_unwritten, sum_done}
 use Rattle.eval.proofs.twos.add_lea.Goals as goal

@@ -2,7 +2,6 @@
 -- Assumes nothing.
 use mathlib.Core.List.{[]}
 use native.Mathlib.Omega.{arith}
-use borrow.Author.Rules.{rules}
 use Rattle.eval.specs.FlagRule.{base_rule}
 use Rattle.eval.proofs.Asked.{operand_starts, second_there, Operands2, reads_nothing, shifts_too_far, writes_nowhere, writes}
 use Rattle.eval.proofs.twos.two_operands.Goals as goal

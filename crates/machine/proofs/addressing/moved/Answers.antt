@@ -1,5 +1,5 @@
 -- `machine::addressing::moved` meets its contract: the sign of the offset says whether its magnitude is taken away or added.
-use Rattle.std.proofs.Common.{◌≡◌, ℕ, ◌+◌, true, false, nat_abs, sym, ap, ◌∙◌, w64, rules}
+use Rattle.std.proofs.Common.{◌≡◌, ℕ, ◌+◌, true, false, nat_abs, sym, ap, ◌∙◌, w64}
 use lib.IntN.{sub_ℕ}
 use Rattle.machine.specs.Operands.{in_range}
 use Rattle.machine.specs.Wide.{number}

@@ -1,5 +1,5 @@
 -- `machine::addressing::register_address` meets its contract: an offset from the base.
-use Rattle.std.proofs.Common.{ℕ, ℤ, pos, ◌+ℤ◌, ◌∙◌, ap₂, arith, w64, rules}
+use Rattle.std.proofs.Common.{ℕ, ℤ, pos, ◌+ℤ◌, ◌∙◌, ap₂, arith, w64}
 use mir.ValLaws.{to_z-of_z}
 use Rattle.machine.specs.Operands.{in_range}
 use Rattle.machine.proofs.addressing.register_address.Goals as goal

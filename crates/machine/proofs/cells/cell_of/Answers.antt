@@ -1,5 +1,5 @@
 -- `machine::cells::cell_of` meets its contract: what is found at the word of the exact address, and a wild one where that is no word.
-use Rattle.std.proofs.Common.{sym, ap, ◌∙◌, rules}
+use Rattle.std.proofs.Common.{sym, ap, ◌∙◌}
 use Rattle.machine.specs.Operands.{word_of, eval_maddr}
 use Rattle.machine.proofs.OperandLaws.{leads_to_cell, leads_to_none, leads_outside}
 use Rattle.machine.proofs.cells.cell_of.Goals as goal

@@ -1,6 +1,5 @@
 -- `machine::cells::check_cells` meets its contract: the lengths and the count are tested first, and the rest is `check_from`.
 use Rattle.machine.proofs.CellLaws.{tags_differ, values_differ, too_many, from_first}
-use Rattle.std.proofs.Common.{rules}
 use Rattle.machine.proofs.cells.check_cells.Goals as goal
 
 pub returns-then-tags-addresses : goal.returns-then-tags-addresses

@@ -1,9 +1,8 @@
 -- `machine::cells::check_from` meets its contract. The invariant: what is left to check, from the running end on, has the verdict of
 -- all that was to be checked. One turn is one step of `check-from`.
-use Rattle.std.proofs.Common.{◌≡◌, ℕ, ◌-◌, length, drop, sym, refl, ap, ◌∙◌, rules}
+use Rattle.std.proofs.Common.{◌≡◌, ◌-◌, length, drop}
 use Rattle.machine.specs.Wide.{number}
-use Rattle.machine.specs.Cells.{refused, check_from}
-use Rattle.machine.proofs.CellLaws.{from_next, from_stop, from_end}
+use Rattle.machine.specs.Cells.{check_from}
 use Rattle.machine.proofs.cells.check_from.Given as goal
 
 abbrev pub invariant-loop-i : goal.invariant-loop-i

@@ -1,6 +1,6 @@
 -- `machine::cells::find_cell` meets its contract: the address stands at the one place where it can stand, or nowhere, and the tag
 -- there says whether that is a 64-bit cell.
-use Rattle.std.proofs.Common.{pos, sym, ◌∙◌, arith, rules, eq-eqb, ne_eqb}
+use Rattle.std.proofs.Common.{pos, sym, ◌∙◌, arith, eq-eqb, ne_eqb}
 use Rattle.machine.proofs.FindLaws.{find_none, find_elsewhere, find_here}
 use Rattle.machine.proofs.cells.find_cell.Goals as goal
 

@@ -22,4 +22,4 @@ returns-in-64 c = rw c.in-64.is
 pub returns-in_default : goal.returns-in_default
 returns-in_default c =
     rw (no_tag c.args.tag c.in_default.in_default-own.rest.0.0.0.1 c.in_default.in_default-own.rest.0.0.1 c.in_default.in_default-own.rest.0.1
-        c.in_default.in_default-own.rest.1)
+    c.in_default.in_default-own.rest.1)

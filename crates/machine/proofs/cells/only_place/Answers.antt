@@ -1,7 +1,6 @@
 -- `machine::cells::only_place` meets its contract. The invariant: an index with that address lies in the part that is left. Addresses
 -- ascend, so the middle one says on which side.
-use Rattle.std.proofs.Common.{◌-◌, refl, arith}
-use Rattle.machine.specs.Cells.{Part}
+use Rattle.std.proofs.Common.{refl, arith}
 use Rattle.machine.proofs.FindLaws.{keep_upper, keep_lower, last_left}
 use Rattle.machine.proofs.cells.only_place.Goals as goal
 

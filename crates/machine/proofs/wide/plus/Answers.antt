@@ -1,5 +1,5 @@
 -- `machine::wide::plus` meets its contract: the carry of the low words goes into the high word, which has room for it below 2^80.
-use Rattle.std.proofs.Common.{arith, rules}
+use Rattle.std.proofs.Common.{arith}
 use Rattle.words.proofs.SumLaws.{added_number}
 use Rattle.machine.proofs.Exact.{carry_fits}
 use Rattle.machine.proofs.wide.plus.Goals as goal

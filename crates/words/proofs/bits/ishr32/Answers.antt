@@ -1,5 +1,5 @@
 -- Below the width the language's shift is the definition, and from the width on nothing is left.
-use Rattle.std.proofs.Common.{sym, refl, rules}
+use Rattle.std.proofs.Common.{sym, refl}
 use Rattle.words.specs.Bits.{ishr}
 use Rattle.words.proofs.ShiftLaws.{ishr_past}
 use Rattle.words.proofs.bits.ishr32.Goals as goal

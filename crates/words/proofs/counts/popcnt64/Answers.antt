@@ -1,5 +1,5 @@
 -- The language's count is the number of ones of the 64 bits.
-use Rattle.std.proofs.Common.{sym, ◌∙◌, rules}
+use Rattle.std.proofs.Common.{sym, ◌∙◌}
 use Rattle.words.proofs.CountLaws.{popcnt_is}
 use Rattle.words.proofs.counts.popcnt64.Goals as goal
 

@@ -1,5 +1,5 @@
 -- The language's count is the number of trailing zeros of the 64 bits.
-use Rattle.std.proofs.Common.{sym, ◌∙◌, rules}
+use Rattle.std.proofs.Common.{sym, ◌∙◌}
 use Rattle.words.proofs.CountLaws.{tzcnt_is}
 use Rattle.words.proofs.counts.tzcnt64.Goals as goal
 

@@ -1,5 +1,5 @@
 -- Taking the bit out and putting the new one in is the definition's choice of four.
-use Rattle.std.proofs.Common.{sym, arith, rules}
+use Rattle.std.proofs.Common.{sym, arith}
 use Rattle.words.proofs.BitLaws.{bit_lt}
 use Rattle.words.proofs.FlagLaws.{update_of_is}
 use Rattle.words.proofs.flags.update_of.Goals as goal

@@ -1,5 +1,5 @@
 -- The number is that of `two_to_nat`, of the pair that the selector names.
-use Rattle.std.proofs.Common.{◌≡◌, ◌%◌, sym, ap, ◌∙◌, arith, rules}
+use Rattle.std.proofs.Common.{◌≡◌, ◌%◌, sym, ap, ◌∙◌, arith}
 use Rattle.words.specs.Types.{quad32, extract_nat64}
 use Rattle.words.specs.Words.{two_select}
 use Rattle.words.proofs.halves.extract_nat64.Goals as goal

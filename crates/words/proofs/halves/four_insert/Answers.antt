@@ -19,6 +19,10 @@ returns-in-2 c = sym (ap (four_insert (quad32 c.args.x) c.args.y) c.in-2.is)
 pub returns-in_default : goal.returns-in_default
 unfolding four_insert
 returns-in_default c =
-    let three : c.args.selector % 4 ≡ 3 = omega (arith, c.in_default.in_default-own.rest.1, c.in_default.in_default-own.rest.0.1,
-        c.in_default.in_default-own.rest.0.0.1) in
+    let three : c.args.selector % 4 ≡ 3 = omega (
+      arith,
+      c.in_default.in_default-own.rest.1,
+      c.in_default.in_default-own.rest.0.1,
+      c.in_default.in_default-own.rest.0.0.1,
+    ) in
     sym (ap (four_insert (quad32 c.args.x) c.args.y) three)

@@ -1,5 +1,5 @@
 -- The two words are those of `nat_to_two`, at the pair that the selector names.
-use Rattle.std.proofs.Common.{◌≡◌, ℕ, ◌%◌, sym, ap₂, arith, rules}
+use Rattle.std.proofs.Common.{◌≡◌, ℕ, ◌%◌, sym, ap₂, arith}
 use Rattle.words.specs.Words.{Two, two_two_to_four, four_to_two_two, two_insert}
 use Rattle.words.specs.Types.{quad32, insert_nat64}
 use Rattle.words.proofs.halves.insert_nat64.Goals as goal

@@ -1,5 +1,5 @@
 -- The quotient is below 2 ^ 32 already, so its remainder is itself.
-use Rattle.std.proofs.Common.{◌≡◌, ◌/◌, ◌%◌, sym, arith, rules}
+use Rattle.std.proofs.Common.{◌≡◌, ◌/◌, ◌%◌, sym, arith}
 use Rattle.words.specs.Words.{mktwo, nat_to_two}
 use Rattle.words.proofs.halves.nat_to_two.Goals as goal
 

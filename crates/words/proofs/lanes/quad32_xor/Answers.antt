@@ -1,5 +1,4 @@
 -- Word by word.
-use Rattle.std.proofs.Common.{rules}
 use Rattle.words.specs.Types.{quad32_xor}
 use Rattle.words.proofs.PartLaws.{four_eq}
 use Rattle.words.proofs.lanes.quad32_xor.Goals as goal

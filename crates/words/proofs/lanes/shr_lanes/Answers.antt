@@ -1,5 +1,4 @@
 -- Word by word.
-use Rattle.std.proofs.Common.{rules}
 use Rattle.words.specs.Types.{shr_lanes}
 use Rattle.words.proofs.PartLaws.{four_eq}
 use Rattle.words.proofs.lanes.shr_lanes.Goals as goal

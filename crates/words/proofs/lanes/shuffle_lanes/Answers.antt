@@ -1,5 +1,5 @@
 -- Each word is the one that its two bits of the immediate name.
-use Rattle.std.proofs.Common.{◌∙◌, rules}
+use Rattle.std.proofs.Common.{◌∙◌}
 use Rattle.words.specs.Types.{quad32}
 use Rattle.words.proofs.PartLaws.{four_eq}
 use Rattle.words.proofs.LaneLaws.{shuffle_lanes_is}

@@ -1,5 +1,5 @@
 -- The code's columns in base 2 ^ 32 are those of the law, whose two words are the product's.
-use Rattle.std.proofs.Common.{◌^◌, pow_pos, rules}
+use Rattle.std.proofs.Common.{◌^◌, pow_pos}
 use Rattle.words.specs.Sums.{mul_mod, mul_div}
 use Rattle.words.proofs.ProductLaws.{Columns, columns_of}
 use Rattle.words.proofs.product.mul_wide.Goals as goal

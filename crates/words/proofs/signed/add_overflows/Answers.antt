@@ -1,5 +1,5 @@
 -- Operands of one sign overflow where the word of the sum has the other sign, and operands of two signs never.
-use Rattle.std.proofs.Common.{◌≡◌, ◌^◌, not, ◌&&◌, leb, sym, refl, ◌∙◌, rules}
+use Rattle.std.proofs.Common.{◌≡◌, ◌^◌, not, ◌&&◌, leb, sym, refl, ◌∙◌}
 use mathlib.Core.Bool.{beq}
 use Rattle.words.specs.Bits.{bit}
 use Rattle.words.specs.Signed.{signed_sum, leaves}

@@ -1,5 +1,5 @@
 -- A wrapped first sum is below its first term; else the second sum may wrap, and is then below the first.
-use Rattle.std.proofs.Common.{lit<, rules}
+use Rattle.std.proofs.Common.{lit<}
 use Rattle.words.proofs.SumLaws.{added_wraps, added_stays}
 use Rattle.words.proofs.sums.add64.Goals as goal
 

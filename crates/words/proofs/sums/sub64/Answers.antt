@@ -1,5 +1,4 @@
 -- The wrapped difference is the word that b added to wraps back to a.
-use Rattle.std.proofs.Common.{rules}
 use Rattle.words.proofs.SumLaws.{subtracted}
 use Rattle.words.proofs.sums.sub64.Goals as goal
 
