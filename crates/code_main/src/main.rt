@@ -4,8 +4,8 @@
 
 ghost use Rattle.std.specs.Prelude.{◌*◌, ◌≤◌};
 
-use libc::STDOUT_FILENO;
 use machine::Checked;
+use std::io;
 
 // 0 where the check answers this number and place (0 and 0 for accepted), else 1.
 fn miss(code: &[u8], number: u8, place: usize) -> usize
@@ -31,11 +31,11 @@ fn miss(code: &[u8], number: u8, place: usize) -> usize
     }
 }
 
-fn report(misses: usize, passed: &[u8], failed: &[u8]) {
+fn report(rt: &impl Print, misses: usize, passed: &[u8], failed: &[u8]) -> io::Result<()> {
     if misses == 0 {
-        io::write_all(STDOUT_FILENO, passed);
+        rt.write_all(passed)
     } else {
-        io::write_all(STDOUT_FILENO, failed);
+        rt.write_all(failed)
     }
 }
 
@@ -332,85 +332,103 @@ fn depths() -> usize {
         + miss_first(wrong, 161, 2, 160)
 }
 
-fn report_kinds_and_cuts() {
+fn report_kinds_and_cuts(rt: &impl Print) -> io::Result<()> {
     report(
+        rt,
         document_examples(),
         b"document 01: as expected\n",
         b"document 01: FAILED\n",
-    );
+    )?;
     report(
+        rt,
         bit_counts(),
         b"2026-02: as expected\n",
         b"2026-02: FAILED\n",
-    );
-    report(counts(), b"1: as expected\n", b"1: FAILED\n");
+    )?;
+    report(rt, counts(), b"1: as expected\n", b"1: FAILED\n")?;
     report(
+        rt,
         code_kinds(),
         b"2, codes: as expected\n",
         b"2, codes: FAILED\n",
-    );
+    )?;
     report(
+        rt,
         other_kinds(),
         b"2, operands and comparisons: as expected\n",
         b"2, operands and comparisons: FAILED\n",
-    );
+    )?;
     report(
+        rt,
         cut_records(),
         b"3, records: as expected\n",
         b"3, records: FAILED\n",
-    );
+    )?;
     report(
+        rt,
         cut_operands(),
         b"3, operands: as expected\n",
         b"3, operands: FAILED\n",
-    );
+    )
 }
 
-fn report_numbers_and_lengths() {
-    report(xmm_numbers(), b"4, xmm: as expected\n", b"4, xmm: FAILED\n");
+fn report_numbers_and_lengths(rt: &impl Print) -> io::Result<()> {
     report(
+        rt,
+        xmm_numbers(),
+        b"4, xmm: as expected\n",
+        b"4, xmm: FAILED\n",
+    )?;
+    report(
+        rt,
         registers(),
         b"4, registers: as expected\n",
         b"4, registers: FAILED\n",
-    );
-    report(depths(), b"5: as expected\n", b"5: FAILED\n");
+    )?;
+    report(rt, depths(), b"5: as expected\n", b"5: FAILED\n")?;
     report(
+        rt,
         lengths(),
         b"6, lengths: as expected\n",
         b"6, lengths: FAILED\n",
-    );
+    )?;
     report(
+        rt,
         trailing(),
         b"6, trailing bytes: as expected\n",
         b"6, trailing bytes: FAILED\n",
-    );
+    )
 }
 
-fn report_scales() {
+fn report_scales(rt: &impl Print) -> io::Result<()> {
     report(
+        rt,
         right_scales(),
         b"the four scales: as expected\n",
         b"the four scales: FAILED\n",
-    );
+    )?;
     report(
+        rt,
         wrong_scales(),
         b"7, scales: as expected\n",
         b"7, scales: FAILED\n",
-    );
+    )?;
     report(
+        rt,
         field_order(),
         b"4 and 7 in one record: as expected\n",
         b"4 and 7 in one record: FAILED\n",
-    );
+    )?;
     report(
+        rt,
         scale_order(),
         b"7 and other trouble: as expected\n",
         b"7 and other trouble: FAILED\n",
-    );
+    )
 }
 
-fn main() {
-    report_kinds_and_cuts();
-    report_numbers_and_lengths();
-    report_scales();
+fn main(rt: HostRuntime) -> io::Result<()> {
+    report_kinds_and_cuts(&rt)?;
+    report_numbers_and_lengths(&rt)?;
+    report_scales(&rt)
 }

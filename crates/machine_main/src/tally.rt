@@ -1,5 +1,7 @@
 // How many cases were tried, and how many of them came out as expected.
 
+use std::io;
+
 #[derive(Clone, Copy)]
 pub struct Tally {
     pub tried: u64,
@@ -26,11 +28,9 @@ pub fn counted(t: Tally, ok: bool) -> Tally {
 }
 
 // NAME: RIGHT of TRIED
-pub fn tell(name: &[u8], t: Tally) {
-    io::write_all(1, name);
-    io::write_all(1, b": ");
-    io::print_decimal(1, t.right);
-    io::write_all(1, b" of ");
-    io::print_decimal(1, t.tried);
-    io::write_all(1, b"\n");
+pub fn tell(rt: &impl Print, name: &[u8], t: Tally) -> io::Result<()> {
+    let right = t.right;
+    let tried = t.tried;
+    rt.write_all(name)?;
+    println!(rt; ": {right} of {tried}")
 }

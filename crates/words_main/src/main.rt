@@ -9,6 +9,7 @@ mod vectors;
 ghost use Rattle.std.specs.Prelude.{◌+◌, ◌*◌, ◌≤◌, length};
 
 use apply::{Pair, apply};
+use std::io;
 
 // Whether the row's function answers what the row expects.
 fn agrees(row: &[u64]) -> bool
@@ -47,25 +48,25 @@ fn agreeing(op: u64, rows: &[u64], first: usize) -> usize
 
 // Reports on the rows of the function op, which start at `first`, and returns where the next
 // function's start. After a row that differs nothing more is run.
-fn report(name: &[u8], op: u64, rows: &[u64], first: usize) -> usize {
+fn report(rt: &impl Print, name: &[u8], op: u64, rows: &[u64], first: usize) -> io::Result<usize> {
     let after = agreeing(op, rows, first);
-    io::write_all(1, name);
-    io::write_all(1, b" ");
-    io::print_decimal(1, (after - first) as u64);
+    rt.write_all(name)?;
+    let agreed = after - first;
+    print!(rt; " {agreed}")?;
     if after == first {
-        io::write_all(1, b" not run\n");
-        return after;
+        println!(rt; " not run")?;
+        return Ok(after);
     }
     let count = rows.len() / 8;
     if after < count {
         let at = after * 8;
         if rows[at] == op {
-            io::write_all(1, b" agree, the next differs\n");
-            return count;
+            println!(rt; " agree, the next differs")?;
+            return Ok(count);
         }
     }
-    io::write_all(1, b" ok\n");
-    after
+    println!(rt; " ok")?;
+    Ok(after)
 }
 
 // A function's name: 16 bytes, by its number.
@@ -78,15 +79,16 @@ fn name_of(names: &[u8], op: usize) -> &[u8]
 }
 
 // Reports on every function, in the order of the names.
-fn run(names: &[u8], rows: &[u64]) {
+fn run(rt: &impl Print, names: &[u8], rows: &[u64]) -> io::Result<()> {
     let mut first = 0;
     let mut op = 0;
     while op < names.len() / 16 {
-        first = report(name_of(names, op), op as u64, rows, first);
+        first = report(rt, name_of(names, op), op as u64, rows, first)?;
         op += 1;
     }
+    Ok(())
 }
 
-fn main() {
-    run(&vectors::NAMES, &vectors::ROWS);
+fn main(rt: HostRuntime) -> io::Result<()> {
+    run(&rt, &vectors::NAMES, &vectors::ROWS)
 }
