@@ -18,7 +18,7 @@ use Rattle.machine.specs.declared.Operand.TheVariants.{OConst, OReg, OMem}
 use Rattle.code.specs.declared.kinds.Class.{Class}
 use Rattle.code.specs.declared.kinds.Class.TheVariants.{Operand}
 use Rattle.code.specs.Kinds.{class}
-use Rattle.code.proofs.Classes.{tag, operand_kind, not_operand, others_3}
+use Rattle.code.proofs.Classes.{operand_kind, not_operand, no_3}
 use Rattle.numbered.specs.declared.operands.Numbers.{Numbers}
 use Rattle.numbered.specs.Given.{operand_of, operand_given, operands_given}
 
@@ -40,9 +40,9 @@ module _ (n : Numbers) where
     unfolding operand_given
     given_operand h = sym (operand_kind (get_or n.operands i 0) r of h)
 
-    pub given_other : (tag r ≡ 0) ⊎ ((tag r ≡ 1) ⊎ ((tag r ≡ 2) ⊎ (tag r ≡ 4))) → false ≡ operand_given n i
+    pub given_other : (r ≡ Operand → ⊥) → false ≡ operand_given n i
     unfolding operand_given
-    given_other h = sym (not_operand (get_or n.operands i 0) r of (others_3 (tag r) h))
+    given_other h = sym (not_operand (get_or n.operands i 0) r of (no_3 r h))
 
   pub none_given : operands_given 0 n ≡ true
   unfolding operands_given
@@ -74,11 +74,11 @@ module _ (n : Numbers) where
           let q = eqb-false i count p in
           ap (λ (b : Bool). b && operand_given n count) (among (omega arith)) ∙ suc_given count
 
-  pub found_none : {r : Bool} (i count : ℕ) → i < count → r ≡ operand_given n i → not r ≡ true → false ≡ operands_given count n
-  found_none {r} i count h e f = not_given i count h (sym e ∙ not-true r f)
+  pub found_none : {r : Bool} (i count : ℕ) → i < count → r ≡ operand_given n i → r ≡ false → false ≡ operands_given count n
+  found_none {r} i count h e f = not_given i count h (sym e ∙ f)
 
-  pub found_one : {r : Bool} (i : ℕ) → operands_given i n ≡ true → r ≡ operand_given n i → not r ≡ false → operands_given (i + 1) n ≡ true
-  found_one {r} i h e f = more_given i h e (not-false r f)
+  pub found_one : {r : Bool} (i : ℕ) → operands_given i n ≡ true → r ≡ operand_given n i → r ≡ true → operands_given (i + 1) n ≡ true
+  found_one {r} i h e f = more_given i h e f
 
   pub all_given : (i count : ℕ) → i ≤ count → count ≤ i → operands_given i n ≡ true → true ≡ operands_given count n
   all_given i count p q h = let same : i ≡ count = omega arith in sym (ap (λ (k : ℕ). operands_given k n) (sym same) ∙ h)

@@ -18,7 +18,7 @@ use Rattle.numbered.specs.declared.values.GivenComparison.TheVariants.{Value as 
 use Rattle.code.specs.Records.{is_ins, is_ocmp, operand_count}
 use Rattle.code.specs.Kinds.{class, is_used}
 use Rattle.code.proofs.KindLaws.{class_ins, counts}
-use Rattle.code.proofs.Classes.{tag, ins_kind, ocmp_kind, not_ocmp, code_used, ins_is_code, ocmp_used, others_2}
+use Rattle.code.proofs.Classes.{tag, ins_kind, ocmp_kind, not_ocmp, code_used, ins_is_code, ocmp_used, no_0, no_2}
 use Rattle.numbered.specs.declared.operands.Numbers.{Numbers}
 use Rattle.numbered.specs.Given.{operand_of, operands_given, operands_of, is_instruction, is_comparison}
 use Rattle.numbered.specs.Values.{instruction_given, comparison_given}
@@ -43,12 +43,6 @@ not_ins k r of g = go (is_ins k) refl
     go : (t : Bool) → is_ins k ≡ t → is_ins k ≡ false
     go true h = absurd (g (let e : r ≡ Instruction = of ∙ class_ins k h in rw e refl))
     go false h = h
-
-others_0 : (n : ℕ) → (n ≡ 1) ⊎ ((n ≡ 2) ⊎ ((n ≡ 3) ⊎ (n ≡ 4))) → n ≡ 0 → ⊥
-others_0 n (inl h) e = omega arith
-others_0 n (inr (inl h)) e = omega arith
-others_0 n (inr (inr (inl h))) e = omega arith
-others_0 n (inr (inr (inr h))) e = omega arith
 
 -- ---- whether numbers are an instruction's or a comparison's
 
@@ -79,45 +73,45 @@ module _ (n : Numbers) {r : Class} (of : r ≡ class n.kind) where
   unfolding is_comparison
   is_ocmp_given h e f = f ∙ rw (e, ocmp_kind n.kind r of h) refl
 
-  pub no_ins_given : (tag r ≡ 1) ⊎ ((tag r ≡ 2) ⊎ ((tag r ≡ 3) ⊎ (tag r ≡ 4))) → false ≡ is_instruction n
+  pub no_ins_given : (r ≡ Instruction → ⊥) → false ≡ is_instruction n
   unfolding is_instruction
-  no_ins_given h = rw (not_ins n.kind r of (others_0 (tag r) h)) refl
+  no_ins_given h = rw (not_ins n.kind r of (no_0 r h)) refl
 
-  pub no_ocmp_given : (tag r ≡ 0) ⊎ ((tag r ≡ 1) ⊎ ((tag r ≡ 3) ⊎ (tag r ≡ 4))) → false ≡ is_comparison n
+  pub no_ocmp_given : (r ≡ Comparison → ⊥) → false ≡ is_comparison n
   unfolding is_comparison
-  no_ocmp_given h = rw (not_ocmp n.kind r of (others_2 (tag r) h)) refl
+  no_ocmp_given h = rw (not_ocmp n.kind r of (no_2 r h)) refl
 
 -- ---- what they give
 module _ (n : Numbers) where
-  pub gives_none : {t : Bool} → t ≡ is_instruction n → not t ≡ true → Nothing ≡ instruction_given n
+  pub gives_none : {t : Bool} → t ≡ is_instruction n → t ≡ false → Nothing ≡ instruction_given n
   unfolding instruction_given
-  gives_none {t} e h = rw (sym e, not-true t h) refl
+  gives_none {t} e h = rw (sym e, h) refl
 
-  pub gives_no_comparison : {t : Bool} → t ≡ is_comparison n → not t ≡ true → NoComparison ≡ comparison_given n
+  pub gives_no_comparison : {t : Bool} → t ≡ is_comparison n → t ≡ false → NoComparison ≡ comparison_given n
   unfolding comparison_given
-  gives_no_comparison {t} e h = rw (sym e, not-true t h) refl
+  gives_no_comparison {t} e h = rw (sym e, h) refl
 
-  pub given_kind : {t : Bool} → t ≡ is_instruction n → not t ≡ false → is_ins n.kind ≡ true
+  pub given_kind : {t : Bool} → t ≡ is_instruction n → t ≡ true → is_ins n.kind ≡ true
   unfolding is_instruction
-  given_kind {t} e h = (both (is_ins n.kind) _ (sym e ∙ not-false t h)).0
+  given_kind {t} e h = (both (is_ins n.kind) _ (sym e ∙ h)).0
 
-  pub given_ocmp : {t : Bool} → t ≡ is_comparison n → not t ≡ false → is_ocmp n.kind ≡ true
+  pub given_ocmp : {t : Bool} → t ≡ is_comparison n → t ≡ true → is_ocmp n.kind ≡ true
   unfolding is_comparison
-  given_ocmp {t} e h = (both (is_ocmp n.kind) _ (sym e ∙ not-false t h)).0
+  given_ocmp {t} e h = (both (is_ocmp n.kind) _ (sym e ∙ h)).0
 
   pub gives_comparison :
-      {t : Bool} {a b : Operand} {c : Ocmp} → t ≡ is_comparison n → not t ≡ false → a ≡ operand_of n 0 → b ≡ operand_of n 1
+      {t : Bool} {a b : Operand} {c : Ocmp} → t ≡ is_comparison n → t ≡ true → a ≡ operand_of n 0 → b ≡ operand_of n 1
       → ((os : List Operand) → c ≡ ocmp_of n.kind (a ∷ b ∷ os)) → Compares c ≡ comparison_given n
   unfolding comparison_given
   gives_comparison {t} e h p q f =
-      rw (sym e, not-false t h, sym p, sym q) (ap Compares (f (operand_of n 2 ∷ [])))
+      rw (sym e, h, sym p, sym q) (ap Compares (f (operand_of n 2 ∷ [])))
 
   -- what is made of the kind, the body and the operands is what they give
   pub gives :
-      {t : Bool} {i : Ins} → t ≡ is_instruction n → not t ≡ false → i ≡ ins_of n.kind n.body (operands_of n)
+      {t : Bool} {i : Ins} → t ≡ is_instruction n → t ≡ true → i ≡ ins_of n.kind n.body (operands_of n)
       → Value i ≡ instruction_given n
   unfolding instruction_given
-  gives {t} e h f = rw (sym e, not-false t h) (ap Value f)
+  gives {t} e h f = rw (sym e, h) (ap Value f)
 
   pub of_operands :
       {a b c : Operand} {i : Ins} → a ≡ operand_of n 0 → b ≡ operand_of n 1 → c ≡ operand_of n 2

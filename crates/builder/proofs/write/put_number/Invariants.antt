@@ -1,0 +1,19 @@
+-- In each turn the bytes that are left to write, of what is left of the number, make the whole.
+use mathlib.Core.Path.{◌≡◌, refl, ◌∙◌, ap}
+use Prim.Native.Nat.{ℕ, ◌+◌, ◌-◌, ◌≤◌}
+use mathlib.Core.List.{List, []}
+use native.Mathlib.Omega.{arith}
+use native.Mathlib.Nat.{add-zero}
+use lib.ListN.{length}
+use lib.Seq.{sets}
+use Rattle.code.specs.Writer.{bytes_of}
+use Rattle.builder.proofs.Writing.{number_begun, number_step, number_done}
+use Rattle.builder.proofs.write.put_number.Given as goal
+
+abbrev pub invariant-loop-i : goal.invariant-loop-i
+invariant-loop-i l =
+    (l.i ≤ l.count) × (sets l.out (l.at + l.i) (bytes_of (l.count - l.i) l.rest) ≡ sets l.initial.out l.at (bytes_of l.count l.number))
+
+abbrev pub decreases-loop-i : goal.decreases-loop-i
+decreases-loop-i l =
+    l.count - l.i

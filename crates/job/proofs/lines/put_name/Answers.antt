@@ -1,0 +1,15 @@
+-- Letters from the two tables below 8, the number from there on.
+use native.Mathlib.Omega.{arith}
+use Rattle.job.proofs.Writing.{◌▸◌, spelled, looser}
+use Rattle.job.proofs.Choices.{name_short, name_long}
+use borrow.Author.Rules.{rules}
+use Rattle.job.proofs.lines.put_name.Goals as goal
+
+pub returns-then-i-lt8 : goal.returns-then-i-lt8
+returns-then-i-lt8 c =
+    looser (omega arith)
+    (spelled (name_short _ c.if-i-lt8.true) (c.put_byte-next.ensures ▸ c.put_byte-next-then-i-lt8.ensures ▸ c.put_byte.ensures))
+
+pub returns : goal.returns
+returns c =
+    spelled (name_long _ c.if-i-lt8.false) (c.put_byte-next.ensures ▸ c.put_decimal.ensures)

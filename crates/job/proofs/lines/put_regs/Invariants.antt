@@ -1,0 +1,21 @@
+-- In each turn the registers from i on are left to print.
+use Prim.Native.Nat.{◌+◌, ◌*◌, ◌-◌, ◌≤◌}
+use mathlib.Core.Path.{◌≡◌}
+use native.Mathlib.Omega.{arith}
+use borrow.Author.Rules.{rules}
+use lib.ListN.{drop, length}
+use Rattle.job.specs.Text.{reg_lines}
+use Rattle.job.proofs.Writing.{Left, left_all, left_less, left_none}
+use Rattle.job.proofs.Rests.{regs_rest, regs_none}
+use Rattle.job.proofs.lines.put_regs.Given as goal
+
+abbrev pub invariant-loop-i : goal.invariant-loop-i
+invariant-loop-i l =
+    (l.i ≤ 16)
+    × (l.next ≤ l.at + 43 * l.i)
+    × (length l.regs' ≡ 16)
+    × Left l.initial.out l.at (reg_lines 0 l.regs) l.out l.next (reg_lines l.i (drop l.i l.regs'))
+
+abbrev pub decreases-loop-i : goal.decreases-loop-i
+decreases-loop-i l =
+    16 - l.i

@@ -1,0 +1,14 @@
+-- The steps, the flags, the registers, the xmm and the cells follow each other.
+use Prim.Native.Nat.{◌+◌, ◌*◌, ◌≤◌}
+use lib.ListN.{length}
+use native.Mathlib.Omega.{arith}
+use Rattle.job.proofs.Writing.{◌▸◌, looser}
+use borrow.Author.Rules.{rules}
+use Rattle.job.proofs.render.put_end.Goals as goal
+
+pub returns : goal.returns
+returns c =
+    let cells = length c.args.addresses.now in
+    let few : 2486 + 51 * cells ≤ 65483 = omega arith in
+    looser {m = 2486 + 51 * cells} few
+    (c.put_line-next.ensures ▸ c.put_line-next-2.ensures ▸ c.put_regs-next.ensures ▸ c.put_xmms-next.ensures ▸ c.put_cells.ensures)
