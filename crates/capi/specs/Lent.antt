@@ -1,6 +1,6 @@
 -- What the builder's C calls do: a build and a record are lent in parts.
 use Rattle.std.specs.Prelude.{ℕ, List}
-use Rattle.std.specs.Borrow.{Bor}
+use Rattle.std.specs.Borrow.{Bor, MutBor}
 use denote.Triple.Both.{Both}
 use Rattle.builder.specs.declared.build.Build.{Build}
 use Rattle.builder.specs.Calls.{add, open_if_else, open_while, CallTyped}
@@ -30,11 +30,15 @@ lent_numbers kind body operands bases indexes scales numbers offsets =
       offsets = offsets;
     }
 
--- a lent value, as it is given and as it is left
+-- a lent value that is read, as it is given and as it is left
 abbrev Lent : Type 0 → Type 0
 Lent A = Both (Bor A) (Bor A)
 
-module _ (length depth : Lent ℕ) (parts fields starts : Lent (List ℕ)) where
+-- a lent value that may be changed, as it is given and as it is left
+abbrev LentMut : Type 0 → Type 0
+LentMut A = Both (MutBor A) (MutBor A)
+
+module _ (length depth : LentMut ℕ) (parts fields starts : LentMut (List ℕ)) where
   -- the build as it is given
   abbrev pub given_build : Build
   given_build = lent_build length.entry.now depth.entry.now parts.entry.now fields.entry.now starts.entry.now

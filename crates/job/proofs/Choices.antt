@@ -59,12 +59,12 @@ unfolding first_line
 line_refused n p e = sym (ap (λ (b : Answer). first_line (outcome b)) e)
 
 -- an answer that the code's test does not take for a refusal
-pub not_refused : (a : Answer) → OneOf (0 ∷ 1 ∷ 2 ∷ 3 ∷ []) (tag_of the_type a) → is_refused (outcome a) ≡ false
+pub not_refused : (a : Answer) → ((n p : ℕ) → a ≡ Refused n p → ⊥) → is_refused (outcome a) ≡ false
 not_refused Done h = refl
 not_refused (Fault n p) h = refl
 not_refused (Stopped n p) h = refl
 not_refused (Spent p) h = refl
-not_refused (Refused n p) h = absurd (miss (0 ∷ 1 ∷ 2 ∷ 3 ∷ []) 4 tt h)
+not_refused (Refused n p) h = absurd (h n p refl)
 
 -- what is printed of an end, by whether it is a refusal
 pub print_refused :

@@ -34,8 +34,10 @@ returns-then-answer-eq0 c =
     let given = c.record_of-given in
     let agrees = ins_agrees c.args.instruction in
     let put = c.put_record-n.ensures in
-    let trouble = trouble_is is_ins used_ins given.ensures agrees put.wrote (omega arith) put.record_typed c.trouble_in-trouble.ensures in record { buffer_after = add_is _ _ _ _ _ given.result trouble _ given.ensures put.wrote
-          (taken_as _ _ _ _ appended.value appended.buffer_after c.if-answer-eq0.true c.longer.ensures); call_typed = add_fits _ given.ensures put.record_typed }
+    let trouble = trouble_is is_ins used_ins given.ensures agrees put.wrote (omega arith) put.record_typed c.trouble_in-trouble.ensures in
+    record { buffer_after = add_is _ _ _ _ _ given.result trouble _ given.ensures put.wrote
+          (taken_as _ _ _ _ appended.value appended.buffer_after c.if-answer-eq0.true c.longer.ensures); call_typed = add_fits _ given.ensures
+              put.record_typed }
 
 pub returns : goal.returns
 returns c =
@@ -43,5 +45,7 @@ returns c =
     let given = c.record_of-given in
     let agrees = ins_agrees c.args.instruction in
     let put = c.put_record-n.ensures in
-    let trouble = trouble_is is_ins used_ins given.ensures agrees put.wrote (omega arith) put.record_typed c.trouble_in-trouble.ensures in record { buffer_after = add_is _ _ _ _ _ given.result trouble _ given.ensures put.wrote
-          (handed_back c.refused.ensures (refused_as _ _ _ _ appended.value appended.buffer_after c.if-answer-eq0.false)); call_typed = add_fits _ given.ensures put.record_typed }
+    let trouble = trouble_is is_ins used_ins given.ensures agrees put.wrote (omega arith) put.record_typed c.trouble_in-trouble.ensures in
+    record { buffer_after = add_is _ _ _ _ _ given.result trouble _ given.ensures put.wrote
+          (handed_back c.refused.ensures (refused_as _ _ _ _ appended.value appended.buffer_after c.if-answer-eq0.false)); call_typed = add_fits _
+              given.ensures put.record_typed }

@@ -28,4 +28,8 @@ returns c =
     let given = c.record_of_ocmp-given in
     let agrees = ocmp_agrees c.args.condition in
     let put = c.put_record-n.ensures in
-    let trouble = trouble_is is_ocmp used_ocmp given.ensures agrees put.wrote (omega arith) put.record_typed c.trouble_in-trouble.ensures in record { buffer_after = if_else_is _ _ _ _ _ given.result trouble _ given.ensures put.wrote c.open_part.ensures; call_typed = if_else_fits _ given.ensures put.record_typed }
+    let trouble = trouble_is is_ocmp used_ocmp given.ensures agrees put.wrote (omega arith) put.record_typed c.trouble_in-trouble.ensures in
+    record {
+      buffer_after = if_else_is _ _ _ _ _ given.result trouble _ given.ensures put.wrote c.open_part.ensures;
+      call_typed = if_else_fits _ given.ensures put.record_typed;
+    }

@@ -41,4 +41,7 @@ pub returns-in-XmmsAmount : goal.returns-in-XmmsAmount
 unfolding ByteTyped
 returns-in-XmmsAmount c =
     let is = c.in-XmmsAmount.is in
-    let fits = c.in-XmmsAmount.known_told-in-XmmsAmount-1-own.given in record { wrote = spelled (omega arith) (sym (ap bytes_of_body is)) (c.put_two-next.ensures ▸ c.put_byte.ensures); all = subst⁻¹ BodyTyped is (fits.0.1, (fits.1.0.1, fits.1.1.0.1)) }
+    let fits = c.in
+    -XmmsAmount.known_told-in-XmmsAmount-1-own.given in record
+        { wrote = spelled (omega arith) (sym (ap bytes_of_body is)) (c.put_two-next.ensures ▸ c.put_byte.ensures); all = subst⁻¹ BodyTyped is
+        (fits.0.1, (fits.1.0.1, fits.1.1.0.1)) }

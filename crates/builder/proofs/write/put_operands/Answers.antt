@@ -36,11 +36,16 @@ returns-in-Two c =
     let is = c.in-Two.is in
     let a = c.put_operand-next.ensures in
     let b = c.put_operand-in-Two.ensures in
-    record { wrote = spelled (omega arith) (two_operands _ _ ∙ sym (ap bytes_of_all is)) (a.wrote ▸ b.wrote); all = subst⁻¹ AllTyped is (a.operand_typed, b.operand_typed) }
+    record {
+      wrote = spelled (omega arith) (two_operands _ _ ∙ sym (ap bytes_of_all is)) (a.wrote ▸ b.wrote);
+      all = subst⁻¹ AllTyped is (a.operand_typed, b.operand_typed);
+    }
 
 pub returns-in-Three : goal.returns-in-Three
 returns-in-Three c =
     let is = c.in-Three.is in
     let a = c.put_operand-next-in-Three.ensures in
     let b = c.put_operand-next-in-Three-2.ensures in
-    let d = c.put_operand-in-Three.ensures in record { wrote = spelled (omega arith) (three_operands _ _ _ ∙ sym (ap bytes_of_all is)) (a.wrote ▸ b.wrote ▸ d.wrote); all = subst⁻¹ AllTyped is (a.operand_typed, (b.operand_typed, d.operand_typed)) }
+    let d = c.put_operand-in
+    -Three.ensures in record { wrote = spelled (omega arith) (three_operands _ _ _ ∙ sym (ap bytes_of_all is)) (a.wrote ▸ b.wrote ▸ d.wrote); all =
+        subst⁻¹ AllTyped is (a.operand_typed, (b.operand_typed, d.operand_typed)) }

@@ -13,8 +13,8 @@ abbrev pub invariant-loop-i : goal.invariant-loop-i
 invariant-loop-i l =
     (l.i ≤ 16)
     × (l.next ≤ l.at + 43 * l.i)
-    × (length l.regs' ≡ 16)
-    × Left l.initial.out l.at (reg_lines 0 l.regs) l.out l.next (reg_lines l.i (drop l.i l.regs'))
+    × (length l.regs-2 ≡ 16)
+    × Left l.initial.out l.at (reg_lines 0 l.regs) l.out l.next (reg_lines l.i (drop l.i l.regs-2))
 
 abbrev pub decreases-loop-i : goal.decreases-loop-i
 decreases-loop-i l =

@@ -14,6 +14,6 @@ returns-in-Refused c =
 pub returns : goal.returns
 returns c =
     let args = c.args in
-    let told = not_refused args.run.answer c.in_default.in_default-own.keys2 in
+    let told = not_refused args.run.answer c.in_default.not-Refused in
     let text = print_lines args.run args.addresses.now args.tags.now args.values.now told in
     spelled text (c.put_answer-next.ensures ▸ c.put_end.ensures)

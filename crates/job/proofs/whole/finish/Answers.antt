@@ -15,7 +15,7 @@ render-requires c =
     let xs = length_read 8 17 (count_of bs) bs 406 c.requires.holding.0 in
     let ts = length_read 1 17 (count_of bs) bs 414 c.requires.holding.1 in
     let vs = length_read 8 17 (count_of bs) bs 415 c.requires.holding.2 in
-    let kept = c.run-ended.auto.1.1.1.0 in
+    let kept = c.run-ended.auto.values in
     record { tags_len = (ts ∙ sym xs, kept ∙ vs ∙ sym xs); addresses_len_bound = omega arith }
 
 pub returns : goal.returns
@@ -25,4 +25,8 @@ returns c =
     let place : 406 + 17 * count.result ≡ code_at bs = omega (arith, count.ensures.0) in
     let started = c.read_state-start.ensures in
     let set = c.read_setting-setting.ensures in
-    let ended = ran bs _ _ _ _ _ _ _ (behind_cells bs place) c.requires.holding started set c.run-ended.ensures.values_after in record { wrote = spelled (render_run bs _ _ _ (c.requires.holding.0, c.requires.holding.1) ended) c.render.ensures; values_after = ap (λ (e : Ended). e.end.config.values) ended }
+    let ended = ran bs _ _ _ _ _ _ _ (behind_cells bs place) c.requires.holding started set c.run-ended.ensures.values_after in
+    record {
+      wrote = spelled (render_run bs _ _ _ (c.requires.holding.0, c.requires.holding.1) ended) c.render.ensures;
+      values_after = ap (λ (e : Ended). e.end.config.values) ended;
+    }

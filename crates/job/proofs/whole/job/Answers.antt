@@ -20,7 +20,9 @@ pub returns-in-Refused : goal.returns-in-Refused
 returns-in-Refused c =
     let known = c.shared_slice_known-1 in
     let bs = c.args.input.now in
-    let refused = sym c.check_job-checked.ensures ∙ ap verdict c.in-Refused.is in record { printed = printed_whole (spelled (output_refused bs refused) c.put_answer.ensures) (omega arith) c.size.ensures.1; lists = record {
+    let refused = sym c.check_job-checked.ensures ∙ ap verdict c.in
+    -Refused.is in record { printed = printed_whole (spelled (output_refused bs refused) c.put_answer.ensures) (omega arith) c.size.ensures.1;
+        lists = record {
           of_addresses = lent_none bs _ c.args.addresses.now refused;
           of_tags = lent_none bs _ c.args.tags.now refused;
           of_values = lent_none bs _ c.args.values.now refused;
@@ -32,4 +34,8 @@ returns-in-Accepted c =
     let bs = c.args.input.now in
     let passed = sym c.check_job-checked.ensures ∙ ap verdict c.in-Accepted.is in
     let text = spelled (output_run bs passed) c.run_cells.ensures.wrote in
-    record { printed = printed_whole text (omega arith) c.size.ensures.1; lists = c.run_cells.ensures.lists; input = job_input bs (λ i. omega (arith, known.given i)) }
+    record {
+      printed = printed_whole text (omega arith) c.size.ensures.1;
+      lists = c.run_cells.ensures.lists;
+      input = job_input bs (λ i. omega (arith, known.given i));
+    }

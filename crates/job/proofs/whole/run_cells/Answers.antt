@@ -35,9 +35,9 @@ returns c =
     let told : n ≡ count_of bs = c.number2-count.ensures.0 in
     let passed = c.requires.input_value.0 in record { wrote = c.run_job.ensures.wrote; lists = record {
         of_addresses = lent_part bs c.args.addresses.now c.run_job.new.addresses _ n passed c.run_job.ensures.holding.0
-            (c.run_job.auto.1.0 ∙ length-take-le n c.args.addresses.now (omega (arith, told)));
+            (c.run_job.auto.addresses ∙ length-take-le n c.args.addresses.now (omega (arith, told)));
         of_tags = lent_part bs c.args.tags.now c.run_job.new.tags _ n passed c.run_job.ensures.holding.1
-            (c.run_job.auto.1.1.0 ∙ length-take-le n c.args.tags.now (omega (arith, told)));
+            (c.run_job.auto.tags ∙ length-take-le n c.args.tags.now (omega (arith, told)));
         of_values = lent_part bs c.args.values.now c.run_job.new.values _ n passed c.run_job.ensures.holding.2
-            (c.run_job.auto.1.1.1.0 ∙ length-take-le n c.args.values.now (omega (arith, told)));
+            (c.run_job.auto.values ∙ length-take-le n c.args.values.now (omega (arith, told)));
       } }

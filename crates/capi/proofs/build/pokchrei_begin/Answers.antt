@@ -1,0 +1,7 @@
+-- The build that was begun, in its lent parts.
+use mathlib.Core.Path.{◌∙◌}
+use borrow.Author.Rules.{rules}
+use Rattle.capi.proofs.build.pokchrei_begin.Goals as goal
+
+pub returns : goal.returns
+returns c = c.hand_back.ensures ∙ c.begin.ensures

@@ -1,0 +1,26 @@
+-- The end that is handed back in numbers and lent arrays is the end of `run`, which is the definition's. A number that names no evaluation
+-- is refused, and nothing was written but what tells so.
+use borrow.Author.Rules.{rules}
+use Rattle.capi.proofs.ToldLaws.{told_nothing, told_run, run_as_given, input_given}
+use Rattle.capi.proofs.pokchrei_run.Goals as goal
+
+pub returns-in_default : goal.returns-in_default
+returns-in_default c =
+    let none = c.tell_none.ensures in
+    let given = c.evaluation_of-given.ensures in
+    let is = c.in_default.is in
+    record {
+      opened_after = run_as_given given is _ _ (told_nothing none.place_after none.steps_after none.opened_after);
+      input_given = input_given given is _ _ _ tt;
+    }
+
+pub returns : goal.returns
+returns c =
+    let given = c.evaluation_of-given.ensures in
+    let is = c.in-Value.is in
+    let lent = c.lent_state-start.ensures in
+    record {
+      opened_after =
+          run_as_given given is _ _ (told_run c.tell.ensures c.hand_back.ensures c.tell_watch.ensures (rw lent at c.run-end.ensures.values_after));
+      input_given = input_given given is _ _ _ (rw lent at c.run-end.ensures.input);
+    }
