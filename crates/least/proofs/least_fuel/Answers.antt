@@ -1,5 +1,4 @@
 -- `least_fuel` meets its contract: what the run at the cap answers, and the fuel that it needed, are reported. Assumes nothing.
-use borrow.Author.Rules.{rules}
 use Rattle.least.proofs.ReportLaws.{reports}
 use Rattle.least.proofs.least_fuel.Goals as goal
 

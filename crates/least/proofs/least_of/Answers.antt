@@ -1,7 +1,6 @@
 -- `least_of` meets its contract: each answer has its report.
 use Prim.Native.Nat.{ℕ}
 use mathlib.Core.Path.{◌≡◌, sym, ap}
-use borrow.Author.Rules.{rules}
 use Rattle.eval.specs.Config.{outcome}
 use Rattle.eval.specs.declared.answer.Answer.{Answer}
 use Rattle.least.specs.Report.{report_of}

@@ -1,9 +1,5 @@
 -- In each turn the first i operands have been found.
-use mathlib.Core.Path.{◌≡◌}
-use mathlib.Core.Bool.{true}
-use Prim.Native.Nat.{◌-◌, ◌≤◌}
 use native.Mathlib.Omega.{arith}
-use Rattle.numbered.specs.Given.{operands_given}
 use Rattle.numbered.proofs.Given.{none_given, found_none, found_one, all_given}
 use Rattle.numbered.proofs.operands.are_operands.Goals as goal
 

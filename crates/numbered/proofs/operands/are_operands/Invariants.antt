@@ -2,9 +2,7 @@
 use mathlib.Core.Path.{◌≡◌}
 use mathlib.Core.Bool.{true}
 use Prim.Native.Nat.{◌-◌, ◌≤◌}
-use native.Mathlib.Omega.{arith}
 use Rattle.numbered.specs.Given.{operands_given}
-use Rattle.numbered.proofs.Given.{none_given, found_none, found_one, all_given}
 use Rattle.numbered.proofs.operands.are_operands.Given as goal
 
 abbrev pub invariant-loop-i : goal.invariant-loop-i

@@ -1,6 +1,5 @@
 -- The class of the kind byte says it.
 use Rattle.numbered.proofs.Given.{given_operand, given_other}
-use borrow.Author.Rules.{rules}
 use Rattle.numbered.proofs.operands.is_operand.Goals as goal
 
 pub returns-in-Operand : goal.returns-in-Operand

@@ -1,6 +1,5 @@
 -- A comparison where the numbers are one's.
 use Rattle.numbered.proofs.KindsGiven.{gives_no_comparison, given_ocmp, gives_comparison}
-use borrow.Author.Rules.{rules}
 use Rattle.numbered.proofs.values.comparison_of.Goals as goal
 
 pub returns-then-not-is_comparison : goal.returns-then-not-is_comparison

@@ -2,7 +2,6 @@
 use native.Mathlib.Omega.{arith}
 use Rattle.numbered.specs.Given.{operands_of}
 use Rattle.numbered.proofs.KindsGiven.{gives_none, given_kind, ins_range, gives, of_operands, of_both}
-use borrow.Author.Rules.{rules}
 use Rattle.numbered.proofs.values.instruction_of.Goals as goal
 
 pub returns-then-not-is_instruction : goal.returns-then-not-is_instruction

@@ -1,6 +1,5 @@
 -- The class of the kind byte says it, and then the operands are asked.
 use Rattle.numbered.proofs.KindsGiven.{ocmp_is_used, few_ocmp, is_ocmp_given, no_ocmp_given}
-use borrow.Author.Rules.{rules}
 use Rattle.numbered.proofs.values.is_comparison.Goals as goal
 
 pub operand_count-requires : goal.operand_count-requires

@@ -1,6 +1,5 @@
 -- The class of the kind byte says it, and then the operands are asked.
 use Rattle.numbered.proofs.KindsGiven.{ins_used, few_ins, is_ins_given, no_ins_given}
-use borrow.Author.Rules.{rules}
 use Rattle.numbered.proofs.values.is_instruction.Goals as goal
 
 pub operand_count-requires : goal.operand_count-requires
