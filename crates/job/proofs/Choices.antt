@@ -3,14 +3,11 @@ use Prim.Native.Nat.{ℕ, ◌≤◌, ◌<◌}
 use mathlib.Core.Path.{◌≡◌, refl, sym, ap, ◌∙◌}
 use mathlib.Core.Bool.{Bool, true, false, cond}
 use mathlib.Core.List.{List, [], ◌∷◌, ◌++◌, append-nil}
-use types.Run.{OneOf, miss}
-use denote.Enum.Declared.{tag_of}
 use lib.ListN.{get_or}
 use borrow.Author.Tests.{lt-ltb, le-ltb}
 use Rattle.eval.specs.Config.{outcome, config}
 use Rattle.eval.specs.Counted.{ended_of}
 use Rattle.eval.specs.declared.answer.Answer.{Answer}
-use Rattle.eval.specs.contracts.answer.Answer.{the_type}
 use Rattle.eval.specs.declared.answer.Run.{Run}
 use Rattle.eval.specs.declared.answer.Answer.TheVariants.{Done, Fault, Stopped, Spent, Refused}
 use Rattle.job.specs.Text.{decimal, newline, word_done, word_fault, word_stopped, word_spent, word_refused, word_at, name_of, line, numbered_line, first_line, end_lines, is_refused, render}

@@ -1,6 +1,5 @@
 -- The answer's number and place are those of what `check_cells` says, which is the definition's verdict.
 use mathlib.Core.Path.{ap, ◌∙◌}
-use borrow.Author.Rules.{rules}
 use Rattle.capi.specs.Told.{refusal_of}
 use Rattle.capi.proofs.pokchrei_check_cells.Goals as goal
 

@@ -1,7 +1,6 @@
 -- What is handed back in numbers and lent arrays is the report of `least_fuel`, which is the definition's. A number that names no evaluation is
 -- refused, and nothing was written but what tells so.
 use mathlib.Core.Path.{ap}
-use borrow.Author.Rules.{rules}
 use Rattle.capi.specs.Told.{Ending, least_ending}
 use Rattle.capi.proofs.ToldLaws.{told_nothing, told_search, search_as_given, input_given}
 use Rattle.capi.proofs.pokchrei_least_fuel.Goals as goal
@@ -22,7 +21,10 @@ returns c =
     let given = c.evaluation_of-given.ensures in
     let is = c.in-Value.is in
     let lent = c.lent_state-start.ensures in
-    let least = c.tell_least-kind.ensures in record { opened_after = search_as_given given is _ _
-          (told_search least.fuel_after least.place_after c.hand_back.ensures c.tell_watch.ensures
-              (rw lent at c.least_fuel-found.ensures.values_after)); input_given = input_given given is _ _ _
-              (rw lent at c.least_fuel-found.ensures.input) }
+    let least = c.tell_least-kind.ensures in
+    record {
+      opened_after =
+          search_as_given given is _ _ (told_search least.fuel_after least.place_after c.hand_back.ensures c.tell_watch.ensures
+          (rw lent at c.least_fuel-found.ensures.values_after));
+      input_given = input_given given is _ _ _ (rw lent at c.least_fuel-found.ensures.input);
+    }

@@ -1,6 +1,5 @@
 -- The end that is handed back in numbers and lent arrays is the end of `run`, which is the definition's. A number that names no evaluation
 -- is refused, and nothing was written but what tells so.
-use borrow.Author.Rules.{rules}
 use Rattle.capi.proofs.ToldLaws.{told_nothing, told_run, run_as_given, input_given}
 use Rattle.capi.proofs.pokchrei_run.Goals as goal
 

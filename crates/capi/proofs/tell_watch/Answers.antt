@@ -1,7 +1,6 @@
 -- What is open was told, and the mark's numbers are those of its variant.
 use Prim.Native.Nat.{ℕ}
 use mathlib.Core.Path.{◌≡◌, sym, ap, ◌∙◌}
-use borrow.Author.Rules.{rules}
 use Rattle.eval.specs.declared.answer.Mark.{Mark}
 use Rattle.capi.specs.Told.{told_mark}
 use Rattle.capi.proofs.tell_watch.Goals as goal

@@ -1,7 +1,6 @@
 -- Only a true part is followed by another.
 use mathlib.Core.Path.{sym, ◌∙◌}
 use Rattle.builder.proofs.Calling.{close_turned, close_shut}
-use borrow.Author.Rules.{rules}
 use Rattle.builder.proofs.build.closed.Goals as goal
 
 pub returns-then-part-eq-TRUE_PART : goal.returns-then-part-eq-TRUE_PART

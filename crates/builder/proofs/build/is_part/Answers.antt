@@ -1,7 +1,6 @@
 -- Three tests in a row.
 use native.Mathlib.Omega.{arith}
 use Rattle.builder.proofs.Fits.{no_kind, no_start, last_test}
-use borrow.Author.Rules.{rules}
 use Rattle.builder.proofs.build.is_part.Goals as goal
 
 pub returns-then-part-gt-LAST_PART : goal.returns-then-part-gt-LAST_PART

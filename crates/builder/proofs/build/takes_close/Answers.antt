@@ -1,9 +1,7 @@
 -- The innermost part is tested where there is one.
 use native.Mathlib.Omega.{arith}
-use borrow.Author.Tests.{not-true, not-false}
 use lib.Dec.{ltb}
 use Rattle.builder.proofs.Fits.{too_deep, no_part, codes_part, one_part, close_outside, close_inside}
-use borrow.Author.Rules.{rules}
 use Rattle.builder.proofs.build.takes_close.Goals as goal
 
 pub returns-then-build-eq0 : goal.returns-then-build-eq0

@@ -5,7 +5,6 @@ use Rattle.code.proofs.Layouts.{ins_agrees}
 use Rattle.builder.proofs.Judged.{was_taken}
 use Rattle.builder.proofs.Calling.{same_room, add_is, add_fits, taken_as, refused_as, handed_back}
 use Rattle.builder.proofs.Checked.{used_ins, begins, trouble_is}
-use borrow.Author.Rules.{rules}
 use Rattle.builder.proofs.calls.add.Goals as goal
 
 pub trouble_in-trouble-requires : goal.trouble_in-trouble-requires
@@ -35,9 +34,12 @@ returns-then-answer-eq0 c =
     let agrees = ins_agrees c.args.instruction in
     let put = c.put_record-n.ensures in
     let trouble = trouble_is is_ins used_ins given.ensures agrees put.wrote (omega arith) put.record_typed c.trouble_in-trouble.ensures in
-    record { buffer_after = add_is _ _ _ _ _ given.result trouble _ given.ensures put.wrote
-          (taken_as _ _ _ _ appended.value appended.buffer_after c.if-answer-eq0.true c.longer.ensures); call_typed = add_fits _ given.ensures
-              put.record_typed }
+    record {
+      buffer_after =
+          add_is _ _ _ _ _ given.result trouble _ given.ensures put.wrote
+          (taken_as _ _ _ _ appended.value appended.buffer_after c.if-answer-eq0.true c.longer.ensures);
+      call_typed = add_fits _ given.ensures put.record_typed;
+    }
 
 pub returns : goal.returns
 returns c =
@@ -46,6 +48,9 @@ returns c =
     let agrees = ins_agrees c.args.instruction in
     let put = c.put_record-n.ensures in
     let trouble = trouble_is is_ins used_ins given.ensures agrees put.wrote (omega arith) put.record_typed c.trouble_in-trouble.ensures in
-    record { buffer_after = add_is _ _ _ _ _ given.result trouble _ given.ensures put.wrote
-          (handed_back c.refused.ensures (refused_as _ _ _ _ appended.value appended.buffer_after c.if-answer-eq0.false)); call_typed = add_fits _
-              given.ensures put.record_typed }
+    record {
+      buffer_after =
+          add_is _ _ _ _ _ given.result trouble _ given.ensures put.wrote
+          (handed_back c.refused.ensures (refused_as _ _ _ _ appended.value appended.buffer_after c.if-answer-eq0.false));
+      call_typed = add_fits _ given.ensures put.record_typed;
+    }

@@ -19,11 +19,19 @@ pub returns-then-answer-eq0 : goal.returns-then-answer-eq0
 returns-then-answer-eq0 c =
     let args = c.args in
     let stored_at : ℕ → List ℕ = λ at. sets args.buffer.now at (take args.n args.bytes.now) in
-    record { value = same_judge _ _ _ _ _ _ _ _ c.takes_code-fits.ensures (ap (λ (d : ℕ). d + 1) c.wide-depth.ensures)
-          (ap (λ (l : ℕ). l + args.n) c.wide-length.ensures) c.judge-answer.ensures; buffer_after = stored _ _ c.if-answer-eq0.true
-              (c.copy.ensures ∙ ap stored_at c.wide-length.ensures) }
+    record {
+      value =
+          same_judge _ _ _ _ _ _ _ _ c.takes_code-fits.ensures (ap (λ (d : ℕ). d + 1) c.wide-depth.ensures)
+          (ap (λ (l : ℕ). l + args.n) c.wide-length.ensures) c.judge-answer.ensures;
+      buffer_after = stored _ _ c.if-answer-eq0.true (c.copy.ensures ∙ ap stored_at c.wide-length.ensures);
+    }
 
 pub returns-else-answer-eq0 : goal.returns-else-answer-eq0
 returns-else-answer-eq0 c =
-    let args = c.args in record { value = same_judge _ _ _ _ _ _ _ _ c.takes_code-fits.ensures (ap (λ (d : ℕ). d + 1) c.wide-depth.ensures)
-          (ap (λ (l : ℕ). l + args.n) c.wide-length.ensures) c.judge-answer.ensures; buffer_after = not_stored _ _ c.if-answer-eq0.false }
+    let args = c.args in
+    record {
+      value =
+          same_judge _ _ _ _ _ _ _ _ c.takes_code-fits.ensures (ap (λ (d : ℕ). d + 1) c.wide-depth.ensures)
+          (ap (λ (l : ℕ). l + args.n) c.wide-length.ensures) c.judge-answer.ensures;
+      buffer_after = not_stored _ _ c.if-answer-eq0.false;
+    }

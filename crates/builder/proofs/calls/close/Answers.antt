@@ -1,6 +1,5 @@
 -- Judged, counted, and the build after it.
 use Rattle.builder.proofs.Calling.{handed_back, closable, in_limit, close_refused, close_taken}
-use borrow.Author.Rules.{rules}
 use Rattle.builder.proofs.calls.close.Goals as goal
 
 pub returns-then-answer-ne0 : goal.returns-then-answer-ne0

@@ -1,5 +1,4 @@
 -- The tests in their order.
-use borrow.Author.Tests.{not-true, not-false}
 use Rattle.builder.proofs.Judged.{is_51, is_trouble, is_53, is_52, is_52_too, is_taken}
 use Rattle.builder.proofs.calls.judge.Goals as goal
 

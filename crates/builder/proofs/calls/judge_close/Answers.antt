@@ -1,6 +1,5 @@
 -- The judgement of a call that adds no bytes.
 use Rattle.builder.proofs.Calling.{close_refusal}
-use borrow.Author.Rules.{rules}
 use Rattle.builder.proofs.calls.judge_close.Goals as goal
 
 pub returns : goal.returns

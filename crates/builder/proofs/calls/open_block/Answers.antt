@@ -1,6 +1,5 @@
 -- A Block begins with its kind byte and the length 0.
 use Rattle.builder.proofs.Calling.{block_is}
-use borrow.Author.Rules.{rules}
 use Rattle.builder.proofs.calls.open_block.Goals as goal
 
 pub returns : goal.returns

@@ -4,7 +4,6 @@ use Rattle.code.specs.Records.{is_ocmp}
 use Rattle.code.proofs.Layouts.{ocmp_agrees}
 use Rattle.builder.proofs.Calling.{same_room, if_else_is, if_else_fits}
 use Rattle.builder.proofs.Checked.{used_ocmp, begins, trouble_is}
-use borrow.Author.Rules.{rules}
 use Rattle.builder.proofs.calls.open_if_else.Goals as goal
 
 pub trouble_in-trouble-requires : goal.trouble_in-trouble-requires

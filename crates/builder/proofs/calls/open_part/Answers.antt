@@ -2,7 +2,6 @@
 use native.Mathlib.Omega.{arith}
 use Rattle.builder.proofs.Judged.{was_taken}
 use Rattle.builder.proofs.Calling.{taken_as, refused_as, handed_back}
-use borrow.Author.Rules.{rules}
 use Rattle.builder.proofs.calls.open_part.Goals as goal
 
 pub opened-requires : goal.opened-requires

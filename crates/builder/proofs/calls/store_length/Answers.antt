@@ -2,7 +2,6 @@
 use mathlib.Core.Path.{◌∙◌}
 use native.Mathlib.Omega.{arith}
 use Rattle.builder.proofs.Calling.{same_room, close_stored}
-use borrow.Author.Rules.{rules}
 use Rattle.builder.proofs.calls.store_length.Goals as goal
 
 pub slice_bounds-copy-end : goal.slice_bounds-copy-end

@@ -1,6 +1,5 @@
 -- The number of what the reader answers.
 use mathlib.Core.Path.{◌∙◌, ap, sym}
-use borrow.Author.Rules.{rules}
 use Rattle.code.specs.Reached.{reach}
 use Rattle.code.specs.declared.reader.Reach.{Reach}
 use Rattle.builder.specs.Rendered.{trouble_of}

@@ -1,6 +1,5 @@
 -- Each arm makes the record of its own layout.
 use Rattle.builder.proofs.Arms.{ins_arm}
-use borrow.Author.Rules.{rules}
 use Rattle.builder.proofs.record.record_of.Goals as goal
 
 pub returns-in-Mov64 : goal.returns-in-Mov64

@@ -1,6 +1,5 @@
 -- Each arm makes the record of its own layout.
 use Rattle.builder.proofs.Arms.{ocmp_arm}
-use borrow.Author.Rules.{rules}
 use Rattle.builder.proofs.record.record_of_ocmp.Goals as goal
 
 pub returns-in-OEq : goal.returns-in-OEq

@@ -1,8 +1,6 @@
 -- In each turn the first i bytes are copied.
-use mathlib.Core.Path.{◌≡◌}
-use Prim.Native.Nat.{◌-◌, ◌≤◌}
 use native.Mathlib.Omega.{arith}
-use lib.Seq.{paste, paste-zero}
+use lib.Seq.{paste-zero}
 use Rattle.builder.proofs.Writing.{copied_more, copied_room, copied}
 use Rattle.builder.proofs.write.copy.Goals as goal
 

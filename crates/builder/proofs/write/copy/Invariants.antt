@@ -1,9 +1,7 @@
 -- In each turn the first i bytes are copied.
 use mathlib.Core.Path.{◌≡◌}
 use Prim.Native.Nat.{◌-◌, ◌≤◌}
-use native.Mathlib.Omega.{arith}
-use lib.Seq.{paste, paste-zero}
-use Rattle.builder.proofs.Writing.{copied_more, copied_room, copied}
+use lib.Seq.{paste}
 use Rattle.builder.proofs.write.copy.Given as goal
 
 abbrev pub invariant-loop-i : goal.invariant-loop-i

@@ -9,7 +9,6 @@ use Rattle.builder.specs.declared.record.Body.{Body}
 use Rattle.builder.specs.Calls.{ByteTyped}
 use Rattle.builder.specs.Rendered.{body_of}
 use Rattle.builder.proofs.Writing.{◌▸◌, spelled, wrote_none}
-use borrow.Author.Rules.{rules}
 use Rattle.builder.proofs.write.put_body.Goals as goal
 
 abbrev bytes_of_body : Body → List ℕ
@@ -41,7 +40,9 @@ pub returns-in-XmmsAmount : goal.returns-in-XmmsAmount
 unfolding ByteTyped
 returns-in-XmmsAmount c =
     let is = c.in-XmmsAmount.is in
-    let fits = c.in
-    -XmmsAmount.known_told-in-XmmsAmount-1-own.given in record
-        { wrote = spelled (omega arith) (sym (ap bytes_of_body is)) (c.put_two-next.ensures ▸ c.put_byte.ensures); all = subst⁻¹ BodyTyped is
-        (fits.0.1, (fits.1.0.1, fits.1.1.0.1)) }
+    let fits = c.in-XmmsAmount.known_told-in-XmmsAmount-1-own.given in
+    record {
+      wrote = spelled (omega arith) (sym (ap bytes_of_body is)) (c.put_two-next.ensures ▸ c.put_byte.ensures);
+      all = subst⁻¹ BodyTyped is
+          (fits.0.1, (fits.1.0.1, fits.1.1.0.1));
+    }

@@ -1,12 +1,6 @@
 -- In each turn the bytes that are left to write, of what is left of the number, make the whole.
-use mathlib.Core.Path.{◌≡◌, refl, ◌∙◌, ap}
-use Prim.Native.Nat.{ℕ, ◌+◌, ◌-◌, ◌≤◌}
-use mathlib.Core.List.{List, []}
+use mathlib.Core.Path.{◌∙◌}
 use native.Mathlib.Omega.{arith}
-use native.Mathlib.Nat.{add-zero}
-use lib.ListN.{length}
-use lib.Seq.{sets}
-use Rattle.code.specs.Writer.{bytes_of}
 use Rattle.builder.proofs.Writing.{number_begun, number_step, number_done}
 use Rattle.builder.proofs.write.put_number.Goals as goal
 

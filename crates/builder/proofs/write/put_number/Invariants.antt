@@ -1,13 +1,8 @@
 -- In each turn the bytes that are left to write, of what is left of the number, make the whole.
-use mathlib.Core.Path.{◌≡◌, refl, ◌∙◌, ap}
-use Prim.Native.Nat.{ℕ, ◌+◌, ◌-◌, ◌≤◌}
-use mathlib.Core.List.{List, []}
-use native.Mathlib.Omega.{arith}
-use native.Mathlib.Nat.{add-zero}
-use lib.ListN.{length}
+use mathlib.Core.Path.{◌≡◌}
+use Prim.Native.Nat.{◌+◌, ◌-◌, ◌≤◌}
 use lib.Seq.{sets}
 use Rattle.code.specs.Writer.{bytes_of}
-use Rattle.builder.proofs.Writing.{number_begun, number_step, number_done}
 use Rattle.builder.proofs.write.put_number.Given as goal
 
 abbrev pub invariant-loop-i : goal.invariant-loop-i

@@ -1,7 +1,6 @@
 -- The bytes of the complement are the signed ones.
 use native.Mathlib.Omega.{arith}
 use Rattle.builder.proofs.Writing.{spelled, offset_fits, offset_bytes}
-use borrow.Author.Rules.{rules}
 use Rattle.builder.proofs.write.put_offset.Goals as goal
 
 pub unsigned-requires : goal.unsigned-requires

@@ -10,7 +10,6 @@ use Rattle.builder.specs.Calls.{OperandTyped}
 use Rattle.builder.specs.Rendered.{operands_of}
 use Rattle.builder.proofs.Writing.{◌▸◌, spelled, wrote_none}
 use Rattle.builder.proofs.Records.{one_operand, two_operands, three_operands}
-use borrow.Author.Rules.{rules}
 use Rattle.builder.proofs.write.put_operands.Goals as goal
 
 abbrev bytes_of_all : Operands → List ℕ
@@ -46,6 +45,8 @@ returns-in-Three c =
     let is = c.in-Three.is in
     let a = c.put_operand-next-in-Three.ensures in
     let b = c.put_operand-next-in-Three-2.ensures in
-    let d = c.put_operand-in
-    -Three.ensures in record { wrote = spelled (omega arith) (three_operands _ _ _ ∙ sym (ap bytes_of_all is)) (a.wrote ▸ b.wrote ▸ d.wrote); all =
-        subst⁻¹ AllTyped is (a.operand_typed, (b.operand_typed, d.operand_typed)) }
+    let d = c.put_operand-in-Three.ensures in
+    record {
+      wrote = spelled (omega arith) (three_operands _ _ _ ∙ sym (ap bytes_of_all is)) (a.wrote ▸ b.wrote ▸ d.wrote);
+      all = subst⁻¹ AllTyped is (a.operand_typed, (b.operand_typed, d.operand_typed));
+    }

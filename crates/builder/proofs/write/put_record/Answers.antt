@@ -2,7 +2,6 @@
 use Rattle.code.specs.Writer.{bytes_of_record}
 use Rattle.builder.proofs.Writing.{◌▸◌}
 use Rattle.builder.proofs.Records.{record_fits}
-use borrow.Author.Rules.{rules}
 use Rattle.builder.proofs.write.put_record.Goals as goal
 
 pub returns : goal.returns

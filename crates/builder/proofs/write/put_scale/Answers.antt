@@ -1,7 +1,6 @@
 -- The same of two bytes: a scale of 16 bits is one of 64.
 use native.Mathlib.Omega.{arith}
 use Rattle.builder.proofs.Writing.{spelled, scale_widens, scale_fits, scale_bytes}
-use borrow.Author.Rules.{rules}
 use Rattle.builder.proofs.write.put_scale.Goals as goal
 
 pub overflow_cast-scale : goal.overflow_cast-scale

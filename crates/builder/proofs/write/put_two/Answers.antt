@@ -1,5 +1,4 @@
 -- One byte, then the other.
-use borrow.Author.Rules.{rules}
 use Rattle.builder.proofs.Writing.{◌▸◌}
 use Rattle.builder.proofs.write.put_two.Goals as goal
 

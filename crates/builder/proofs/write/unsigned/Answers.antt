@@ -1,5 +1,4 @@
 -- A number below 0 is one less than its magnitude from `most` down; another is its magnitude.
-use borrow.Author.Rules.{rules}
 use Rattle.builder.proofs.Writing.{one_at_least, within_most, complement_below, complement_from}
 use Rattle.builder.proofs.write.unsigned.Goals as goal
 

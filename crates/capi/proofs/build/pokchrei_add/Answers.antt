@@ -3,7 +3,6 @@ use mathlib.Core.Path.{ap, ◌∙◌}
 use Rattle.builder.specs.Calls.{add}
 use Rattle.numbered.specs.Values.{instruction_given}
 use Rattle.capi.proofs.Handed.{handed, from, added, not_added, instruction_fits, no_instruction_fits}
-use borrow.Author.Rules.{rules}
 use Rattle.capi.proofs.build.pokchrei_add.Goals as goal
 
 pub returns-in_default : goal.returns-in_default
@@ -14,7 +13,8 @@ returns-in_default c =
 pub returns : goal.returns
 returns c =
     let given = c.instruction_of-value.ensures ∙ ap instruction_given c.lent_numbers-given.ensures in
-    let is = c.in
-    -Value.is in record { buffer_after = added _ _ given is
-        (from (add _) _ c.lent_build-build.ensures (handed c.hand_back.ensures c.add-built.ensures.buffer_after)); instruction_typed =
-        instruction_fits given is c.add-built.ensures.call_typed }
+    let is = c.in-Value.is in
+    record {
+      buffer_after = added _ _ given is (from (add _) _ c.lent_build-build.ensures (handed c.hand_back.ensures c.add-built.ensures.buffer_after));
+      instruction_typed = instruction_fits given is c.add-built.ensures.call_typed;
+    }

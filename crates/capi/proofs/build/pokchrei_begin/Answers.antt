@@ -1,6 +1,5 @@
 -- The build that was begun, in its lent parts.
 use mathlib.Core.Path.{◌∙◌}
-use borrow.Author.Rules.{rules}
 use Rattle.capi.proofs.build.pokchrei_begin.Goals as goal
 
 pub returns : goal.returns

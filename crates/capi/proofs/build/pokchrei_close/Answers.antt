@@ -1,7 +1,6 @@
 -- The call, and its build in the lent parts.
 use Rattle.builder.specs.Calls.{close}
 use Rattle.capi.proofs.Handed.{handed, from}
-use borrow.Author.Rules.{rules}
 use Rattle.capi.proofs.build.pokchrei_close.Goals as goal
 
 pub returns : goal.returns

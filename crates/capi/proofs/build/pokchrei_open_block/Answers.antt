@@ -1,7 +1,6 @@
 -- The call, and its build in the lent parts.
 use Rattle.builder.specs.Calls.{open_block}
 use Rattle.capi.proofs.Handed.{handed, from}
-use borrow.Author.Rules.{rules}
 use Rattle.capi.proofs.build.pokchrei_open_block.Goals as goal
 
 pub returns : goal.returns

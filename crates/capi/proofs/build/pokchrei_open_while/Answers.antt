@@ -3,7 +3,6 @@ use mathlib.Core.Path.{ap, ◌∙◌}
 use Rattle.builder.specs.Calls.{open_while}
 use Rattle.numbered.specs.Values.{comparison_given}
 use Rattle.capi.proofs.Handed.{handed, from, while_opened, while_not_opened, while_fits, no_comparison_fits}
-use borrow.Author.Rules.{rules}
 use Rattle.capi.proofs.build.pokchrei_open_while.Goals as goal
 
 pub returns-in_default : goal.returns-in_default
@@ -14,7 +13,10 @@ returns-in_default c =
 pub returns : goal.returns
 returns c =
     let given = c.comparison_of-value.ensures ∙ ap comparison_given c.lent_numbers-given.ensures in
-    let is = c.in
-    -Value.is in record { buffer_after = while_opened _ _ given is
-        (from (open_while _) _ c.lent_build-build.ensures (handed c.hand_back.ensures c.open_while-built.ensures.buffer_after)); comparison_typed =
-        while_fits given is c.open_while-built.ensures.call_typed }
+    let is = c.in-Value.is in
+    record {
+      buffer_after =
+          while_opened _ _ given is (from (open_while _) _ c.lent_build-build.ensures
+          (handed c.hand_back.ensures c.open_while-built.ensures.buffer_after));
+      comparison_typed = while_fits given is c.open_while-built.ensures.call_typed;
+    }

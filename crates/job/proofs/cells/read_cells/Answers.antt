@@ -2,7 +2,6 @@
 use Prim.Native.Nat.{ℕ}
 use mathlib.Core.Path.{ap, ◌∙◌}
 use Rattle.job.specs.Job.{numbers}
-use borrow.Author.Rules.{rules}
 use Rattle.job.proofs.cells.read_cells.Goals as goal
 
 pub returns : goal.returns

@@ -2,7 +2,6 @@
 use native.Mathlib.Omega.{arith}
 use Rattle.job.proofs.Writing.{◌▸◌, spelled, looser}
 use Rattle.job.proofs.Choices.{line_done, line_fault, line_stopped, line_spent, line_refused}
-use borrow.Author.Rules.{rules}
 use Rattle.job.proofs.lines.put_answer.Goals as goal
 
 pub returns-in-Done : goal.returns-in-Done

@@ -1,6 +1,5 @@
 -- The word, the three fields and the end of the line follow each other.
 use Rattle.job.proofs.Writing.{◌▸◌}
-use borrow.Author.Rules.{rules}
 use Rattle.job.proofs.lines.put_cell.Goals as goal
 
 pub returns : goal.returns

@@ -1,11 +1,7 @@
 -- In each turn the cells from i on are left to print.
-use Prim.Native.Nat.{◌+◌, ◌*◌, ◌-◌, ◌≤◌}
 use native.Mathlib.Omega.{arith}
-use borrow.Author.Rules.{rules}
-use lib.ListN.{length}
-use Rattle.job.specs.Text.{cell_lines}
-use Rattle.job.proofs.Writing.{Left, left_all, left_less, left_none}
-use Rattle.job.proofs.Rests.{cells_from, cells_rest, cells_none}
+use Rattle.job.proofs.Writing.{left_all, left_less, left_none}
+use Rattle.job.proofs.Rests.{cells_rest, cells_none}
 use Rattle.job.proofs.lines.put_cells.Goals as goal
 
 pub loop-i-init : goal.loop-i-init

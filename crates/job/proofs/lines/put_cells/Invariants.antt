@@ -1,11 +1,9 @@
 -- In each turn the cells from i on are left to print.
 use Prim.Native.Nat.{◌+◌, ◌*◌, ◌-◌, ◌≤◌}
-use native.Mathlib.Omega.{arith}
-use borrow.Author.Rules.{rules}
 use lib.ListN.{length}
 use Rattle.job.specs.Text.{cell_lines}
-use Rattle.job.proofs.Writing.{Left, left_all, left_less, left_none}
-use Rattle.job.proofs.Rests.{cells_from, cells_rest, cells_none}
+use Rattle.job.proofs.Writing.{Left}
+use Rattle.job.proofs.Rests.{cells_from}
 use Rattle.job.proofs.lines.put_cells.Given as goal
 
 abbrev pub invariant-loop-i : goal.invariant-loop-i

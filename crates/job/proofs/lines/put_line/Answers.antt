@@ -1,7 +1,6 @@
 -- The word, the field and the end of the line follow each other.
 use Rattle.job.proofs.Writing.{◌▸◌, looser}
 use native.Mathlib.Omega.{arith}
-use borrow.Author.Rules.{rules}
 use Rattle.job.proofs.lines.put_line.Goals as goal
 
 pub returns : goal.returns

@@ -2,7 +2,6 @@
 use native.Mathlib.Omega.{arith}
 use Rattle.job.proofs.Writing.{◌▸◌, spelled, looser}
 use Rattle.job.proofs.Choices.{name_short, name_long}
-use borrow.Author.Rules.{rules}
 use Rattle.job.proofs.lines.put_name.Goals as goal
 
 pub returns-then-i-lt8 : goal.returns-then-i-lt8

@@ -1,7 +1,6 @@
 -- The word, the number, and the place to the end of the line.
 use native.Mathlib.Omega.{arith}
 use Rattle.job.proofs.Writing.{◌▸◌, looser}
-use borrow.Author.Rules.{rules}
 use Rattle.job.proofs.lines.put_numbered.Goals as goal
 
 pub returns : goal.returns

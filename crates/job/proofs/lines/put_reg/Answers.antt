@@ -3,7 +3,6 @@ use native.Mathlib.Omega.{arith}
 use borrow.Author.Tests.{eq-eqb, ne_eqb}
 use Rattle.job.proofs.Writing.{◌▸◌, spelled, looser, wrote_none}
 use Rattle.job.proofs.Choices.{when_true, when_false}
-use borrow.Author.Rules.{rules}
 use Rattle.job.proofs.lines.put_reg.Goals as goal
 
 pub returns-then-value-eq0 : goal.returns-then-value-eq0

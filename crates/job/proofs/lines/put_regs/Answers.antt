@@ -1,11 +1,7 @@
 -- In each turn the registers from i on are left to print.
-use Prim.Native.Nat.{◌+◌, ◌*◌, ◌-◌, ◌≤◌}
-use mathlib.Core.Path.{◌≡◌}
 use native.Mathlib.Omega.{arith}
 use borrow.Author.Rules.{rules}
-use lib.ListN.{drop, length}
-use Rattle.job.specs.Text.{reg_lines}
-use Rattle.job.proofs.Writing.{Left, left_all, left_less, left_none}
+use Rattle.job.proofs.Writing.{left_all, left_less, left_none}
 use Rattle.job.proofs.Rests.{regs_rest, regs_none}
 use Rattle.job.proofs.lines.put_regs.Goals as goal
 

@@ -3,7 +3,6 @@ use mathlib.Core.Path.{sym, ◌∙◌}
 use native.Mathlib.Omega.{arith}
 use Rattle.job.proofs.Writing.{◌▸◌, spelled, looser, wrote_none}
 use Rattle.job.proofs.Choices.{when_true, when_false}
-use borrow.Author.Rules.{rules}
 use Rattle.job.proofs.lines.put_xmm.Goals as goal
 
 pub returns-then-is_zero : goal.returns-then-is_zero

@@ -1,8 +1,6 @@
 -- In each turn the xmm from i on are left to print. The numbers of an xmm's words stay below 64.
-use Prim.Native.Nat.{◌+◌, ◌*◌, ◌-◌, ◌≤◌}
 use native.Mathlib.Omega.{arith}
-use Rattle.job.specs.Text.{xmm_lines}
-use Rattle.job.proofs.Writing.{Left, left_all, left_less, left_none}
+use Rattle.job.proofs.Writing.{left_all, left_less, left_none}
 use Rattle.job.proofs.Rests.{xmms_rest, xmms_none}
 use Rattle.job.proofs.lines.put_xmms.Goals as goal
 
@@ -55,12 +53,11 @@ pub loop-i-smaller : goal.loop-i-smaller
 loop-i-smaller c = omega arith
 
 pub loop-i-preserved : goal.loop-i-preserved
-loop-i-preserved c =
-    (
-      omega arith,
-      omega arith,
-      left_less _ _ (xmms_rest c.args.xmms.now c.loop-i.i (omega arith)) c.loop-i.invariant.2 c.put_xmm-next.ensures,
-    )
+loop-i-preserved c = (
+  omega arith,
+  omega arith,
+  left_less _ _ (xmms_rest c.args.xmms.now c.loop-i.i (omega arith)) c.loop-i.invariant.2 c.put_xmm-next.ensures,
+)
 
 pub returns : goal.returns
 returns c =

@@ -1,9 +1,7 @@
 -- In each turn the xmm from i on are left to print. The numbers of an xmm's words stay below 64.
 use Prim.Native.Nat.{◌+◌, ◌*◌, ◌-◌, ◌≤◌}
-use native.Mathlib.Omega.{arith}
 use Rattle.job.specs.Text.{xmm_lines}
-use Rattle.job.proofs.Writing.{Left, left_all, left_less, left_none}
-use Rattle.job.proofs.Rests.{xmms_rest, xmms_none}
+use Rattle.job.proofs.Writing.{Left}
 use Rattle.job.proofs.lines.put_xmms.Given as goal
 
 abbrev pub invariant-loop-i : goal.invariant-loop-i

@@ -5,7 +5,6 @@ use native.Mathlib.Omega.{arith}
 use lib.ListN.{length}
 use Rattle.job.specs.Job.{count_of, code_at}
 use Rattle.job.proofs.Checking.{too_long, too_short, too_many, cut_short, all_there}
-use borrow.Author.Rules.{rules}
 use Rattle.job.proofs.read.check_job.Goals as goal
 
 pub returns-then-n-gt34198 : goal.returns-then-n-gt34198

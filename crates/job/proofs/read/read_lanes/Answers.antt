@@ -1,9 +1,6 @@
 -- In each turn the first i words are read.
-use Prim.Native.Nat.{◌-◌}
 use native.Mathlib.Omega.{arith}
-use borrow.Author.Rules.{rules}
-use lib.ListN.{length}
-use Rattle.job.proofs.Numbers.{Taken, taken_none, taken_more, taken_all}
+use Rattle.job.proofs.Numbers.{taken_none, taken_more, taken_all}
 use Rattle.job.proofs.read.read_lanes.Goals as goal
 
 pub loop-i-init : goal.loop-i-init

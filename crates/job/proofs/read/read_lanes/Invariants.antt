@@ -1,9 +1,7 @@
 -- In each turn the first i words are read.
 use Prim.Native.Nat.{◌-◌}
-use native.Mathlib.Omega.{arith}
-use borrow.Author.Rules.{rules}
 use lib.ListN.{length}
-use Rattle.job.proofs.Numbers.{Taken, taken_none, taken_more, taken_all}
+use Rattle.job.proofs.Numbers.{Taken}
 use Rattle.job.proofs.read.read_lanes.Given as goal
 
 abbrev pub invariant-loop-i : goal.invariant-loop-i

@@ -1,9 +1,8 @@
 -- In each turn the first i tags are read.
-use Prim.Native.Nat.{◌+◌, ◌*◌, ◌-◌}
+use Prim.Native.Nat.{◌+◌, ◌*◌}
 use mathlib.Core.Path.{sym}
 use native.Mathlib.Omega.{arith}
-use lib.ListN.{length}
-use Rattle.job.proofs.Numbers.{Taken, taken_none, taken_more, taken_all}
+use Rattle.job.proofs.Numbers.{taken_none, taken_more, taken_all}
 use Rattle.code.proofs.NumberLaws.{one_byte}
 use Rattle.job.proofs.read.read_tags.Goals as goal
 

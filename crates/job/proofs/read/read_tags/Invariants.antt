@@ -1,10 +1,7 @@
 -- In each turn the first i tags are read.
-use Prim.Native.Nat.{◌+◌, ◌*◌, ◌-◌}
-use mathlib.Core.Path.{sym}
-use native.Mathlib.Omega.{arith}
+use Prim.Native.Nat.{◌-◌}
 use lib.ListN.{length}
-use Rattle.job.proofs.Numbers.{Taken, taken_none, taken_more, taken_all}
-use Rattle.code.proofs.NumberLaws.{one_byte}
+use Rattle.job.proofs.Numbers.{Taken}
 use Rattle.job.proofs.read.read_tags.Given as goal
 
 abbrev pub invariant-loop-i : goal.invariant-loop-i

@@ -1,10 +1,9 @@
 -- In each turn the first i numbers are read, and the next one stands i strides behind the first.
-use Prim.Native.Nat.{◌+◌, ◌*◌, ◌-◌, ◌<◌}
-use mathlib.Core.Path.{◌≡◌, ap, ◌∙◌}
+use Prim.Native.Nat.{◌<◌}
+use mathlib.Core.Path.{ap, ◌∙◌}
 use native.Mathlib.Omega.{arith}
-use borrow.Author.Rules.{rules}
 use lib.ListN.{length}
-use Rattle.job.proofs.Numbers.{Taken, taken_none, taken_more, taken_all, strides_more, strides_within}
+use Rattle.job.proofs.Numbers.{taken_none, taken_more, taken_all, strides_more, strides_within}
 use Rattle.code.specs.Records.{number_at}
 use Rattle.job.proofs.read.read_words.Goals as goal
 

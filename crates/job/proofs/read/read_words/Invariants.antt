@@ -1,11 +1,8 @@
 -- In each turn the first i numbers are read, and the next one stands i strides behind the first.
-use Prim.Native.Nat.{◌+◌, ◌*◌, ◌-◌, ◌<◌}
-use mathlib.Core.Path.{◌≡◌, ap, ◌∙◌}
-use native.Mathlib.Omega.{arith}
-use borrow.Author.Rules.{rules}
+use Prim.Native.Nat.{◌+◌, ◌*◌, ◌-◌}
+use mathlib.Core.Path.{◌≡◌}
 use lib.ListN.{length}
-use Rattle.job.proofs.Numbers.{Taken, taken_none, taken_more, taken_all, strides_more, strides_within}
-use Rattle.code.specs.Records.{number_at}
+use Rattle.job.proofs.Numbers.{Taken}
 use Rattle.job.proofs.read.read_words.Given as goal
 
 abbrev pub invariant-loop-i : goal.invariant-loop-i

@@ -3,7 +3,6 @@ use Prim.Native.Nat.{◌+◌, ◌*◌, ◌≤◌}
 use lib.ListN.{length}
 use native.Mathlib.Omega.{arith}
 use Rattle.job.proofs.Writing.{◌▸◌, looser}
-use borrow.Author.Rules.{rules}
 use Rattle.job.proofs.render.put_end.Goals as goal
 
 pub returns : goal.returns

@@ -2,7 +2,6 @@
 use native.Mathlib.Omega.{arith}
 use Rattle.job.proofs.Writing.{◌▸◌, spelled, looser}
 use Rattle.job.proofs.Choices.{print_refused, print_lines, not_refused}
-use borrow.Author.Rules.{rules}
 use Rattle.job.proofs.render.render.Goals as goal
 
 pub returns-in-Refused : goal.returns-in-Refused

@@ -1,5 +1,4 @@
 -- `put_field` writes a space and then the number.
-use borrow.Author.Rules.{rules}
 use Rattle.job.proofs.Writing.{◌▸◌}
 use Rattle.job.proofs.text.put_field.Goals as goal
 

@@ -1,7 +1,6 @@
 -- A tag is below 1,000, so that it has three digits at most.
 use Prim.Native.Nat.{◌<◌}
 use native.Mathlib.Omega.{arith}
-use borrow.Author.Rules.{rules}
 use Rattle.job.proofs.Writing.{counted}
 use Rattle.job.proofs.Digits.{length_digits}
 use Rattle.job.proofs.text.put_tag.Goals as goal

@@ -1,9 +1,6 @@
 -- `put_word` copies from the front: in each turn the first i bytes of the word stand in the buffer.
-use mathlib.Core.Path.{◌≡◌, refl}
-use Prim.Native.Nat.{◌≤◌, ◌-◌}
+use mathlib.Core.Path.{refl}
 use native.Mathlib.Omega.{arith}
-use lib.ListN.{length, take}
-use lib.Seq.{sets}
 use Rattle.job.proofs.Writing.{sets_more, wrote_all}
 use Rattle.job.proofs.text.put_word.Goals as goal
 

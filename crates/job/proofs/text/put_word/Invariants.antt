@@ -1,10 +1,8 @@
 -- `put_word` copies from the front: in each turn the first i bytes of the word stand in the buffer.
-use mathlib.Core.Path.{◌≡◌, refl}
+use mathlib.Core.Path.{◌≡◌}
 use Prim.Native.Nat.{◌≤◌, ◌-◌}
-use native.Mathlib.Omega.{arith}
 use lib.ListN.{length, take}
 use lib.Seq.{sets}
-use Rattle.job.proofs.Writing.{sets_more, wrote_all}
 use Rattle.job.proofs.text.put_word.Given as goal
 
 abbrev pub invariant-loop-i : goal.invariant-loop-i

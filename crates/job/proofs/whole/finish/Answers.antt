@@ -6,7 +6,6 @@ use Rattle.eval.specs.Counted.{Ended}
 use Rattle.job.specs.Job.{count_of, code_at}
 use Rattle.job.proofs.Writing.{spelled}
 use Rattle.job.proofs.Outputs.{length_read, behind_cells, ran, render_run}
-use borrow.Author.Rules.{rules}
 use Rattle.job.proofs.whole.finish.Goals as goal
 
 pub render-requires : goal.render-requires

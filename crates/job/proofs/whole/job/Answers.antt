@@ -7,7 +7,6 @@ use Rattle.job.proofs.Writing.{spelled}
 use Rattle.job.proofs.Checking.{complete}
 use Rattle.job.proofs.Outputs.{printed_whole, output_refused, output_run, lent_none}
 use Rattle.job.proofs.Inputs.{job_input}
-use borrow.Author.Rules.{rules}
 use Rattle.job.proofs.whole.job.Goals as goal
 
 pub run_cells-requires : goal.run_cells-requires
@@ -20,13 +19,17 @@ pub returns-in-Refused : goal.returns-in-Refused
 returns-in-Refused c =
     let known = c.shared_slice_known-1 in
     let bs = c.args.input.now in
-    let refused = sym c.check_job-checked.ensures ∙ ap verdict c.in
-    -Refused.is in record { printed = printed_whole (spelled (output_refused bs refused) c.put_answer.ensures) (omega arith) c.size.ensures.1;
-        lists = record {
-          of_addresses = lent_none bs _ c.args.addresses.now refused;
-          of_tags = lent_none bs _ c.args.tags.now refused;
-          of_values = lent_none bs _ c.args.values.now refused;
-        }; input = job_input bs (λ i. omega (arith, known.given i)) }
+    let refused = sym c.check_job-checked.ensures ∙ ap verdict c.in-Refused.is in
+    record {
+      printed = printed_whole (spelled (output_refused bs refused) c.put_answer.ensures) (omega arith) c.size.ensures.1;
+      lists =
+          record {
+            of_addresses = lent_none bs _ c.args.addresses.now refused;
+            of_tags = lent_none bs _ c.args.tags.now refused;
+            of_values = lent_none bs _ c.args.values.now refused;
+          };
+      input = job_input bs (λ i. omega (arith, known.given i));
+    }
 
 pub returns-in-Accepted : goal.returns-in-Accepted
 returns-in-Accepted c =
