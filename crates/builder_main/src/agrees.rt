@@ -6,21 +6,11 @@ ghost use Rattle.builder_main.specs.Made.{made};
 use crate::given::{Given, make};
 use builder::{Build, Built};
 
-// `check::same` for the places of a build.
+// `==` for the places of a build.
 fn same_places(a: &[u16], b: &[u16]) -> bool
     ensures { (result ≡ true → a.now ≡ b.now) × (a.now ≡ b.now → result ≡ true) }
 {
-    if a.len() != b.len() {
-        return false;
-    }
-    let mut i = 0;
-    while i < a.len() {
-        if a[i] != b[i] {
-            return false;
-        }
-        i += 1;
-    }
-    true
+    a == b
 }
 
 fn same_open(a: Build, b: Build) -> bool
@@ -48,7 +38,7 @@ fn same_build(a: Build, b: Build) -> bool
     }
     let parts = a.parts;
     let other_parts = b.parts;
-    if !check::same(&parts, &other_parts) {
+    if parts != other_parts {
         return false;
     }
     same_open(a, b)
@@ -68,5 +58,5 @@ pub fn agrees(given: Given, build: Build, buffer: &mut [u8], stored: Built, afte
     if !same_build(got_build, stored_build) {
         return false;
     }
-    check::same(buffer, after)
+    &*buffer == after
 }

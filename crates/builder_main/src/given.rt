@@ -59,6 +59,7 @@ fn add_of(instruction: GivenInstruction) -> Given
     }
 }
 
+#[tactic(auto, unfolding(crate::specs::Made::given_of))]
 pub fn given_of(kind: u8, numbers: Numbers) -> Given
     ensures { result ≡ given_of kind numbers }
 {
@@ -73,6 +74,7 @@ pub fn given_of(kind: u8, numbers: Numbers) -> Given
 }
 
 // What is no value is answered as the C interface does.
+#[tactic(auto, unfolding(crate::specs::Made::made))]
 pub fn make(given: Given, build: Build, buffer: &mut [u8]) -> Built
     ensures { left result buffer.new ≡ made given build buffer.old }
 {

@@ -12,6 +12,10 @@ mod tally;
 use agrees::agrees;
 use builder::{Build, Built};
 use given::{CLOSE, given_of};
+use std::fs::File;
+use std::io;
+use std::io::Read;
+use std::rt::Files;
 use step::{Step, count, lent, next_build, numbers, place, read_step};
 use store::{fill, store};
 use tally::{Tally, counted, none_yet, tell};
@@ -71,46 +75,49 @@ fn ended(trial: Trial) -> Trial {
 }
 
 // A file ends where no whole step is left; one that lends more than there is ends it too.
-fn try_next(fd: i32, trial: Trial, buffer: &mut [u8], after: &mut [u8]) -> Trial {
-    let step = read_step(fd);
+fn try_next(
+    file: &mut impl Read,
+    trial: Trial,
+    buffer: &mut [u8],
+    after: &mut [u8],
+) -> io::Result<Trial> {
+    let step = read_step(file)?;
     let head = step.head;
     let n = lent(&head);
     if !step.whole {
-        return ended(trial);
+        return Ok(ended(trial));
     }
     if n > buffer.len() {
-        return ended(trial);
+        return Ok(ended(trial));
     }
     if n > after.len() {
-        return ended(trial);
+        return Ok(ended(trial));
     }
-    try_step(step, trial, &mut buffer[..n], &mut after[..n])
+    Ok(try_step(step, trial, &mut buffer[..n], &mut after[..n]))
 }
 
-fn try_all(fd: i32) -> Tally {
+fn try_all(file: &mut impl Read) -> io::Result<Tally> {
     // More bytes than any list lends.
     let mut buffer = [0u8; 65_600];
     let mut after = [0u8; 65_600];
     let mut trial = going_on(builder::begin(), none_yet());
     let mut left = MOST;
     while left > 0 && trial.more {
-        trial = try_next(fd, trial, &mut buffer, &mut after);
+        trial = try_next(file, trial, &mut buffer, &mut after)?;
         left -= 1;
     }
-    trial.tally
+    Ok(trial.tally)
 }
 
-fn try_file(name: &[u8]) {
-    let fd = os::open_read(name);
-    if fd < 0 {
-        os::fail(name);
-        return;
-    }
-    tell(name, try_all(fd));
-    libc::close(fd);
+fn try_file<R: Files + Print + Eprint>(rt: &R, name: &str) -> io::Result<()> {
+    let mut file = match File::open(rt, name) {
+        Ok(file) => file,
+        Err(e) => return eprintln!(rt; "{name}: {e}"),
+    };
+    tell(rt, name, try_all(&mut file)?)
 }
 
-fn main() {
-    try_file(b"systematic");
-    try_file(b"random");
+fn main(rt: HostRuntime) -> io::Result<()> {
+    try_file(&rt, "systematic")?;
+    try_file(&rt, "random")
 }

@@ -1,11 +1,14 @@
 // The steps of a stored file. A step is a head of 21 bytes; the record's 67 bytes, where its kind is that of a call that
 // is given one; and as many bytes of the buffer as the head's last byte says. Numbers have their low byte first.
 ghost use Rattle.std.specs.Prelude.{◌+◌, ◌^◌, ◌<◌, ◌≤◌, length};
+ghost use Rattle.std.specs.Io.{ReadsAtMost};
 
 use crate::given::{ADD, BEGIN, OPEN_IF_ELSE};
 use builder::Build;
 use code::{number2, number4, number8};
 use numbered::Numbers;
+use std::io;
+use std::io::Read;
 
 // Head: kind, lent length (4 bytes), answer, length (2), depth (2), index of an open part, its kind, field (2), start (2),
 // place in the buffer (4), count of the bytes that stand there.
@@ -29,24 +32,39 @@ fn short(bytes: &[u8], at: usize) -> u16
     number2(bytes, at) as u16
 }
 
+// Reads until buf is full or the file ends, and returns how many bytes it put at the start of buf.
+fn read_full(file: &mut impl Read, buf: &mut [u8]) -> io::Result<usize>
+    ensures { ReadsAtMost result buf.new }
+{
+    let mut done = 0;
+    while done < buf.len() {
+        let n = file.read(&mut buf[done..])?;
+        if n == 0 {
+            break;
+        }
+        done += n;
+    }
+    Ok(done)
+}
+
 // Where the file has ended, a step that is not whole.
-pub fn read_step(fd: i32) -> Step {
+pub fn read_step(file: &mut impl Read) -> io::Result<Step> {
     let mut head = [0u8; 21];
     let mut record = [0u8; 67];
     let mut bytes = [0u8; 255];
-    let got = io::read_full(fd, &mut head);
+    let got = read_full(file, &mut head)?;
     let kind = head[0];
     if OPEN_IF_ELSE <= kind && kind <= ADD {
-        io::read_full(fd, &mut record);
+        read_full(file, &mut record)?;
     }
     let n = wide(head[20]);
-    io::read_full(fd, &mut bytes[..n]);
-    Step {
+    read_full(file, &mut bytes[..n])?;
+    Ok(Step {
         whole: got == 21,
         head,
         record,
         bytes,
-    }
+    })
 }
 
 pub fn lent(head: &[u8; 21]) -> usize {
