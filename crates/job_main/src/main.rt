@@ -1,12 +1,30 @@
 // Reads a job from standard input, runs it, and writes what it prints.
 #![tactic(auto)]
 
-use libc::{STDIN_FILENO, STDOUT_FILENO};
+ghost use Rattle.std.specs.Io.{ReadsAtMost};
+
+use std::io;
+use std::io::Read;
+
+// Reads until buf is full or the input ends, and returns how many bytes it put at the start of buf.
+fn read_full(reader: &mut impl Read, buf: &mut [u8]) -> io::Result<usize>
+    ensures { ReadsAtMost result buf.new }
+{
+    let mut done = 0;
+    while done < buf.len() {
+        let n = reader.read(&mut buf[done..])?;
+        if n == 0 {
+            break;
+        }
+        done += n;
+    }
+    Ok(done)
+}
 
 // One byte more than a job may have is read, which tells a job that is too long.
-fn main() {
+fn main(rt: HostRuntime) -> io::Result<()> {
     let mut input = [0u8; 34199];
-    let read = io::read_full(STDIN_FILENO, &mut input);
+    let read = read_full(&mut rt.reader(), &mut input)?;
     let mut addresses = [0u64; 1024];
     let mut tags = [0u8; 1024];
     let mut values = [0u64; 1024];
@@ -18,5 +36,5 @@ fn main() {
         &mut values,
         &mut out,
     );
-    io::write_all(STDOUT_FILENO, &out[..printed]);
+    rt.write_all(&out[..printed])
 }
