@@ -13,7 +13,11 @@ ghost use Rattle.std.specs.Prelude.{◌≡◌, true};
 ghost use Rattle.job.specs.Job.{output};
 
 use marked::{is_marked, refuses_scale};
-use part::read_part;
+use part::{read_full, read_part};
+use std::fs::File;
+use std::io;
+use std::io::Read;
+use std::rt::Files;
 use tally::{Tally, counted, none_yet, tell};
 
 // No file has as many jobs or sums: a proved loop has to end, and nothing says that a file does.
@@ -44,92 +48,90 @@ fn agrees(input: &[u8], text: &[u8]) -> bool
     let mut values = [0u64; 1024];
     let mut out = [0u8; 65536];
     let n = job::job(input, &mut addresses, &mut tags, &mut values, &mut out);
-    check::same(&out[..n], text)
+    &out[..n] == text
 }
 
 // Tries the file's next job. No text is empty, so one of no bytes is the end of the file.
-fn try_job(fd: i32, tally: Tally) -> Trial {
-    let mut input = io::large_buffer();
-    let mut text = io::large_buffer();
-    let n = read_part(fd, &mut input);
-    let m = read_part(fd, &mut text);
+fn try_job(file: &mut impl Read, tally: Tally) -> io::Result<Trial> {
+    let mut input = [0u8; 65536];
+    let mut text = [0u8; 65536];
+    let n = read_part(file, &mut input)?;
+    let m = read_part(file, &mut text)?;
     if m == 0 {
-        return Trial::End;
+        return Ok(Trial::End);
     }
-    Trial::Made(counted(tally, agrees(&input[..n], &text[..m])))
+    Ok(Trial::Made(counted(tally, agrees(&input[..n], &text[..m]))))
 }
 
 // Tries the file's next job of last year's rule: it is refused for its scale, and where today's text says.
-fn try_marked(fd: i32, tally: Tally) -> Trial {
-    let mut input = io::large_buffer();
-    let mut text = io::large_buffer();
-    let n = read_part(fd, &mut input);
-    read_part(fd, &mut text);
-    let m = read_part(fd, &mut text);
+fn try_marked(file: &mut impl Read, tally: Tally) -> io::Result<Trial> {
+    let mut input = [0u8; 65536];
+    let mut text = [0u8; 65536];
+    let n = read_part(file, &mut input)?;
+    read_part(file, &mut text)?;
+    let m = read_part(file, &mut text)?;
     if m == 0 {
-        return Trial::End;
+        return Ok(Trial::End);
     }
     let agree = refuses_scale(&text[..m]) && agrees(&input[..n], &text[..m]);
-    Trial::Made(counted(tally, agree))
+    Ok(Trial::Made(counted(tally, agree)))
 }
 
 // Tries the file's next sum.
-fn try_sum(fd: i32, tally: Tally) -> Trial {
+fn try_sum(file: &mut impl Read, tally: Tally) -> io::Result<Trial> {
     let mut row = [0u8; sums::ROW];
-    let n = io::read_full(fd, &mut row);
+    let n = read_full(file, &mut row)?;
     if n < sums::ROW {
-        return Trial::End;
+        return Ok(Trial::End);
     }
-    Trial::Made(counted(tally, sums::agrees(&row)))
+    Ok(Trial::Made(counted(tally, sums::agrees(&row))))
 }
 
-fn try_next(fd: i32, holds: Holds, tally: Tally) -> Trial {
+fn try_next(file: &mut impl Read, holds: Holds, tally: Tally) -> io::Result<Trial> {
     match holds {
-        Holds::Jobs => try_job(fd, tally),
-        Holds::Marked => try_marked(fd, tally),
-        Holds::Sums => try_sum(fd, tally),
+        Holds::Jobs => try_job(file, tally),
+        Holds::Marked => try_marked(file, tally),
+        Holds::Sums => try_sum(file, tally),
     }
 }
 
-fn try_all(fd: i32, holds: Holds) -> Tally {
+fn try_all(file: &mut impl Read, holds: Holds) -> io::Result<Tally> {
     let mut tally = none_yet();
     let mut left = MOST;
     while left > 0 {
-        let Trial::Made(next) = try_next(fd, holds, tally) else {
-            return tally;
+        let Trial::Made(next) = try_next(file, holds, tally)? else {
+            return Ok(tally);
         };
         tally = next;
         left -= 1;
     }
-    tally
+    Ok(tally)
 }
 
 // Whether a file begins as one of its kind does.
-fn begins(fd: i32, holds: Holds) -> bool {
+fn begins(file: &mut impl Read, holds: Holds) -> io::Result<bool> {
     match holds {
-        Holds::Marked => is_marked(fd),
-        _ => true,
+        Holds::Marked => is_marked(file),
+        _ => Ok(true),
     }
 }
 
-fn try_file(name: &[u8], holds: Holds) {
-    let fd = os::open_read(name);
-    if fd < 0 {
-        os::fail(name);
-        return;
-    }
-    if begins(fd, holds) {
-        tell(name, try_all(fd, holds));
+fn try_file<R: Files + Print + Eprint>(rt: &R, name: &str, holds: Holds) -> io::Result<()> {
+    let mut file = match File::open(rt, name) {
+        Ok(file) => file,
+        Err(e) => return eprintln!(rt; "{name}: {e}"),
+    };
+    if begins(&mut file, holds)? {
+        tell(rt, name, try_all(&mut file, holds)?)
     } else {
-        os::fail(name);
+        eprintln!(rt; "{name}: it begins otherwise")
     }
-    libc::close(fd);
 }
 
-fn main() {
-    try_file(b"systematic", Holds::Jobs);
-    try_file(b"random", Holds::Jobs);
-    try_file(b"scales", Holds::Jobs);
-    try_file(b"last-years-rule", Holds::Marked);
-    try_file(b"sums", Holds::Sums);
+fn main(rt: HostRuntime) -> io::Result<()> {
+    try_file(&rt, "systematic", Holds::Jobs)?;
+    try_file(&rt, "random", Holds::Jobs)?;
+    try_file(&rt, "scales", Holds::Jobs)?;
+    try_file(&rt, "last-years-rule", Holds::Marked)?;
+    try_file(&rt, "sums", Holds::Sums)
 }

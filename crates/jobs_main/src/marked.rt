@@ -4,14 +4,17 @@
 ghost use Rattle.std.specs.Prelude.{◌≡◌, true, take};
 ghost use Rattle.jobs_main.specs.Marked.{refused_7};
 
+use crate::part::read_full;
+use std::io;
+use std::io::Read;
+
 // Whether a file begins with the line that marks it.
-pub fn is_marked(fd: i32) -> bool {
+pub fn is_marked(file: &mut impl Read) -> io::Result<bool> {
     let mut line = [0u8; 142];
-    let n = io::read_full(fd, &mut line);
-    check::same(
-        &line[..n],
-        b"The first text behind each of these jobs was printed by last year's rule, by which a scale could be any 16-bit number; the second is today's.\n",
-    )
+    let n = read_full(file, &mut line)?;
+    let mark =
+        b"The first text behind each of these jobs was printed by last year's rule, by which a scale could be any 16-bit number; the second is today's.\n";
+    Ok(&line[..n] == mark.as_slice())
 }
 
 // Whether a text refuses a job for a scale.
@@ -22,5 +25,5 @@ pub fn refuses_scale(text: &[u8]) -> bool
     if text.len() < 10 {
         return false;
     }
-    check::same(&text[..10], b"refused 7 ")
+    &text[..10] == b"refused 7 ".as_slice()
 }

@@ -2,6 +2,8 @@
 
 ghost use Rattle.std.specs.Prelude.{◌≡◌, ◌+◌, ◌%◌, ◌^◌};
 
+use std::io;
+
 #[derive(Clone, Copy)]
 pub struct Tally {
     pub tried: u64,
@@ -39,15 +41,13 @@ pub fn counted(t: Tally, ok: bool) -> Tally
 }
 
 // NAME AGREE of TRIED, and the index of the first that does not agree.
-pub fn tell(name: &[u8], t: Tally) {
-    io::write_all(1, name);
-    io::write_all(1, b" ");
-    io::print_decimal(1, t.agree);
-    io::write_all(1, b" of ");
-    io::print_decimal(1, t.tried);
-    if t.agree != t.tried {
-        io::write_all(1, b", the first that differs is ");
-        io::print_decimal(1, t.first);
+pub fn tell(rt: &impl Print, name: &str, t: Tally) -> io::Result<()> {
+    let agree = t.agree;
+    let tried = t.tried;
+    print!(rt; "{name} {agree} of {tried}")?;
+    if agree != tried {
+        let first = t.first;
+        print!(rt; ", the first that differs is {first}")?;
     }
-    io::write_all(1, b"\n");
+    println!(rt)
 }
