@@ -8,7 +8,7 @@ set -eu
 earlier=$(cd "$1" && pwd)
 placements=${2:-32}
 cd "$(dirname "$0")/.."
-rt staticlib capi >target/beside.say 2>&1 || { cat target/beside.say; exit 1; }
+tools/staticlib.sh >target/beside.say 2>&1 || { cat target/beside.say; exit 1; }
 cargo build --release --offline --quiet --manifest-path bench/Cargo.toml --target-dir target/bench
 work=target/beside
 rm -rf "$work"

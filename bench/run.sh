@@ -8,7 +8,7 @@ set -eu
 cd "$(dirname "$0")/.."
 pages=target
 if [ -z "${POKCHREI_STATICLIB:-}" ]; then
-    rt staticlib capi
+    tools/staticlib.sh
     if [ $# -eq 0 ]; then pages=docs; fi
 fi
 cargo build --release --offline --quiet --manifest-path bench/Cargo.toml --target-dir target/bench

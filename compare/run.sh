@@ -9,7 +9,7 @@
 #                                   then as many lists of cells and their splits
 set -eu
 cd "$(dirname "$0")/.."
-rt staticlib capi
+tools/staticlib.sh
 cargo build --release --offline --quiet --features c_target --manifest-path compare/Cargo.toml --target-dir target/compare
 target/compare/release/compare selfcheck
 target/compare/release/compare check crates/jobs_main/data/last-years-rule last-year

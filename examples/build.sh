@@ -2,7 +2,7 @@
 # Builds the C examples over the proved static library, runs each, and holds what it prints to what it has to print.
 set -eu
 cd "$(dirname "$0")/.."
-rt staticlib capi
+tools/staticlib.sh
 mkdir -p target
 
 # Compares what example $1 prints with standard input.

@@ -1,7 +1,7 @@
 /*
  * Pokchrei: a proved evaluator of x64 kernels, as a static library.
  *
- *     rt staticlib capi                                  # proves, and writes target/staticlib/libcapi.a
+ *     tools/staticlib.sh                                # proves, and writes target/staticlib/libcapi.a
  *     cc -Iinclude prog.c target/staticlib/libcapi.a     # links
  *
  * Each function takes any numbers and any arrays: nothing is asked of their contents. What C itself asks is the

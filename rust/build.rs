@@ -1,4 +1,4 @@
-//! Names the static library to the linker: `rt staticlib capi` writes it to `target/staticlib` of the repository.
+//! Names the static library to the linker: `tools/staticlib.sh` writes it to `target/staticlib` of the repository.
 //! `POKCHREI_STATICLIB` names another folder.
 
 use std::env;

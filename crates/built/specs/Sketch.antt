@@ -5,7 +5,7 @@ use Rattle.code.specs.Tree.{Code, Ins, Block, IfElse, While, Codes, ⟨⟩, ◌�
 use Rattle.code.specs.Writer.{bytes_of, bytes_of_ocmp, bytes_of_code, bytes_of_codes}
 use Rattle.builder.specs.Calls.{Call, open_block, open_if_else, open_while, add, close}
 
--- an open structure, with the codes that are complete in its open part; behind `false-part` stands the true part first
+-- an open structure, with the codes that are complete in its open part; behind `false_part` stands the true part first
 pub data Open : Type 0 where
   block : Codes → Open
   true_part while_part : Ocmp → Codes → Open

@@ -74,7 +74,7 @@ abbrev pub InstructionTyped : GivenInstruction → Type 0
 InstructionTyped (Value i) = CallTyped (add i)
 InstructionTyped Nothing = Unit {0}
 
--- the same of a comparison; `open-while` asks of it what `open-if-else` does
+-- the same of a comparison; `open_while` asks of it what `open_if_else` does
 abbrev pub ComparisonTyped : GivenComparison → Type 0
 ComparisonTyped (Compares c) = CallTyped (open_if_else c)
 ComparisonTyped NoComparison = Unit {0}

@@ -123,10 +123,11 @@ evaluation_given n = cond (eqb n 0) (Value Base) (cond (eqb n 1) (Value Board) N
 abbrev pub none_given : Config → Ending
 none_given s = ending (told 3 0 0) s 0 (watch_numbers 0 0 0)
 
--- the numbers of a run from s by the evaluation that is given
+-- the numbers of a run from s by the evaluation that is given. Where that is none, it is refused: number and place are 0, no step was made, and its
+-- watch is unmarked with nothing open
 abbrev pub run_given : GivenEvaluation → (Evaluation → Ended) → Config → Ending
 run_given (Value e) run s = ending_of (run e)
-run_given Nothing run s = none_given s
+run_given Nothing run s = ending (told 3 0 0) s 0 (watch_numbers 0 0 0)
 
 -- the numbers of the least fuel by the evaluation that is given
 abbrev pub least_given : GivenEvaluation → (Evaluation → Reported) → Config → LeastEnding

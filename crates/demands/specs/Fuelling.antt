@@ -1,4 +1,4 @@
--- The claims of request 2026-09, in one record: `Fuelling`. Least fuel is `least-fuel-of` (crates/least/specs/Report.antt), which tries one fuel after the
+-- The claims of request 2026-09, in one record: `Fuelling`. Least fuel is `least_fuel_of` (crates/least/specs/Report.antt), which tries one fuel after the
 -- other. That `least_fuel`, which makes one run, gives it is that function's contract.
 use Rattle.std.specs.Prelude.{ℕ, ◌≤◌, ◌<◌, ◌≡◌, List}
 use Rattle.std.proofs.Math.Option.{Option}

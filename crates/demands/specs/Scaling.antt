@@ -1,5 +1,5 @@
 -- The claims of request 2026-08, in one record: `Scaling`. That the three demands read over the smaller set needs no claim of its own: they are of the
--- code that is accepted, and no scale is named in them. The job program prints what a run says. The four scales are `is-scale`
+-- code that is accepted, and no scale is named in them. The job program prints what a run says. The four scales are `is_scale`
 -- (crates/machine/specs/Operands.antt).
 use Rattle.std.specs.Prelude.{ℕ, suc, ◌+◌, ◌≤◌, ◌<◌, ◌≡◌, true, List, length}
 use Rattle.std.proofs.Math.Option.{Option}
@@ -71,7 +71,7 @@ pub record Scaling : Type 0 where
   -- a run refuses what checking refuses, and leaves all as it was
   pub not_run : (code : List ℕ) (env : Env) (fuel : ℕ) (limit : Option ℕ) (s : Config) (p : ℕ)
       → check_code code ≡ check_refused 7 p → run_of code env fuel limit s ≡ ended (refused 7 p) s nothing_counted
-  -- the builder judges 4 and 7 straight after 51 (`is-4`, `is-7`)
+  -- the builder judges 4 and 7 straight after 51 (`is_4`, `is_7`)
   pub not_built : (c : Call) (b : Build) (buffer : List ℕ) → Judged c b buffer
   -- by the record's bytes: a call of the types is refused with the number with which checking refuses what it would add
   pub as_checked : (c : Call) → CallTyped c → (n : ℕ) → call_trouble c ≡ suc n → (p : ℕ) × (check_code (bytes_of_call c) ≡ check_refused (suc n) p)

@@ -1,4 +1,4 @@
--- The shapes of an instruction's end, as checks in a row: what `run-ins` comes to where it is unfolded. Assumes nothing.
+-- The shapes of an instruction's end, as checks in a row: what `run_ins` comes to where it is unfolded. Assumes nothing.
 use Prim.Native.Nat.{ℕ}
 use mathlib.Core.Path.{◌≡◌, refl, ap, ◌∙◌}
 use lib.Dec.{ltb}

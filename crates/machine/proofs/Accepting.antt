@@ -1,4 +1,4 @@
--- What it is for cells to be accepted: equal lengths, at most 1,024, in order and apart, with tags and with values that fit. `check-cells`
+-- What it is for cells to be accepted: equal lengths, at most 1,024, in order and apart, with tags and with values that fit. `check_cells`
 -- says accepted exactly of these, by induction over the cells with the running end; a store of a word to a 64-bit cell keeps them so.
 use Rattle.std.proofs.Common.{◌≡◌, ℕ, zero, suc, ◌+◌, ◌/◌, ◌^◌, ◌<◌, ◌≤◌, Bool, true, false, eqb, ltb, List, [], ◌∷◌, length, get_or, set, ℤ, sym, refl, ◌∙◌, le_of_suc-le-suc, not-suc-le-zero, arith, length-set, get_or-set_other, get_or-set_same, ltb-false, ltb-true, eqb-true}
 use mathlib.Core.Option.{some}

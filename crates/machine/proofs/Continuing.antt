@@ -1,5 +1,5 @@
 -- Request 2026-05: checking goes on from the end that it left. By induction over the front part: what it leaves for the rest is an index and an end,
--- and both are parameters of `check-from`.
+-- and both are parameters of `check_from`.
 use Rattle.std.proofs.Common.{◌≡◌, ℕ, zero, suc, ◌+◌, ◌/◌, ◌<◌, ◌≤◌, min, Bool, true, false, cond, eqb, List, [], ◌∷◌, ◌++◌, length, take, drop, sym, refl, ap, ◌∙◌, add-zero, add-suc, suc-add, zero-add, arith, length-append, length-take, take_at, drop_at}
 use native.Mathlib.Nat.{min-le_right}
 use Rattle.machine.specs.Cells.{Verdict, accepted, refused, cell_rule, check_from, check_cells, SameLengths}

@@ -1,4 +1,4 @@
--- Finding a cell. `find-cell` takes the first cell at an address; addresses that ascend are all different, so it is the only one.
+-- Finding a cell. `find_cell` takes the first cell at an address; addresses that ascend are all different, so it is the only one.
 use Rattle.std.proofs.Common.{◌≡◌, ℕ, zero, suc, ◌+◌, ◌-◌, ◌/◌, ◌<◌, ◌≤◌, Bool, true, false, cond, eqb, ltb, List, [], ◌∷◌, length, get_or, ℤ, pos, negsuc, sym, refl, ap, ◌∙◌, subst, le_of_suc-le-suc, not-suc-le-zero, arith, ltb-false, ltb-true, eq-eqb, eqb-true}
 use mathlib.Core.Option.{Option, none, some}
 use borrow.Author.Tests.{eqb-false}

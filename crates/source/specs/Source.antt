@@ -1,8 +1,8 @@
 -- X64.Semantics_s, transliterated, in its names; what needs no open place stands first. It runs on after a failed check.
 -- Where it is written another way than the text (Upstream names the places), Upstream says that the two are the same.
--- F* has no Popcnt64, Lzcnt64 and Tzcnt64: their clauses of `eval-ins`, the last three, are request 2026-02's.
+-- F* has no Popcnt64, Lzcnt64 and Tzcnt64: their clauses of `eval_ins`, the last three, are request 2026-02's.
 -- Open places: every `load_mem64` and `int_to_nat64` that meets its clause is a parameter; `havoc` is the fill word.
--- The flags of Add64 and AddCarry64 are a parameter too, `rule`: with `base-rule` they are F*'s, with `board-rule` request 2026-06's.
+-- The flags of Add64 and AddCarry64 are a parameter too, `rule`: with `base_rule` they are F*'s, with `board_rule` request 2026-06's.
 use Rattle.std.specs.Prelude.{ℕ, zero, suc, ◌+◌, ◌*◌, ◌%◌, ◌^◌, Bool, true, false, not, ◌&&◌, cond, List, eqb, ltb, leb, ℤ, pos}
 use Rattle.std.proofs.Math.Option.{Option, none, some}
 use Rattle.words.specs.Words.{Four, mkfour, four_map, four_to_two_two, two_select, two_to_nat}

@@ -1,5 +1,5 @@
 -- `machine::cells::check_from` meets its contract. The invariant: what is left to check, from the running end on, has the verdict of
--- all that was to be checked. One turn is one step of `check-from`.
+-- all that was to be checked. One turn is one step of `check_from`.
 use Rattle.std.proofs.Common.{ℕ, sym, refl, ap, ◌∙◌}
 use Rattle.machine.specs.Wide.{number}
 use Rattle.machine.specs.Cells.{refused}
