@@ -1,7 +1,7 @@
 -- The text of X64.Semantics_s where Source, with F*'s flag rule, is written another way: the flags of Add64 and AddCarry64, which the rule gives;
 -- the difference of Sub64, which is over the whole numbers; registers and xmm, which are functions in the text and lists here; the test of an
 -- amount, the local `eq_result`, and the cut that `two_to_nat` makes; and the recursion, where `eval_while` is over the evaluation of its body,
--- so that `eval_while b c` is `eval_while b (eval_code c)`.
+-- so that the text's `eval_while b c` is `eval_while b (eval_code c)` here.
 use Rattle.std.specs.Prelude.{ℕ, zero, suc, ◌+◌, ◌*◌, ◌%◌, ◌^◌, ◌<◌, ◌≡◌, Bool, not, ◌&&◌, cond, eqb, ltb, leb, ℤ, pos, ◌-ℤ◌, length}
 use Rattle.std.proofs.Math.Option.{Option, none, some}
 use Rattle.std.specs.Int.Signed.{lt_z, le_z}
