@@ -62,7 +62,7 @@ def declared(texts):
 
 
 def turn_line(line, own, skip_steps):
-    """A comment keeps its dashes, but for names of the repository."""
+    """The line with the repository's own names turned; in a proof file the names of steps stay."""
     def turn(m):
         name = m.group(0)
         start = line[:m.start()]
