@@ -1,6 +1,7 @@
 -- Checking cells. The check goes cell by cell and carries the end of the one before, so each law is one step of it: a cell that
 -- breaks no rule is well formed, starts at the running end or behind it and ends at 2^64 or before.
 use Rattle.std.proofs.Common.{◌≡◌, ℕ, suc, ◌+◌, ◌-◌, ◌/◌, ◌^◌, ◌<◌, ◌≤◌, Bool, true, false, cond, not, ◌||◌, eqb, ltb, leb, List, ◌∷◌, length, get_or, drop, sym, refl, ◌∙◌, add-one, arith, drop_of_length-le, drop-cons, ltb-false, le-ltb, lt-ltb, eq-eqb, ne_eqb, eqb-true, le-leb, leb-false}
+use Rattle.std.specs.Prelude.{Option, Some, None}
 use mathlib.Core.Path.{subst⁻¹}
 use borrow.Author.Tests.{lt-leb}
 use Rattle.machine.specs.Cells.{Verdict, accepted, refused, is_tag, cell_rule, check_from, check_cells, SameLengths}
@@ -48,48 +49,60 @@ unfolding cell_rule
 rule_of_good last a t v g =
     rw (g.tag, lt-leb (2 ^ t) v g.fits, le-ltb a last g.from, le-ltb (2 ^ 64) (a + t / 8) g.within)
 
--- the rule that the code finds, from the largest value `top` of the tag
-module _ (last a t v top : ℕ) (is : top ≡ cond (is_tag t) (2 ^ t - 1) 0) where
-  known : (top ≡ 0 → ⊥) → is_tag t ≡ true
-  known n = go (is_tag t) refl
-    where
-      go : (b : Bool) → is_tag t ≡ b → is_tag t ≡ true
-      go true e = e
-      go false e = absurd (n (is ∙ rw e))
+-- ---- the rule that the code finds, from the largest value of the tag
+-- that value, if the tag is one
+abbrev pub largest : ℕ → Option ℕ
+largest t = cond (is_tag t) (Some (2 ^ t - 1)) None
 
-  top_is : (top ≡ 0 → ⊥) → top ≡ 2 ^ t - 1
-  top_is n = is ∙ rw (known n)
+-- the largest value of a tag
+pub record Largest (t top : ℕ) : Type 0 where
+  pub tag : is_tag t ≡ true
+  pub is : top ≡ 2 ^ t - 1
 
-  above_one : (k : ℕ) → is_tag k ≡ true → 1 < 2 ^ k
-  above_one = by_tag (λ (k : ℕ). 1 < 2 ^ k) (omega arith) (omega arith) (omega arith) (omega arith)
+pub largest_some : (t top : ℕ) → Some top ≡ largest t → Largest t top
+largest_some t top e = go (is_tag t) refl e
+  where
+    go : (b : Bool) → is_tag t ≡ b → Some top ≡ cond b (Some (2 ^ t - 1)) None → Largest t top
+    go true p q = record { tag = p; is = cc }
+    go false p q = absurd (let z : ◌≡◌ {A = ℕ} 0 1 = cc in omega arith)
 
-  pub bytes_pos : (top ≡ 0 → ⊥) → 1 ≤ t / 8
-  bytes_pos n = by_tag (λ (k : ℕ). 1 ≤ k / 8) (omega arith) (omega arith) (omega arith) (omega arith) t (known n)
+pub largest_none : (t : ℕ) → None ≡ largest t → is_tag t ≡ false
+largest_none t e = go (is_tag t) refl e
+  where
+    go : (b : Bool) → is_tag t ≡ b → None ≡ cond b (Some (2 ^ t - 1)) None → is_tag t ≡ false
+    go true p q = absurd (let z : ◌≡◌ {A = ℕ} 0 1 = cc in omega arith)
+    go false p q = p
 
-  pub rule_13 : top ≡ 0 → 13 ≡ cell_rule last a t v
+above_one : (t : ℕ) → is_tag t ≡ true → 1 < 2 ^ t
+above_one = by_tag (λ (k : ℕ). 1 < 2 ^ k) (omega arith) (omega arith) (omega arith) (omega arith)
+
+pub bytes_pos : (t : ℕ) → is_tag t ≡ true → 1 ≤ t / 8
+bytes_pos = by_tag (λ (k : ℕ). 1 ≤ k / 8) (omega arith) (omega arith) (omega arith) (omega arith)
+
+module _ (last a t v : ℕ) where
+  pub rule_13 : is_tag t ≡ false → 13 ≡ cell_rule last a t v
   unfolding cell_rule
-  rule_13 e = go (is_tag t) refl
-    where
-      go : (b : Bool) → is_tag t ≡ b → ◌≡◌ {A = ℕ} 13 (cond (not b) 13 (cond (leb (2 ^ t) v) 14 (cond (ltb a last || ltb (2 ^ 64) (a + t / 8)) 15 0)))
-      go false p = refl
-      go true p = let q : top ≡ 2 ^ t - 1 = is ∙ rw p in absurd (omega (arith, above_one t p))
+  rule_13 e = rw e
 
-  pub rule_14 : (top ≡ 0 → ⊥) → top < v → 14 ≡ cell_rule last a t v
-  unfolding cell_rule
-  rule_14 n h = rw (known n, le-leb (2 ^ t) v (omega (arith, top_is n, above_one t (known n))))
+  module _ (top : ℕ) (l : Largest t top) where
+    pub rule_14 : top < v → 14 ≡ cell_rule last a t v
+    unfolding cell_rule
+    rule_14 h = rw (l.tag, le-leb (2 ^ t) v (omega (arith, l.is, above_one t l.tag)))
 
-  pub rule_15_before : (top ≡ 0 → ⊥) → v ≤ top → ltb a last ≡ true → 15 ≡ cell_rule last a t v
-  unfolding cell_rule
-  rule_15_before n h e = rw (known n, lt-leb (2 ^ t) v (omega (arith, top_is n, above_one t (known n))), e)
+    fits : v ≤ top → leb (2 ^ t) v ≡ false
+    fits h = lt-leb (2 ^ t) v (omega (arith, l.is, above_one t l.tag))
 
-  pub rule_15_end : (top ≡ 0 → ⊥) → v ≤ top → a < 2 ^ 64 → ltb a last ≡ false → 18446744073709551615 - a < t / 8 - 1 → 15 ≡ cell_rule last a t v
-  unfolding cell_rule
-  rule_15_end n h k e l = rw (known n, lt-leb (2 ^ t) v (omega (arith, top_is n, above_one t (known n))), e, lt-ltb (2 ^ 64) (a + t / 8) (omega arith))
+    pub rule_15_before : v ≤ top → ltb a last ≡ true → 15 ≡ cell_rule last a t v
+    unfolding cell_rule
+    rule_15_before h e = rw (l.tag, fits h, e)
 
-  pub rule_none : (top ≡ 0 → ⊥) → v ≤ top → a < 2 ^ 64 → ltb a last ≡ false → t / 8 - 1 ≤ 18446744073709551615 - a → 0 ≡ cell_rule last a t v
-  unfolding cell_rule
-  rule_none n h k e l =
-      rw (known n, lt-leb (2 ^ t) v (omega (arith, top_is n, above_one t (known n))), e, le-ltb (2 ^ 64) (a + t / 8) (omega (arith, bytes_pos n)))
+    pub rule_15_end : v ≤ top → a < 2 ^ 64 → ltb a last ≡ false → 2 ^ 64 - 1 - a < t / 8 - 1 → 15 ≡ cell_rule last a t v
+    unfolding cell_rule
+    rule_15_end h k e g = rw (l.tag, fits h, e, lt-ltb (2 ^ 64) (a + t / 8) (omega arith))
+
+    pub rule_none : v ≤ top → a < 2 ^ 64 → ltb a last ≡ false → t / 8 - 1 ≤ 2 ^ 64 - 1 - a → 0 ≡ cell_rule last a t v
+    unfolding cell_rule
+    rule_none h k e g = rw (l.tag, fits h, e, le-ltb (2 ^ 64) (a + t / 8) (omega (arith, bytes_pos t l.tag)))
 
 -- ---- the cells in turn
 pub check_on : (i last a t v : ℕ) (xs ts vs : List ℕ) → cell_rule last a t v ≡ 0

@@ -89,12 +89,6 @@ carry_fits w carry h = go w.high (bit carry) (high_small w h) (bit_lt carry)
     go : (n b : ℕ) → n < 2 ^ 16 → b < 2 → n + b < 2 ^ 64
     go n b h k = omega arith
 
-pub one_word : (w : Wide) → w.high ≡ 0 → w.low ≡ number w
-one_word w h = omega arith
-
-pub two_words : (x : ℕ) (w : Wide) → x < 2 ^ 64 → (w.high ≡ 0 → ⊥) → x < number w
-two_words x w h n = omega arith
-
 -- less a word: the difference of the low words, where the high one is its borrow
 module _ (u : Wide) (d word : ℕ) (borrow : Bool) (low : Subtracted 64 u.low d word borrow) (small : u.low < 2 ^ 64) (little : d < 2 ^ 64) where
   spelled : word + d ≡ u.low + bit borrow * 2 ^ 64

@@ -1,5 +1,6 @@
 pub mod RegisterLaws
 pub mod Exact
+pub mod RuleLaws
 pub mod CellLaws
 pub mod FindLaws
 pub mod OperandLaws

@@ -1,15 +1,14 @@
 -- Operands: which are destinations, the cell that a memory operand names, and the numbers of their checks. Addresses of cells are words, so an
 -- exact address that is no word is none of them.
-use Rattle.std.proofs.Common.{◌≡◌, ℕ, ◌^◌, ◌<◌, Bool, true, false, cond, not, eqb, List, [], ◌∷◌, get_or, ℤ, pos, negsuc, refl, ap, ◌∙◌, arith, leb-true}
+use Rattle.std.proofs.Common.{◌≡◌, ℕ, ◌^◌, ◌<◌, Bool, true, false, cond, not, eqb, List, [], ◌∷◌, get_or, ℤ, pos, negsuc, sym, refl, ap, ◌∙◌, arith, leb-true}
+use Rattle.std.specs.Prelude.{Option as Maybe, Some, None, Result, Ok, Err, ok_or}
 use mathlib.Core.Option.{Option, none, some}
 use Rattle.machine.specs.Registers.{Rsp}
-use Rattle.machine.specs.Operands.{eval_maddr, in_range, wild, wild_operand, wild_or, unread_number, valid_dst}
+use Rattle.machine.specs.Operands.{eval_maddr, in_range, word_of, wild, wild_operand, wild_or, unread_number, valid_dst}
 use Rattle.machine.specs.Cells.{accepted, check_cells, find_cell, index_of, leads, led_to}
 use Rattle.machine.specs.declared.reg.Reg.{Reg}
-use Rattle.machine.specs.declared.Found.{Found}
-use Rattle.machine.specs.declared.Found.TheVariants.{At, Nothing}
-use Rattle.machine.specs.declared.Target.{Target}
-use Rattle.machine.specs.declared.Target.TheVariants.{Cell, Absent, Wild}
+use Rattle.machine.specs.declared.NoCell.{NoCell}
+use Rattle.machine.specs.declared.NoCell.TheVariants.{Absent, Wild}
 use Rattle.machine.specs.declared.Maddr.{Maddr}
 use Rattle.machine.specs.declared.Operand.{Operand}
 use Rattle.machine.specs.declared.Operand.TheVariants.{OConst, OReg, OMem}
@@ -53,6 +52,15 @@ pub word_tame : (z : ℤ) (a : ℕ) → wild z ≡ true → a < 2 ^ 64 → pos a
 unfolding wild
 word_tame z a e l p = let f : wild (pos a) ≡ true = ap wild p ∙ e in omega (arith, l, leb-true (2 ^ 64) a f)
 
+-- ---- a word, or Wild where there is none
+pub tame_word : (o : Maybe ℕ) (w : ℕ) → Ok w ≡ ok_or o Wild → word_of o ≡ some w
+tame_word (Some x) w e = cc
+tame_word None w e = absurd (let x : ◌≡◌ {A = ℕ} 0 1 = cc in omega arith)
+
+pub no_word : (o : Maybe ℕ) (n : NoCell) → Err n ≡ ok_or o Wild → (word_of o ≡ none) × (n ≡ Wild)
+no_word (Some x) n e = absurd (let x : ◌≡◌ {A = ℕ} 0 1 = cc in omega arith)
+no_word None n e = (refl, cc)
+
 -- ---- the cell at an exact address
 module _ (xs ts : List ℕ) (z : ℤ) where
   pub find_inside : (w : ℕ) → in_range z ≡ some w → find_cell xs ts z ≡ find_cell xs ts (pos w)
@@ -61,21 +69,15 @@ module _ (xs ts : List ℕ) (z : ℤ) where
   pub find_outside : wild z ≡ true → ((k : ℕ) → get_or xs k 0 < 2 ^ 64) → find_cell xs ts z ≡ none
   find_outside e small = find_none xs ts z (λ k h p. word_tame z (get_or xs k 0) e (small k) p)
 
-  -- what a memory operand leads to: what was found at its word, and nothing where it has none
-  abbrev LeadsTo : Target → Type 0
+  -- what a memory operand leads to: what is found at its word, and nothing where it has none
+  abbrev LeadsTo : Result ℕ NoCell → Type 0
   LeadsTo r = led_to r ≡ leads xs ts z
 
-  module _ (w : ℕ) (e : in_range z ≡ some w) (f : Found) (found : index_of f ≡ find_cell xs ts (pos w)) where
-    at_word : leads xs ts z ≡ (index_of f, false)
-    at_word = rw ((in_range_some z w e).1, find_inside w e, found)
+  pub leads_to_found : (w : ℕ) → in_range z ≡ some w → (f : Maybe ℕ) → index_of f ≡ find_cell xs ts (pos w) → LeadsTo (ok_or f Absent)
+  leads_to_found w e (Some i) found = rw ((in_range_some z w e).1, find_inside w e, sym found)
+  leads_to_found w e None found = rw ((in_range_some z w e).1, find_inside w e, sym found)
 
-    pub leads_to_cell : (i : ℕ) → f ≡ At i → LeadsTo (Cell i)
-    leads_to_cell i h = rw (at_word, h)
-
-    pub leads_to_none : f ≡ Nothing → LeadsTo Absent
-    leads_to_none h = rw (at_word, h)
-
-  pub leads_outside : in_range z ≡ none → ((k : ℕ) → get_or xs k 0 < 2 ^ 64) → LeadsTo Wild
+  pub leads_outside : in_range z ≡ none → ((k : ℕ) → get_or xs k 0 < 2 ^ 64) → LeadsTo (Err Wild)
   leads_outside e small = let w = in_range_none z e in rw (w, find_outside w small)
 
   -- accepted cells end at 2^64 at the latest, so none of 64 bits is at a wild address

@@ -1,13 +1,11 @@
 -- The lent cells: three lists, checked, searched, stored to.
-use Rattle.std.specs.Prelude.{◌≡◌, ℕ, suc, ◌+◌, ◌/◌, ◌^◌, ◌<◌, ◌≤◌, Bool, true, false, cond, not, ◌&&◌, ◌||◌, List, [], ◌∷◌, length, ℤ, pos, negsuc, ◌==◌, nat_le, nat_lt, slice_index, slice_set}
+use Rattle.std.specs.Prelude.{◌≡◌, ℕ, suc, ◌+◌, ◌/◌, ◌^◌, ◌<◌, ◌≤◌, Bool, true, false, cond, not, ◌&&◌, ◌||◌, List, [], ◌∷◌, length, ℤ, pos, negsuc, ◌==◌, nat_le, nat_lt, slice_index, slice_set, Option as Maybe, Some, None, Result, Ok, Err}
 use Rattle.std.proofs.Math.Option.{Option, none, some}
 use Rattle.machine.specs.Operands.{wild}
-use Rattle.machine.specs.declared.Checked.{Checked}
-use Rattle.machine.specs.declared.Checked.TheVariants.{Accepted, Refused}
-use Rattle.machine.specs.declared.Found.{Found}
-use Rattle.machine.specs.declared.Found.TheVariants.{At, Nothing}
-use Rattle.machine.specs.declared.Target.{Target}
-use Rattle.machine.specs.declared.Target.TheVariants.{Cell, Absent, Wild}
+use Rattle.machine.specs.Rules.{rule_number}
+use Rattle.machine.specs.declared.refusal.Refusal.{Refusal}
+use Rattle.machine.specs.declared.NoCell.{NoCell}
+use Rattle.machine.specs.declared.NoCell.TheVariants.{Absent, Wild}
 
 -- what a check says: accepted, or a number with a place or an index
 pub data Verdict : Type 0 where
@@ -15,9 +13,9 @@ pub data Verdict : Type 0 where
   refused : ℕ → ℕ → Verdict
 
 -- the number and place of each answer
-abbrev pub verdict : Checked → Verdict
-verdict Accepted = accepted
-verdict (Refused n p) = refused n p
+abbrev pub verdict : Result Unit Refusal → Verdict
+verdict (Ok _) = accepted
+verdict (Err refusal) = refused (rule_number refusal.rule) refusal.place
 
 -- the widths that a cell may have
 unfoldable pub is_tag : ℕ → Bool
@@ -80,20 +78,20 @@ find_cell [] ts z = none
 find_cell (a ∷ xs) [] z = none
 find_cell (a ∷ xs) (t ∷ ts) z = cond (eqℤ (pos a) z) (cond (t == 64) (some 0) none) (later (find_cell xs ts z))
 
--- what a Found says
-abbrev pub index_of : Found → Option ℕ
-index_of (At i) = some i
-index_of Nothing = none
+-- what a search says
+abbrev pub index_of : Maybe ℕ → Option ℕ
+index_of (Some i) = some i
+index_of None = none
 
 -- what an exact address leads to: the index of the 64-bit cell there, and whether the address is wild
 abbrev pub leads : List ℕ → List ℕ → ℤ → Option ℕ × Bool
 leads xs ts z = (find_cell xs ts z, wild z)
 
--- what a Target says of that
-abbrev pub led_to : Target → Option ℕ × Bool
-led_to (Cell i) = (some i, false)
-led_to Absent = (none, false)
-led_to Wild = (none, true)
+-- what the search for an operand's cell says of that
+abbrev pub led_to : Result ℕ NoCell → Option ℕ × Bool
+led_to (Ok i) = (some i, false)
+led_to (Err Absent) = (none, false)
+led_to (Err Wild) = (none, true)
 
 -- the value of the cell at an index, 0 where there is none
 abbrev pub cell_value : List ℕ → Option ℕ → ℕ

@@ -1,4 +1,5 @@
 pub mod Registers
+pub mod Rules
 pub mod Operands
 pub mod Wide
 pub mod Cells

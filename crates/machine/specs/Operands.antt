@@ -1,13 +1,11 @@
 -- Operands and exact addresses.
-use Rattle.std.specs.Prelude.{◌≡◌, ℕ, ◌^◌, ◌<◌, Bool, true, false, cond, not, ◌||◌, List, [], ◌∷◌, ℤ, pos, negsuc, ◌+ℤ◌, ◌*ℤ◌, ◌==◌, nat_le}
+use Rattle.std.specs.Prelude.{◌≡◌, ℕ, ◌^◌, ◌<◌, Bool, true, false, cond, not, ◌||◌, List, [], ◌∷◌, ℤ, pos, negsuc, ◌+ℤ◌, ◌*ℤ◌, ◌==◌, nat_le, Option as Maybe, Some, None}
 use Rattle.std.proofs.Math.Option.{Option, none, some}
 use Rattle.machine.specs.Registers.{reg_at, Rsp}
 use Rattle.machine.specs.declared.Maddr.{Maddr}
 use Rattle.machine.specs.declared.Maddr.TheVariants.{MConst, MReg, MIndex}
 use Rattle.machine.specs.declared.Operand.{Operand}
 use Rattle.machine.specs.declared.Operand.TheVariants.{OConst, OReg, OMem}
-use Rattle.machine.specs.declared.Address.{Address}
-use Rattle.machine.specs.declared.Address.TheVariants.{Inside, Outside}
 
 -- base + scale * index + offset over the whole numbers
 abbrev pub exact : ℕ → ℤ → ℕ → ℤ → ℤ
@@ -40,10 +38,10 @@ unfoldable pub in_range : ℤ → Option ℕ
 in_range (pos n) = cond (wild (pos n)) none (some n)
 in_range (negsuc n) = none
 
--- what an Address says
-abbrev pub word_of : Address → Option ℕ
-word_of (Inside w) = some w
-word_of Outside = none
+-- what the search for an address says of it
+abbrev pub word_of : Maybe ℕ → Option ℕ
+word_of (Some w) = some w
+word_of None = none
 
 -- whether an operand is memory at a wild address
 unfoldable pub wild_operand : Operand → List ℕ → Bool

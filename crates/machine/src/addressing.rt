@@ -5,32 +5,25 @@ ghost use Rattle.std.specs.Prelude.{◌≡◌, ◌^◌, ◌<◌, true, pos, ◌+
 ghost use Rattle.machine.specs.Operands.{word_of, in_range, exact, is_scale, eval_maddr, RightFields};
 ghost use Rattle.machine.specs.Wide.{number};
 
+use crate::Maddr;
 use crate::wide::{Wide, less, of_word, plus, times};
-use crate::{Address, Maddr};
 
 // Whether a scale is one that machine code has.
 pub fn is_scale(scale: i16) -> bool
     ensures { result ≡ is_scale scale }
 {
-    match scale {
-        1 | 2 | 4 | 8 => true,
-        _ => false,
-    }
+    matches!(scale, 1 | 2 | 4 | 8)
 }
 
 // The number without its sign.
 pub fn magnitude(x: i64) -> u64
     ensures { result ≡ unsigned_abs x }
 {
-    if x < 0 {
-        (-(x + 1)) as u64 + 1
-    } else {
-        x as u64
-    }
+    x.unsigned_abs()
 }
 
 // The address at an offset from a number.
-fn moved(from: Wide, offset: i64) -> Address
+fn moved(from: Wide, offset: i64) -> Option<u64>
     requires { number from < 2 ^ 68 }
     ensures { word_of result ≡ in_range (pos (number from) +ℤ offset) }
 {
@@ -43,14 +36,14 @@ fn moved(from: Wide, offset: i64) -> Address
 }
 
 // The address of an MReg, with no multiplication.
-pub fn register_address(base: u64, offset: i64) -> Address
+pub fn register_address(base: u64, offset: i64) -> Option<u64>
     ensures { word_of result ≡ in_range (pos base +ℤ offset) }
 {
     moved(of_word(base), offset)
 }
 
 // The address of an MIndex.
-pub fn exact_address(base: u64, scale: i16, index: u64, offset: i64) -> Address
+pub fn exact_address(base: u64, scale: i16, index: u64, offset: i64) -> Option<u64>
     requires { is_scale scale ≡ true }
     ensures { word_of result ≡ in_range (exact base scale index offset) }
 {
@@ -58,12 +51,12 @@ pub fn exact_address(base: u64, scale: i16, index: u64, offset: i64) -> Address
 }
 
 // The address of a memory operand whose fields are right.
-pub fn operand_address(m: Maddr, regs: &[u64; 16]) -> Address
+pub fn operand_address(m: Maddr, regs: &[u64; 16]) -> Option<u64>
     requires { RightFields m }
     ensures { word_of result ≡ in_range (eval_maddr m regs.now) }
 {
     match m {
-        Maddr::MConst(n) => Address::Inside(n),
+        Maddr::MConst(n) => Some(n),
         Maddr::MReg(register, offset) => {
             let i = register.number as usize;
             register_address(regs[i], offset)

@@ -3,12 +3,14 @@
 
 mod addressing;
 mod cells;
+mod refusal;
 mod reg;
 mod wide;
 mod xmm;
 
 pub use addressing::{exact_address, is_scale, magnitude, operand_address, register_address};
 pub use cells::{cell_of, check_cells, check_from, find_cell};
+pub use refusal::{Refusal, Rule};
 pub use reg::Reg;
 pub use wide::Wide;
 pub use xmm::{set_xmm, xmm_at};
@@ -36,32 +38,9 @@ pub enum Operand {
     OMem(Maddr),
 }
 
-// Whether an exact address lies in the 64-bit range.
-#[derive(Clone, Copy)]
-pub enum Address {
-    Inside(u64),
-    Outside,
-}
-
-// What a check answers: the number of a refusal, and its place or index.
-#[derive(Clone, Copy)]
-pub enum Checked {
-    Accepted,
-    Refused(u8, usize),
-}
-
-// What a search for a cell finds.
-#[derive(Clone, Copy)]
-pub enum Found {
-    At(usize),
-    Nothing,
-}
-
-// What a memory operand leads to: the index of its 64-bit cell, no such cell at its address, or an exact address below 0
-// or above 2^64 - 1.
-#[derive(Clone, Copy)]
-pub enum Target {
-    Cell(usize),
+// Why a memory operand has no 64-bit cell: none stands at its address, or its exact address is below 0 or above 2^64 - 1.
+#[derive(Clone, Copy, PartialEq, Eq)]
+pub enum NoCell {
     Absent,
     Wild,
 }

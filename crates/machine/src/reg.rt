@@ -2,7 +2,7 @@ ghost use Rattle.std.specs.Prelude.{◌≡◌, ◌==◌};
 ghost use Rattle.machine.specs.Registers.{Rsp};
 
 // A register by its number in the source's order, which is not the processor's.
-#[derive(Clone, Copy)]
+#[derive(Clone, Copy, PartialEq, Eq)]
 pub struct Reg {
     pub number: u8,
 }
@@ -44,7 +44,6 @@ impl Reg {
     pub fn is_rsp(self) -> bool
         ensures { result ≡ (self.number == Rsp.number) }
     {
-        let sp = Reg::RSP;
-        self.number == sp.number
+        self == Reg::RSP
     }
 }

@@ -5,7 +5,6 @@ ghost use Rattle.std.proofs.Math.IntN.{sub_ℕ};
 ghost use Rattle.machine.specs.Operands.{word_of, in_range};
 ghost use Rattle.machine.specs.Wide.{number};
 
-use crate::Address;
 use words::{add64, mul_wide, sub64};
 
 // high * 2^64 + low
@@ -51,18 +50,14 @@ pub fn times(scale: u64, index: u64) -> Wide
 pub fn is_below(x: u64, w: Wide) -> bool
     ensures { result ≡ nat_lt x (number w) }
 {
-    if w.high == 0 { x < w.low } else { true }
+    w.high != 0 || x < w.low
 }
 
 // A number less a word, where that is a word: the high word is then the borrow of the low ones.
-pub fn less(w: Wide, x: u64) -> Address
+pub fn less(w: Wide, x: u64) -> Option<u64>
     ensures { word_of result ≡ in_range (sub_ℕ (number w) x) }
 {
     let low = sub64(w.low, x);
     let high = low.carry as u64;
-    if w.high == high {
-        Address::Inside(low.word)
-    } else {
-        Address::Outside
-    }
+    if w.high == high { Some(low.word) } else { None }
 }
