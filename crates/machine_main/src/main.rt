@@ -5,67 +5,62 @@ mod addresses;
 mod cells;
 mod searches;
 mod splits;
-mod tally;
 mod xmms;
 
 use std::io;
-use tally::{none_yet, tell};
+use stored::Tally;
 
-fn check_cells(rt: &impl Print) -> io::Result<()> {
-    tell(rt, b"cells, examples", cells::examples(none_yet()))?;
-    tell(rt, b"cells, 11", cells::lengths(none_yet()))?;
-    tell(rt, b"cells, 12", cells::counts(none_yet()))?;
-    tell(rt, b"cells, 13", cells::tags(none_yet()))?;
-    tell(rt, b"cells, 14", cells::values(none_yet()))?;
-    tell(
-        rt,
-        b"cells, 15 by the cell before",
-        cells::follows(none_yet()),
-    )?;
-    tell(rt, b"cells, 15 by the end", cells::ends(none_yet()))?;
-    tell(rt, b"cells, order", cells::orders(none_yet()))
+fn tell(rt: &impl Print, name: &str, tally: Tally) -> io::Result<()> {
+    println!(rt; "{name}: {tally}")
 }
 
-fn check_splits(rt: &impl Print) -> io::Result<()> {
-    tell(rt, b"splits, accepted", splits::accepted(none_yet()))?;
-    tell(rt, b"splits, 13", splits::tags(none_yet()))?;
-    tell(rt, b"splits, 14", splits::values(none_yet()))?;
-    tell(
-        rt,
-        b"splits, 15 by the cell before",
-        splits::follows(none_yet()),
-    )?;
-    tell(rt, b"splits, 15 by the end", splits::ends(none_yet()))?;
-    tell(rt, b"splits, behind 2^64", splits::tops(none_yet()))?;
-    tell(rt, b"splits, order", splits::orders(none_yet()))
+fn tell_cells(rt: &impl Print) -> io::Result<()> {
+    tell(rt, "cells, examples", cells::examples())?;
+    tell(rt, "cells, 11", cells::lengths())?;
+    tell(rt, "cells, 12", cells::counts())?;
+    tell(rt, "cells, 13", cells::tags())?;
+    tell(rt, "cells, 14", cells::values())?;
+    tell(rt, "cells, 15 by the cell before", cells::follows())?;
+    tell(rt, "cells, 15 by the end", cells::ends())?;
+    tell(rt, "cells, order", cells::orders())
 }
 
-fn check_addresses(rt: &impl Print) -> io::Result<()> {
-    tell(rt, b"MReg", addresses::bases(none_yet()))?;
-    tell(rt, b"MIndex, extremes", addresses::extremes(none_yet()))?;
-    tell(rt, b"MIndex, edges", addresses::edges(none_yet()))?;
-    tell(rt, b"MIndex, products", addresses::products(none_yet()))?;
-    tell(rt, b"operands", addresses::operands(none_yet()))
+fn tell_splits(rt: &impl Print) -> io::Result<()> {
+    tell(rt, "splits, accepted", splits::accepted())?;
+    tell(rt, "splits, 13", splits::tags())?;
+    tell(rt, "splits, 14", splits::values())?;
+    tell(rt, "splits, 15 by the cell before", splits::follows())?;
+    tell(rt, "splits, 15 by the end", splits::ends())?;
+    tell(rt, "splits, behind 2^64", splits::tops())?;
+    tell(rt, "splits, order", splits::orders())
 }
 
-fn check_searches(rt: &impl Print) -> io::Result<()> {
-    tell(rt, b"searches", searches::searches(none_yet()))?;
-    tell(rt, b"searches, in a row", searches::rows(none_yet()))?;
-    tell(rt, b"searches, gaps", searches::gaps(none_yet()))?;
-    tell(rt, b"searches, the end", searches::tops(none_yet()))?;
-    tell(rt, b"searches, no cells", searches::empties(none_yet()))?;
-    tell(rt, b"cells of operands", searches::operands(none_yet()))?;
+fn tell_addresses(rt: &impl Print) -> io::Result<()> {
+    tell(rt, "MReg", addresses::bases())?;
+    tell(rt, "MIndex, extremes", addresses::extremes())?;
+    tell(rt, "MIndex, edges", addresses::edges())?;
+    tell(rt, "MIndex, products", addresses::products())?;
+    tell(rt, "operands", addresses::operands())
+}
+
+fn tell_searches(rt: &impl Print) -> io::Result<()> {
+    tell(rt, "searches", searches::searches())?;
+    tell(rt, "searches, in a row", searches::rows())?;
+    tell(rt, "searches, gaps", searches::gaps())?;
+    tell(rt, "searches, the end", searches::tops())?;
+    tell(rt, "searches, no cells", searches::empties())?;
+    tell(rt, "cells of operands", searches::operands())?;
     tell(
         rt,
-        b"cells of indexed operands",
-        searches::indexed_operands(none_yet()),
+        "cells of indexed operands",
+        searches::indexed_operands(),
     )
 }
 
 fn main(rt: HostRuntime) -> io::Result<()> {
-    check_cells(&rt)?;
-    check_splits(&rt)?;
-    check_addresses(&rt)?;
-    check_searches(&rt)?;
-    tell(&rt, b"xmms", xmms::xmms(none_yet()))
+    tell_cells(&rt)?;
+    tell_splits(&rt)?;
+    tell_addresses(&rt)?;
+    tell_searches(&rt)?;
+    tell(&rt, "xmms", xmms::xmms())
 }

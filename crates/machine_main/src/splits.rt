@@ -4,9 +4,9 @@
 ghost use Rattle.std.specs.Prelude.{◌<◌, ◌≤◌, length};
 ghost use Rattle.machine.specs.Cells.{SameLengths};
 
-use crate::cells::is_verdict;
-use crate::tally::{Tally, counted};
-use machine::{Checked, Wide};
+use crate::cells::{Told, told};
+use machine::{Refusal, Wide, check_cells, check_from};
+use stored::Tally;
 
 const TOP: u64 = 18446744073709551615;
 
@@ -22,38 +22,23 @@ struct Cells {
 }
 
 // The answer of a refused front, or of the rest behind an accepted one, which ends at `left`.
-fn in_two(addresses: &[u64], tags: &[u8], values: &[u64], at: usize, left: Wide) -> Checked
-    requires same_lengths { SameLengths addresses.now tags.now values.now }
-    requires at_in_bounds { at ≤ length addresses.now }
+fn in_two(c: &Cells, at: usize, left: Wide) -> Result<(), Refusal>
+    requires { at ≤ 4 }
 {
-    let front = machine::check_cells(&addresses[..at], &tags[..at], &values[..at]);
-    match front {
-        Checked::Accepted => machine::check_from(addresses, tags, values, at, left),
-        Checked::Refused(_, _) => front,
-    }
+    check_cells(&c.addresses[..at], &c.tags[..at], &c.values[..at])?;
+    check_from(&c.addresses, &c.tags, &c.values, at, left)
 }
 
 // Every split has the answer of all the cells: with none of them in the front first, and all of them last.
-fn every_split(t: Tally, c: Cells, expected: Checked) -> Tally {
-    let addresses = c.addresses;
-    let tags = c.tags;
-    let values = c.values;
-    let low = c.low;
-    let high = c.high;
-    let mut t = t;
-    for at in 0..5 {
-        let left = Wide {
-            high: high[at],
-            low: low[at],
-        };
-        let got = in_two(&addresses, &tags, &values, at, left);
-        t = counted(t, is_verdict(got, expected));
+fn every_split(tally: &mut Tally, c: &Cells, expected: Told) {
+    for (at, (&high, &low)) in c.high.iter().zip(&c.low).enumerate() {
+        tally.count(told(in_two(c, at, Wide { high, low })) == expected);
     }
-    t
 }
 
 // Cells without a gap and with gaps, of all tags, and such that end at 2^64.
-pub fn accepted(t: Tally) -> Tally {
+pub fn accepted() -> Tally {
+    let mut tally = Tally::new();
     let close = Cells {
         addresses: [0, 1, 3, 7],
         tags: [8, 16, 32, 64],
@@ -61,7 +46,7 @@ pub fn accepted(t: Tally) -> Tally {
         low: [0, 1, 3, 7, 15],
         high: [0; 5],
     };
-    let t = every_split(t, close, Checked::Accepted);
+    every_split(&mut tally, &close, Ok(()));
     let apart = Cells {
         addresses: [5, 100, 4096, 9223372036854775808],
         tags: [64, 8, 16, 32],
@@ -69,7 +54,7 @@ pub fn accepted(t: Tally) -> Tally {
         low: [0, 13, 101, 4098, 9223372036854775812],
         high: [0; 5],
     };
-    let t = every_split(t, apart, Checked::Accepted);
+    every_split(&mut tally, &apart, Ok(()));
     let to_the_end = Cells {
         addresses: [0, TOP - 16, TOP - 8, TOP - 7],
         tags: [8, 64, 8, 64],
@@ -77,11 +62,12 @@ pub fn accepted(t: Tally) -> Tally {
         low: [0, 1, TOP - 8, TOP - 7, 0],
         high: [0, 0, 0, 0, 1],
     };
-    every_split(t, to_the_end, Checked::Accepted)
+    every_split(&mut tally, &to_the_end, Ok(()));
+    tally
 }
 
 // Four words in a row from 16 on, but for one cell, which breaks a rule: a split has it in the rest, first in it, or in the front.
-fn broken(t: Tally, at: usize, address: u64, tag: u8, value: u64, number: u8) -> Tally
+fn broken(tally: &mut Tally, at: usize, address: u64, tag: u8, value: u64, number: u8)
     requires { at < 4 }
 {
     let mut addresses = [16, 24, 32, 40];
@@ -97,45 +83,53 @@ fn broken(t: Tally, at: usize, address: u64, tag: u8, value: u64, number: u8) ->
         low: [0, 24, 32, 40, 48],
         high: [0; 5],
     };
-    every_split(t, words, Checked::Refused(number, at))
+    every_split(tally, &words, Err((number, at)));
 }
 
 // 13, with and without the others.
-pub fn tags(t: Tally) -> Tally {
-    let t = broken(t, 0, 16, 24, 0, 13);
-    let t = broken(t, 1, 24, 24, TOP, 13);
-    let t = broken(t, 2, 31, 24, TOP, 13);
-    broken(t, 3, 40, 24, 0, 13)
+pub fn tags() -> Tally {
+    let mut tally = Tally::new();
+    broken(&mut tally, 0, 16, 24, 0, 13);
+    broken(&mut tally, 1, 24, 24, TOP, 13);
+    broken(&mut tally, 2, 31, 24, TOP, 13);
+    broken(&mut tally, 3, 40, 24, 0, 13);
+    tally
 }
 
 // 14, with and without 15.
-pub fn values(t: Tally) -> Tally {
-    let t = broken(t, 0, 16, 8, 256, 14);
-    let t = broken(t, 1, 24, 16, 65536, 14);
-    let t = broken(t, 2, 31, 32, 4294967296, 14);
-    broken(t, 3, 40, 32, TOP, 14)
+pub fn values() -> Tally {
+    let mut tally = Tally::new();
+    broken(&mut tally, 0, 16, 8, 256, 14);
+    broken(&mut tally, 1, 24, 16, 65536, 14);
+    broken(&mut tally, 2, 31, 32, 4294967296, 14);
+    broken(&mut tally, 3, 40, 32, TOP, 14);
+    tally
 }
 
 // 15: a byte before the end of the cell before, and at 0, where no cell but the first may stand.
-pub fn follows(t: Tally) -> Tally {
-    let t = broken(t, 1, 23, 8, 0, 15);
-    let t = broken(t, 2, 31, 64, 0, 15);
-    let t = broken(t, 3, 39, 8, 0, 15);
-    let t = broken(t, 1, 0, 64, 0, 15);
-    let t = broken(t, 2, 0, 8, 0, 15);
-    broken(t, 3, 0, 64, 0, 15)
+pub fn follows() -> Tally {
+    let mut tally = Tally::new();
+    broken(&mut tally, 1, 23, 8, 0, 15);
+    broken(&mut tally, 2, 31, 64, 0, 15);
+    broken(&mut tally, 3, 39, 8, 0, 15);
+    broken(&mut tally, 1, 0, 64, 0, 15);
+    broken(&mut tally, 2, 0, 8, 0, 15);
+    broken(&mut tally, 3, 0, 64, 0, 15);
+    tally
 }
 
 // 15: a byte behind the end of the memory.
-pub fn ends(t: Tally) -> Tally {
-    let t = broken(t, 0, TOP - 6, 64, 0, 15);
-    let t = broken(t, 1, TOP - 2, 32, 0, 15);
-    let t = broken(t, 2, TOP, 16, 0, 15);
-    broken(t, 3, TOP - 6, 64, 0, 15)
+pub fn ends() -> Tally {
+    let mut tally = Tally::new();
+    broken(&mut tally, 0, TOP - 6, 64, 0, 15);
+    broken(&mut tally, 1, TOP - 2, 32, 0, 15);
+    broken(&mut tally, 2, TOP, 16, 0, 15);
+    broken(&mut tally, 3, TOP - 6, 64, 0, 15);
+    tally
 }
 
 // A cell behind one that ends at 2^64.
-fn behind(t: Tally, address: u64, tag: u8, value: u64, number: u8) -> Tally {
+fn behind(tally: &mut Tally, address: u64, tag: u8, value: u64, number: u8) {
     let top = Cells {
         addresses: [0, TOP - 7, address, 0],
         tags: [64, 64, tag, 64],
@@ -143,20 +137,23 @@ fn behind(t: Tally, address: u64, tag: u8, value: u64, number: u8) -> Tally {
         low: [0, 8, 0, 0, 0],
         high: [0, 0, 1, 0, 0],
     };
-    every_split(t, top, Checked::Refused(number, 2))
+    every_split(tally, &top, Err((number, 2)));
 }
 
 // Nothing is accepted behind 2^64, and 13 and 14 come first there too.
-pub fn tops(t: Tally) -> Tally {
-    let t = behind(t, 0, 8, 0, 15);
-    let t = behind(t, 8, 64, TOP, 15);
-    let t = behind(t, TOP, 8, 255, 15);
-    let t = behind(t, TOP, 9, TOP, 13);
-    behind(t, 0, 8, 256, 14)
+pub fn tops() -> Tally {
+    let mut tally = Tally::new();
+    behind(&mut tally, 0, 8, 0, 15);
+    behind(&mut tally, 8, 64, TOP, 15);
+    behind(&mut tally, TOP, 8, 255, 15);
+    behind(&mut tally, TOP, 9, TOP, 13);
+    behind(&mut tally, 0, 8, 256, 14);
+    tally
 }
 
 // Of two cells that break a rule the first counts, on whichever side it stands.
-pub fn orders(t: Tally) -> Tally {
+pub fn orders() -> Tally {
+    let mut tally = Tally::new();
     let overlap = Cells {
         addresses: [0, 7, 8, 16],
         tags: [64, 64, 9, 64],
@@ -164,7 +161,7 @@ pub fn orders(t: Tally) -> Tally {
         low: [0, 8, 0, 0, 0],
         high: [0; 5],
     };
-    let t = every_split(t, overlap, Checked::Refused(15, 1));
+    every_split(&mut tally, &overlap, Err((15, 1)));
     let large = Cells {
         addresses: [0, 8, 16, 16],
         tags: [64, 64, 8, 64],
@@ -172,5 +169,6 @@ pub fn orders(t: Tally) -> Tally {
         low: [0, 8, 16, 0, 0],
         high: [0; 5],
     };
-    every_split(t, large, Checked::Refused(14, 2))
+    every_split(&mut tally, &large, Err((14, 2)));
+    tally
 }

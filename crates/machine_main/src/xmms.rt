@@ -1,6 +1,7 @@
 // Quads of xmms, set and read back, beside those that stay.
 
-use crate::tally::{Tally, counted};
+use machine::{set_xmm, xmm_at};
+use stored::Tally;
 use words::Quad32;
 
 const ZERO: Quad32 = Quad32 {
@@ -24,27 +25,22 @@ const HIGH: Quad32 = Quad32 {
     hi3: 4294967292,
 };
 
-fn is_quad(got: Quad32, expected: Quad32) -> bool {
-    got.lo0 == expected.lo0
-        && got.lo1 == expected.lo1
-        && got.hi2 == expected.hi2
-        && got.hi3 == expected.hi3
-}
-
-pub fn xmms(t: Tally) -> Tally {
+pub fn xmms() -> Tally {
+    let mut tally = Tally::new();
     let mut all = [0u32; 64];
-    machine::set_xmm(&mut all, 0, LOW);
-    machine::set_xmm(&mut all, 7, LOW);
-    machine::set_xmm(&mut all, 15, HIGH);
-    machine::set_xmm(&mut all, 7, HIGH);
-    let t = counted(t, is_quad(machine::xmm_at(&all, 0), LOW));
-    let t = counted(t, is_quad(machine::xmm_at(&all, 1), ZERO));
-    let t = counted(t, is_quad(machine::xmm_at(&all, 6), ZERO));
-    let t = counted(t, is_quad(machine::xmm_at(&all, 7), HIGH));
-    let t = counted(t, is_quad(machine::xmm_at(&all, 8), ZERO));
-    let t = counted(t, is_quad(machine::xmm_at(&all, 14), ZERO));
-    let t = counted(t, is_quad(machine::xmm_at(&all, 15), HIGH));
-    let t = counted(t, all[3] == 4);
-    let t = counted(t, all[28] == 4294967295);
-    counted(t, all[63] == 4294967292)
+    set_xmm(&mut all, 0, LOW);
+    set_xmm(&mut all, 7, LOW);
+    set_xmm(&mut all, 15, HIGH);
+    set_xmm(&mut all, 7, HIGH);
+    tally.count(xmm_at(&all, 0) == LOW);
+    tally.count(xmm_at(&all, 1) == ZERO);
+    tally.count(xmm_at(&all, 6) == ZERO);
+    tally.count(xmm_at(&all, 7) == HIGH);
+    tally.count(xmm_at(&all, 8) == ZERO);
+    tally.count(xmm_at(&all, 14) == ZERO);
+    tally.count(xmm_at(&all, 15) == HIGH);
+    tally.count(all[3] == 4);
+    tally.count(all[28] == 4294967295);
+    tally.count(all[63] == 4294967292);
+    tally
 }
