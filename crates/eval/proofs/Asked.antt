@@ -14,7 +14,7 @@ use mir.Syntax.{w64}
 use mir.Val.{Fits}
 use Rattle.words.specs.Sums.{sum_mod, mul_div, mul_mod}
 use Rattle.words.specs.Types.{quad32, extract_nat64}
-use Rattle.words.specs.declared.Quad32.{Quad32}
+use Rattle.words.specs.Parts.{Quad32}
 use Rattle.machine.specs.Registers.{reg_at, Rsp, xmm_at, set_xmm}
 use Rattle.machine.specs.Cells.{Verdict, accepted, verdict, check_cells}
 use Rattle.machine.specs.declared.Checked.{Checked}
