@@ -156,13 +156,15 @@ def main():
     rows = [[k] + r for k, name in enumerate(NUMBERED) for r in tables[name]]
     assert all(0 <= n < M64 for r in rows for n in r)
     print("// Inputs and expected outputs of every function of `words`, printed by vectors.py with Python's")
-    print("// integers. A row is eight words: the function's number, x and y (two words each), s, and the")
-    print("// two words of the result. A name is 16 bytes, by the function's number.")
-    print("pub const NAMES: [u8; %d] = *b\"%s\";" % (16 * len(NUMBERED), "".join(n.ljust(16) for n in NUMBERED)))
+    print("// integers.")
+    print("pub const NAMES: [&str; %d] = [%s];" % (len(NUMBERED), ", ".join('"%s"' % n for n in NUMBERED)))
     print()
-    print("pub const ROWS: [u64; %d] = [" % (8 * len(rows)))
+    print("// The function's place in NAMES, x and y (two words each), s, and the two words of the result.")
+    print("pub type Row = [u64; 8];")
+    print()
+    print("pub const ROWS: [Row; %d] = [" % len(rows))
     for r in rows:
-        print("    " + ", ".join(str(n) for n in r) + ",")
+        print("    [" + ", ".join(str(n) for n in r) + "],")
     print("];")
 
 

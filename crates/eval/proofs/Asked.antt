@@ -14,7 +14,7 @@ use mir.Syntax.{w64}
 use mir.Val.{Fits}
 use Rattle.words.specs.Sums.{sum_mod, mul_div, mul_mod}
 use Rattle.words.specs.Types.{quad32, extract_nat64}
-use Rattle.words.specs.declared.Quad32.{Quad32}
+use Rattle.words.specs.Parts.{Quad32}
 use Rattle.machine.specs.Registers.{reg_at, Rsp, xmm_at, set_xmm}
 use Rattle.machine.specs.Cells.{Verdict, accepted, verdict, check_cells}
 use Rattle.machine.specs.declared.Checked.{Checked}
@@ -52,7 +52,7 @@ use Rattle.eval.specs.declared.operand.Slot.{Slot}
 use Rattle.eval.specs.declared.comparison.Compared.{Compared}
 use Rattle.eval.specs.declared.cycle.Way.{Way}
 use Rattle.eval.proofs.OperandLaws.{load_constant, load_register, load_cell, load_none, resolve_constant, resolve_rsp, resolve_register, resolve_cell, resolve_none, cell_inside}
-use Rattle.eval.proofs.InstructionLaws.{exit, ran_stood, load_at, slot_at, plus_none, two_unread, two_amount, two_unwritten, two_done, lea_unread, lea_unread_second, lea_unwritten, lea_done, mul_unread, mul_done, mulx_unread, mulx_unwritten, mulx_unresolved, mulx_done}
+use Rattle.eval.proofs.InstructionLaws.{exit, ran_stood, load_at, slot_at, two_unread, two_amount, two_unwritten, two_done, lea_unread, lea_unread_second, lea_unwritten, lea_done, mul_unread, mul_done, mulx_unread, mulx_unwritten, mulx_unresolved, mulx_done}
 use Rattle.eval.proofs.LaneLaws.{extract_unwritten, extract_done, inserts_unread, inserts_done}
 use Rattle.eval.proofs.ComparisonLaws.{stands_inside, first_unread, second_unread, compared}
 use Rattle.eval.proofs.RunLaws.{code_refused, cells_refused}
@@ -353,11 +353,11 @@ module _ (addresses tags regs xmms values bs : List ℕ) (fill : ℕ) (rule : Fl
         pub sum_done :
             t.how ≤ 1 →
             (regs' values' : List ℕ) (v : ℕ) →
-            regs' ≡ put_regs t v regs → values' ≡ put_values t v values → v ≡ sum_mod 64 (q.word + r.word + 0) →
+            regs' ≡ put_regs t v regs → values' ≡ put_values t v values → v ≡ sum_mod 64 (q.word + r.word) →
             Lea (exit 0 r.next) (held regs' xmms flags values')
         sum_done h regs' values' v a b c =
             lea_done addresses tags regs xmms values fill rule flags at _ _ _ _ _ _ t q r lea_dst lea_one lea_two there found
-            h regs' values' v a b (c ∙ plus_none _ _)
+            h regs' values' v a b c
 
   -- two destinations and a source
   module _ (t : Slot) (r : Loaded) (w : OperandsX addresses tags regs values bs at t r) where

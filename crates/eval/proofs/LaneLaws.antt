@@ -8,7 +8,7 @@ use borrow.Author.Tests.{lt-ltb, le-ltb, ne_eqb}
 use lib.Dec.{ltb}
 use Rattle.words.proofs.LaneLaws.{extract_nat64_is}
 use Rattle.words.specs.Types.{quad32, extract_nat64, shuffle_lanes, shift_quad}
-use Rattle.words.specs.declared.Quad32.{Quad32}
+use Rattle.words.specs.Parts.{Quad32}
 use Rattle.machine.specs.Registers.{xmm_at, set_xmm}
 use Rattle.machine.specs.declared.Operand.{Operand}
 use Rattle.code.specs.declared.tree.Instruction.{Instruction}

@@ -10,8 +10,8 @@ ghost use Rattle.eval.specs.Promises.{IsEffect};
 
 use crate::answer::Evaluation;
 use words::{
-    add_overflows, add64, cf, iand64, ishl64, ishr64, ixor64, lzcnt64, mul_mod, overflow, popcnt64,
-    sub64, tzcnt64, update_cf, update_of,
+    Word, add, add_overflows, cf, lzcnt64, mul_mod, overflow, popcnt64, tzcnt64, update_cf,
+    update_of,
 };
 
 // What an instruction writes to its destination and to the flags.
@@ -25,7 +25,7 @@ pub struct Effect {
 fn carry_addition(flags: u64, a: u64, b: u64, carry: bool) -> Effect
     ensures { IsEffect (sum_mod 64 (a + b + bit carry)) (Flags.update_cf flags (sum_carry 64 (a + b + bit carry))) result }
 {
-    let sum = add64(a, b, carry);
+    let sum = add(a, b, carry);
     Effect {
         word: sum.word,
         flags: update_cf(flags, sum.carry),
@@ -36,7 +36,7 @@ fn carry_addition(flags: u64, a: u64, b: u64, carry: bool) -> Effect
 fn board_addition(fill: u64, a: u64, b: u64, carry: bool) -> Effect
     ensures { (flags : ℕ) → IsEffect (sum_mod 64 (a + b + bit carry)) (board_flags fill flags a b (bit carry)) result }
 {
-    let sum = add64(a, b, carry);
+    let sum = add(a, b, carry);
     let filled = update_of(fill, add_overflows(a, b, carry));
     Effect {
         word: sum.word,
@@ -60,7 +60,7 @@ fn overflow_addition(flags: u64, a: u64, b: u64) -> Effect
     ensures { IsEffect (sum_mod 64 (a + b + bit (Flags.overflow flags)))
         (Flags.update_of flags (sum_carry 64 (a + b + bit (Flags.overflow flags)))) result }
 {
-    let sum = add64(a, b, overflow(flags));
+    let sum = add(a, b, overflow(flags));
     Effect {
         word: sum.word,
         flags: update_of(flags, sum.carry),
@@ -92,7 +92,7 @@ pub fn effect_of(kind: u8, evaluation: Evaluation, fill: u64, flags: u64, a: u64
         0x05 => carry_addition(flags, a, b, cf(flags)),
         0x06 => overflow_addition(flags, a, b),
         0x07 => Effect {
-            word: sub64(a, b).word,
+            word: a.minus(b).word,
             flags: fill,
         },
         0x0a => Effect {
@@ -100,19 +100,19 @@ pub fn effect_of(kind: u8, evaluation: Evaluation, fill: u64, flags: u64, a: u64
             flags: fill,
         },
         0x0b => Effect {
-            word: ixor64(a, b),
+            word: a.ixor(b),
             flags: cleared(fill),
         },
         0x0c => Effect {
-            word: iand64(a, b),
+            word: a.iand(b),
             flags: fill,
         },
         0x0d => Effect {
-            word: ishr64(a, b),
+            word: a.ishr(b),
             flags: fill,
         },
         0x0e => Effect {
-            word: ishl64(a, b),
+            word: a.ishl(b),
             flags: fill,
         },
         0x19 => Effect {

@@ -12,7 +12,7 @@ use crate::answer::Evaluation;
 use crate::arithmetic::effect_of;
 use crate::exit::Exit;
 use crate::operand::{load, put, resolve};
-use words::add64;
+use words::Word;
 
 // Whether this is a shift by 64 or more.
 fn too_far(kind: u8, amount: u64) -> bool
@@ -118,7 +118,7 @@ pub fn add_lea(
             place: at,
         };
     }
-    put(dst, add64(one.word, two.word, false).word, regs, values);
+    put(dst, one.word.plus(two.word).word, regs, values);
     Exit {
         number: 0,
         place: two.next,

@@ -5,7 +5,7 @@ ghost use Rattle.std.proofs.Math.IntN.{sub_ℕ};
 ghost use Rattle.machine.specs.Operands.{word_of, in_range};
 ghost use Rattle.machine.specs.Wide.{number};
 
-use words::{add64, mul_wide, sub64};
+use words::{Word, mul_wide};
 
 // high * 2^64 + low
 #[derive(Clone, Copy)]
@@ -24,7 +24,7 @@ pub fn plus(w: Wide, x: u64) -> Wide
     requires { number w < 2 ^ 68 }
     ensures { number result ≡ number w + x }
 {
-    let sum = add64(w.low, x, false);
+    let sum = w.low.plus(x);
     Wide {
         high: w.high + sum.carry as u64,
         low: sum.word,
@@ -57,7 +57,7 @@ pub fn is_below(x: u64, w: Wide) -> bool
 pub fn less(w: Wide, x: u64) -> Option<u64>
     ensures { word_of result ≡ in_range (sub_ℕ (number w) x) }
 {
-    let low = sub64(w.low, x);
+    let low = w.low.minus(x);
     let high = low.carry as u64;
     if w.high == high { Some(low.word) } else { None }
 }

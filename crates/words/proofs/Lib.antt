@@ -9,3 +9,4 @@ pub mod ProductLaws
 pub mod FlagLaws
 pub mod PartLaws
 pub mod LaneLaws
+pub mod WordLaws

@@ -2,7 +2,8 @@
 use Rattle.std.proofs.Common.{◌≡◌, ℕ, zero, suc, ◌+◌, ◌*◌, ◌/◌, ◌%◌, ◌^◌, ◌<◌, refl, ap, ◌∙◌, mod-lt, mod-eq_of_lt, add_comm, pow_pos, pow-add}
 use lib.Arith.{digits_lt}
 use lib.Pow.{recompose, high, low}
-use Rattle.words.specs.Words.{Two, Four, mktwo, mkfour, two_two_to_four, four_to_two_two, nat_to_two, two_to_nat, nat_to_four, two_select, four_select}
+use Rattle.words.specs.Parts.{Mapped}
+use Rattle.words.specs.Words.{Two, Four, mktwo, mkfour, four_map, two_two_to_four, four_to_two_two, nat_to_two, two_to_nat, nat_to_four, two_select, four_select}
 
 pub nat_to_two_lo_lt : (size n : ℕ) → (nat_to_two size n).lo < 2 ^ size
 unfolding nat_to_two
@@ -34,6 +35,11 @@ nat_to_two_of size x hl hh =
 -- quads of equal parts
 pub four_eq : {A : Type 0} {a b c d a' b' c' d' : A} → a ≡ a' → b ≡ b' → c ≡ c' → d ≡ d' → mkfour a b c d ≡ mkfour a' b' c' d'
 four_eq p q r s i = mkfour (p i) (q i) (r i) (s i)
+
+-- where each part is f of a part, the quad is that of f
+pub map_is :
+    {A B : Type 0} (R : A → B → Type 0) (f : A → B) (x : Four A) (y : Four B) → ((a : A) (b : B) → R a b → b ≡ f a) → Mapped R x y → y ≡ four_map f x
+map_is R f x y is m = four_eq (is _ _ m.lo0_is) (is _ _ m.lo1_is) (is _ _ m.hi2_is) (is _ _ m.hi3_is)
 
 pub four_of_twos : {A : Type 0} (x : Four A) → two_two_to_four (four_to_two_two x) ≡ x
 four_of_twos x = refl

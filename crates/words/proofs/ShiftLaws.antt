@@ -7,6 +7,15 @@ use lib.Pow.{shr_le, field, mod-mod-pow}
 use Rattle.words.specs.Bits.{to_vec, ishl, ishr}
 use Rattle.words.proofs.BitLaws.{half_lt}
 
+-- the definitions
+pub ishl_is : (n x s : ℕ) → ishl n x s ≡ x * 2 ^ s % 2 ^ n
+unfolding ishl
+ishl_is n x s = refl
+
+pub ishr_is : (x s : ℕ) → ishr x s ≡ x / 2 ^ s
+unfolding ishr
+ishr_is x s = refl
+
 pub ishl_lt : (n x s : ℕ) → ishl n x s < 2 ^ n
 unfolding ishl
 ishl_lt n x s = mod-lt (x * 2 ^ s) (pow_pos n)

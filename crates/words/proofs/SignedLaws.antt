@@ -1,13 +1,13 @@
 -- A word as a signed number is the word less 2 ^ n where it is negative. So a sum of two is the sum of the words less 2 ^ n once for each negative
 -- one, and where it leaves the range both have one sign and the word of the sum has the other; where it does not, the word of the sum is the sum.
-use Rattle.std.proofs.Common.{◌≡◌, ℕ, zero, suc, ◌+◌, ◌-◌, ◌*◌, ◌^◌, ◌<◌, ◌≤◌, Bool, true, false, not, ◌&&◌, ◌||◌, ltb, leb, ◌⊎◌, ℤ, pos, negsuc, ◌+ℤ◌, ◌-ℤ◌, neg_ℤ, sym, refl, ap, ◌∙◌, inl, inr, ⊎_elim, arith, pow_pos, SFits, to_z, of_z, ltb-false, ltb-true, le-ltb, lt-ltb, le-leb, leb-false, leb-true}
+use Rattle.std.proofs.Common.{◌≡◌, ℕ, suc, ◌+◌, ◌-◌, ◌*◌, ◌^◌, ◌<◌, ◌≤◌, Bool, true, false, not, ◌&&◌, ◌||◌, ltb, leb, ◌⊎◌, ℤ, pos, negsuc, ◌+ℤ◌, neg_ℤ, sym, refl, ap, ◌∙◌, inl, inr, ⊎_elim, arith, pow_pos, to_z, of_z, ltb-false, ltb-true, le-ltb, lt-ltb, le-leb, leb-false, leb-true}
 use mathlib.Core.Bool.{beq}
 use borrow.Author.Tests.{not-false, lt-leb}
 use lib.IntN.{sub_ℕ}
 use lib.Signed.{lt_z, le_z}
 use mir.Syntax.{Width}
 use mir.Val.{bits, hbits}
-use mir.ValLaws.{to_z_pos, to_z-of_z}
+use Rattle.std.proofs.lemmas.Int.{to_z_pos, of_z-to_z}
 use Rattle.words.specs.Bits.{bit}
 use Rattle.words.specs.Signed.{signed_word, signed_sum, leaves}
 use Rattle.words.specs.Sums.{Added}
@@ -31,26 +31,17 @@ module _ (n x : ℕ) where
   is_negative h k = sub_high h ∙ rw (lt-ltb x (2 ^ n) k) (ap negsuc (omega arith))
 
 -- ---- the language's signed integers, of width w, read a word so too
-less_one : (k : ℕ) → negsuc 0 -ℤ pos k ≡ negsuc k
-less_one zero = refl
-less_one (suc k) = ap (λ (n : ℕ). negsuc (suc n)) (omega arith)
+module _ (w : Width) (n r : ℕ) (full : 2 ^ n ≡ 2 ^ bits w) (half : 2 ^ (n - 1) ≡ 2 ^ hbits w) (fits : r < 2 ^ bits w) where
+  read_signed : (b : Bool) → ltb r (2 ^ hbits w) ≡ b → to_z w r ≡ signed_word n r
+  read_signed true p =
+      let l : r < 2 ^ hbits w = ltb-true r (2 ^ hbits w) p in
+      to_z_pos w r l ∙ sym (not_negative n r (omega arith))
+  read_signed false p =
+      let h : 2 ^ hbits w ≤ r = ltb-false r (2 ^ hbits w) p in
+      rw p (sym (is_negative n r (omega arith) (omega arith) ∙ ap negsuc (omega arith)))
 
-module _ (w : Width) (n : ℕ) (full : 2 ^ n ≡ 2 ^ bits w) (half : 2 ^ (n - 1) ≡ 2 ^ hbits w) (r : ℕ) where
-  pub signed_low : r < 2 ^ hbits w → to_z w r ≡ signed_word n r
-  signed_low l = to_z_pos w r l ∙ sym (not_negative n r (omega arith))
-
-  module _ (high : 2 ^ hbits w ≤ r) (twice : 2 ^ bits w ≡ 2 * 2 ^ hbits w) (fits : r < 2 ^ bits w) where
-    complement : negsuc 0 -ℤ to_z w (2 ^ bits w - 1 - r) ≡ negsuc (2 ^ bits w - 1 - r)
-    complement = ap (λ (z : ℤ). negsuc 0 -ℤ z) (to_z_pos w (2 ^ bits w - 1 - r) (omega arith)) ∙ less_one (2 ^ bits w - 1 - r)
-
-    pub complement_fits : SFits w (negsuc 0 -ℤ to_z w (2 ^ bits w - 1 - r))
-    complement_fits = rw complement (record { sfits = omega arith })
-
-    pub signed_high : to_z w (of_z w (negsuc 0 -ℤ to_z w (2 ^ bits w - 1 - r))) ≡ signed_word n r
-    signed_high =
-        to_z-of_z w (negsuc 0 -ℤ to_z w (2 ^ bits w - 1 - r)) complement_fits
-        ∙ complement
-        ∙ sym (is_negative n r (omega arith) (omega arith) ∙ ap negsuc (omega arith))
+  pub signed_is : (z : ℤ) → z ≡ to_z w r → to_z w (of_z w z) ≡ signed_word n r
+  signed_is z e = ap (λ (y : ℤ). to_z w (of_z w y)) e ∙ ap (to_z w) (of_z-to_z w r fits) ∙ read_signed (ltb r (2 ^ hbits w)) refl
 
 -- ---- sums
 -- two words that are x and y too large as signed numbers

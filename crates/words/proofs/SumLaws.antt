@@ -1,10 +1,9 @@
 -- A sum of two n-bit words and a carry is below 2 ^ n twice over, so it wraps at most once, and then it lies below each of its terms.
-use Rattle.std.proofs.Common.{◌≡◌, ℕ, ◌+◌, ◌-◌, ◌*◌, ◌%◌, ◌^◌, ◌<◌, ◌≤◌, Bool, true, false, ltb, leb, ◌⊎◌, sym, refl, ap, ◌∙◌, inl, inr, ⊎_elim, mod-lt, mod-eq_of_lt, arith, pow_pos, ltb-false, ltb-true, le-ltb, lt-ltb, le-leb}
-use native.Mathlib.Nat.{add-mod_right, mod-add-mod, mod-eq-sub-mod}
+use Rattle.std.proofs.Common.{◌≡◌, ℕ, ◌+◌, ◌-◌, ◌*◌, ◌%◌, ◌^◌, ◌<◌, ◌≤◌, Bool, true, false, ltb, leb, ◌⊎◌, ◌||◌, sym, refl, ap, ◌∙◌, inl, inr, ⊎_elim, mod-lt, mod-eq_of_lt, arith, pow_pos, ltb-false, ltb-true, le-leb, leb-true, leb-false}
+use native.Mathlib.Nat.{mod-add-mod, mod-eq-sub-mod}
 use native.Mathlib.Decide.{dec_lt}
 use borrow.Author.Tests.{lt-leb}
 use Rattle.words.specs.Bits.{bit}
-use Rattle.words.proofs.BitLaws.{bit_lt}
 use Rattle.words.specs.Sums.{sum_mod, sum_carry, sub_mod, Added, Subtracted}
 
 pub sum_mod_lt : (n s : ℕ) → sum_mod n s < 2 ^ n
@@ -25,58 +24,21 @@ once m s h (no p) =
 
 -- ---- the sum in two steps: first the words, then the carry
 
-module _ (n a b : ℕ) (carry : Bool) (part word : ℕ) (wide : 1 < 2 ^ n) (ha : a < 2 ^ n) (hb : b < 2 ^ n)
-    (hp : part ≡ (a + b) % 2 ^ n) (hw : word ≡ (part + bit carry) % 2 ^ n) where
-  add_word : word ≡ sum_mod n (a + b + bit carry)
+module _ (n s part c word : ℕ) (out over : Bool) (first : Added n s part out) (second : Added n (part + c) word over) where
+  add_word : word ≡ sum_mod n (s + c)
   unfolding sum_mod
-  add_word = hw ∙ ap (λ (x : ℕ). (x + bit carry) % 2 ^ n) hp ∙ mod-add-mod (a + b) (2 ^ n) (bit carry)
+  add_word = second.word_is ∙ ap (λ (x : ℕ). (x + c) % 2 ^ n) first.word_is ∙ mod-add-mod s (2 ^ n) c
 
-  parted : ((a + b < 2 ^ n) × ((a + b) % 2 ^ n ≡ a + b)) ⊎ ((2 ^ n ≤ a + b) × ((a + b) % 2 ^ n + 2 ^ n ≡ a + b))
-  parted = once (2 ^ n) (a + b) (omega arith) (dec_lt (a + b) (2 ^ n))
+  -- the second step may carry only where the first does not
+  add_carry : (t : Bool) → leb (2 ^ n) s ≡ t → (t || over) ≡ sum_carry n (s + c)
+  unfolding sum_mod sum_carry
+  add_carry true p = sym (le-leb (2 ^ n) (s + c) (omega (arith, leb-true (2 ^ n) s p)))
+  add_carry false p =
+      second.carry_is ∙ ap (λ (x : ℕ). leb (2 ^ n) (x + c)) (first.word_is ∙ mod-eq_of_lt (leb-false (2 ^ n) s p))
 
-  carry_wraps : part < a → ltb part a ≡ sum_carry n (a + b + bit carry)
+  pub added_both : Added n (s + c) word (out || over)
   unfolding sum_carry
-  carry_wraps h =
-      lt-ltb part a h
-      ∙ sym (le-leb (2 ^ n) (a + b + bit carry) (⊎_elim (λ w. absurd (omega (arith, w.1))) (λ w. omega (arith, w.0)) parted))
-
-  -- the first step does not wrap, so the second may
-  carry_stays : a ≤ part → ltb word part ≡ sum_carry n (a + b + bit carry)
-  unfolding sum_carry
-  carry_stays h = ⊎_elim stays (λ w. absurd (omega (arith, w.1))) parted
-    where
-      stays : (a + b < 2 ^ n) × ((a + b) % 2 ^ n ≡ a + b) → ltb word part ≡ leb (2 ^ n) (a + b + bit carry)
-      stays w =
-          ⊎_elim
-          (λ v. le-ltb word part (omega (arith, v.1)) ∙ sym (lt-leb (2 ^ n) (a + b + bit carry) (omega (arith, v.0, w.1))))
-          (λ v. lt-ltb word part (omega (arith, v.1, w.1, bit_lt carry)) ∙ sym (le-leb (2 ^ n) (a + b + bit carry) (omega (arith, v.0, w.1))))
-          (once (2 ^ n) (part + bit carry) (omega (arith, w.0, w.1, bit_lt carry)) (dec_lt (part + bit carry) (2 ^ n)))
-
-  pub added_wraps : part < a → Added n (a + b + bit carry) word (ltb part a)
-  added_wraps h = record { word_is = add_word; carry_is = carry_wraps h }
-
-  pub added_stays : a ≤ part → Added n (a + b + bit carry) word (ltb word part)
-  added_stays h = record { word_is = add_word; carry_is = carry_stays h }
-
--- ---- the difference is the word that b added to wraps back to a
-
-module _ (n a b word : ℕ) (hb : b < 2 ^ n) (hw : word < 2 ^ n) (back : (word + b) % 2 ^ n ≡ a) where
-  sub_word : word ≡ sub_mod n a b
-  unfolding sub_mod
-  sub_word =
-      ⊎_elim
-      (λ v. sym (ap (λ (x : ℕ). x % 2 ^ n) (far v.1) ∙ add-mod_right word (2 ^ n) ∙ mod-eq_of_lt hw))
-      (λ v. sym (ap (λ (x : ℕ). x % 2 ^ n) (near v.1) ∙ mod-eq_of_lt hw))
-      (once (2 ^ n) (word + b) (omega arith) (dec_lt (word + b) (2 ^ n)))
-    where
-      far : (word + b) % 2 ^ n ≡ word + b → a + (2 ^ n - b) ≡ word + 2 ^ n
-      far e = omega arith
-
-      near : (word + b) % 2 ^ n + 2 ^ n ≡ word + b → a + (2 ^ n - b) ≡ word
-      near e = omega arith
-
-  pub subtracted : Subtracted n a b word (ltb a b)
-  subtracted = record { word_is = sub_word; borrow_is = refl }
+  added_both = record { word_is = add_word; carry_is = ap (λ (t : Bool). t || over) first.carry_is ∙ add_carry (leb (2 ^ n) s) refl }
 
 -- ---- the number that a word and what left it spell
 

@@ -1,4 +1,5 @@
 pub mod Words
+pub mod Parts
 pub mod Bits
 pub mod Counts
 pub mod Types

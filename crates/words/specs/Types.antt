@@ -2,26 +2,24 @@
 use Rattle.std.specs.Prelude.{ℕ, ◌+◌, ◌%◌, ◌^◌, cond, ◌==◌}
 use Rattle.words.specs.Words.{Two, Four, mktwo, mkfour, four_map, four_map2, two_two_to_four, four_to_two_two, nat_to_two, two_to_nat, nat_to_four, two_select, two_insert, four_select, four_insert}
 use Rattle.words.specs.Bits.{ixor, ishl, ishr}
-use Rattle.words.specs.declared.Double32.{Double32}
-use Rattle.words.specs.declared.TwoDoubles.{TwoDoubles}
-use Rattle.words.specs.declared.Quad32.{Quad32}
-use Rattle.words.specs.declared.BitsOfByte.{BitsOfByte}
+use Rattle.words.specs.Parts.{Double32, Quad32, BitsOfByte, two, four}
+use Rattle.words.specs.declared.parts.Two as Pair
 
 -- `double32`: the pair that a struct holds
 abbrev pub double32 : Double32 → Two ℕ
-double32 d = mktwo d.lo d.hi
+double32 d = two d
 
 -- the pair of pairs that a struct holds
-abbrev pub two_doubles : TwoDoubles → Two (Two ℕ)
+abbrev pub two_doubles : Pair.Two Double32 → Two (Two ℕ)
 two_doubles t = mktwo (double32 t.lo) (double32 t.hi)
 
 -- `quad32`: the quad that a struct holds
 abbrev pub quad32 : Quad32 → Four ℕ
-quad32 q = mkfour q.lo0 q.lo1 q.hi2 q.hi3
+quad32 q = four q
 
 -- `bits_of_byte`: the quad that a struct holds
 abbrev pub bits_of_byte : BitsOfByte → Four ℕ
-bits_of_byte b = mkfour b.lo0 b.lo1 b.hi2 b.hi3
+bits_of_byte b = four b
 
 -- the four two-bit parts of a byte
 abbrev pub byte_to_twobits : ℕ → Four ℕ

@@ -4,24 +4,27 @@ ghost use Rattle.std.specs.Prelude.{◌≡◌, ◌%◌};
 ghost use Rattle.words.specs.Words.{mktwo, two_two_to_four, four_to_two_two, nat_to_two, two_to_nat, two_select, two_insert, four_select, four_insert};
 ghost use Rattle.words.specs.Types.{double32, two_doubles, quad32, bits_of_byte, byte_to_twobits, extract_nat64, select_word, insert_nat32, insert_nat64};
 
-use crate::{BitsOfByte, Double32, Quad32, TwoDoubles};
+use crate::parts::{BitsOfByte, Double32, Four, Quad32, Two};
 
+#[tactic(auto, unfolding(crate::specs::Words::two_select))]
 pub fn two_select(x: Double32, selector: u8) -> u32
     ensures { result ≡ two_select (double32 x) (selector % 2) }
 {
     if selector % 2 == 0 { x.lo } else { x.hi }
 }
 
+#[tactic(auto, unfolding(crate::specs::Words::two_insert))]
 pub fn two_insert(x: Double32, y: u32, selector: u8) -> Double32
     ensures { double32 result ≡ two_insert (double32 x) y (selector % 2) }
 {
     if selector % 2 == 0 {
-        Double32 { lo: y, hi: x.hi }
+        Two { lo: y, ..x }
     } else {
-        Double32 { lo: x.lo, hi: y }
+        Two { hi: y, ..x }
     }
 }
 
+#[tactic(auto, unfolding(crate::specs::Words::four_select))]
 pub fn four_select(x: Quad32, selector: u8) -> u32
     ensures { result ≡ four_select (quad32 x) (selector % 4) }
 {
@@ -33,41 +36,22 @@ pub fn four_select(x: Quad32, selector: u8) -> u32
     }
 }
 
+#[tactic(auto, unfolding(crate::specs::Words::four_insert))]
 pub fn four_insert(x: Quad32, y: u32, selector: u8) -> Quad32
     ensures { quad32 result ≡ four_insert (quad32 x) y (selector % 4) }
 {
     match selector % 4 {
-        0 => Quad32 {
-            lo0: y,
-            lo1: x.lo1,
-            hi2: x.hi2,
-            hi3: x.hi3,
-        },
-        1 => Quad32 {
-            lo0: x.lo0,
-            lo1: y,
-            hi2: x.hi2,
-            hi3: x.hi3,
-        },
-        2 => Quad32 {
-            lo0: x.lo0,
-            lo1: x.lo1,
-            hi2: y,
-            hi3: x.hi3,
-        },
-        _ => Quad32 {
-            lo0: x.lo0,
-            lo1: x.lo1,
-            hi2: x.hi2,
-            hi3: y,
-        },
+        0 => Four { lo0: y, ..x },
+        1 => Four { lo1: y, ..x },
+        2 => Four { hi2: y, ..x },
+        _ => Four { hi3: y, ..x },
     }
 }
 
 pub fn two_two_to_four(lo: Double32, hi: Double32) -> Quad32
     ensures { quad32 result ≡ two_two_to_four (mktwo (double32 lo) (double32 hi)) }
 {
-    Quad32 {
+    Four {
         lo0: lo.lo,
         lo1: lo.hi,
         hi2: hi.lo,
@@ -75,39 +59,42 @@ pub fn two_two_to_four(lo: Double32, hi: Double32) -> Quad32
     }
 }
 
-pub fn four_to_two_two(x: Quad32) -> TwoDoubles
+pub fn four_to_two_two(x: Quad32) -> Two<Double32>
     ensures { two_doubles result ≡ four_to_two_two (quad32 x) }
 {
-    let lo = Double32 {
+    let lo = Two {
         lo: x.lo0,
         hi: x.lo1,
     };
-    let hi = Double32 {
+    let hi = Two {
         lo: x.hi2,
         hi: x.hi3,
     };
-    TwoDoubles { lo, hi }
+    Two { lo, hi }
 }
 
+#[tactic(auto, unfolding(crate::specs::Words::nat_to_two))]
 pub fn nat_to_two(n: u64) -> Double32
     ensures { double32 result ≡ nat_to_two 32 n }
 {
-    Double32 {
+    Two {
         lo: (n % 0x1_0000_0000) as u32,
         hi: (n / 0x1_0000_0000) as u32,
     }
 }
 
+#[tactic(auto, unfolding(crate::specs::Words::two_to_nat))]
 pub fn two_to_nat(x: Double32) -> u64
     ensures { result ≡ two_to_nat 32 (double32 x) }
 {
     x.lo as u64 + x.hi as u64 * 0x1_0000_0000
 }
 
+#[tactic(auto, unfolding(crate::specs::Words::nat_to_four))]
 pub fn byte_to_twobits(b: u8) -> BitsOfByte
     ensures { bits_of_byte result ≡ byte_to_twobits b }
 {
-    BitsOfByte {
+    Four {
         lo0: b % 4,
         lo1: b / 4 % 4,
         hi2: b / 16 % 4,
@@ -127,38 +114,38 @@ pub fn insert_nat32(q: Quad32, n: u32, i: u8) -> Quad32
     four_insert(q, n, i)
 }
 
+#[tactic(auto, unfolding(crate::specs::Types::insert_nat64, crate::specs::Words::two_insert))]
 pub fn insert_nat64(q: Quad32, n: u64, i: u8) -> Quad32
     ensures { quad32 result ≡ insert_nat64 (quad32 q) n (i % 2) }
 {
     let two = nat_to_two(n);
     if i % 2 == 0 {
-        Quad32 {
+        Four {
             lo0: two.lo,
             lo1: two.hi,
-            hi2: q.hi2,
-            hi3: q.hi3,
+            ..q
         }
     } else {
-        Quad32 {
-            lo0: q.lo0,
-            lo1: q.lo1,
+        Four {
             hi2: two.lo,
             hi3: two.hi,
+            ..q
         }
     }
 }
 
 // Pextrq's word: the pair that the selector names, as one number.
+#[tactic(auto, unfolding(crate::specs::Types::extract_nat64, crate::specs::Words::two_select))]
 pub fn extract_nat64(q: Quad32, i: u8) -> u64
     ensures { result ≡ extract_nat64 (quad32 q) (i % 2) }
 {
     if i % 2 == 0 {
-        two_to_nat(Double32 {
+        two_to_nat(Two {
             lo: q.lo0,
             hi: q.lo1,
         })
     } else {
-        two_to_nat(Double32 {
+        two_to_nat(Two {
             lo: q.hi2,
             hi: q.hi3,
         })

@@ -3,28 +3,21 @@ ghost use Rattle.std.specs.Prelude.{◌≡◌};
 ghost use Rattle.words.specs.Bits.{bit};
 ghost use Rattle.words.specs.Signed.{signed_word, signed_sum, leaves};
 
-use crate::sums::add64;
+use crate::sums::add;
 
 // The lowest word that is a negative number.
 const SIGN: u64 = 0x8000_0000_0000_0000;
 
-// Two's complement without a cast that loses bits.
 pub fn signed16(n: u16) -> i16
     ensures { result ≡ signed_word 16 n }
 {
-    if n < 0x8000 {
-        return n as i16;
-    }
-    -1 - ((0xffff - n) as i16)
+    n.cast_signed()
 }
 
 pub fn signed64(n: u64) -> i64
     ensures { result ≡ signed_word 64 n }
 {
-    if n < SIGN {
-        return n as i64;
-    }
-    -1 - ((0xffff_ffff_ffff_ffff - n) as i64)
+    n.cast_signed()
 }
 
 // Whether a sum of two words as signed numbers and a carry leaves their range: both have one sign, and the word of the sum
@@ -32,7 +25,7 @@ pub fn signed64(n: u64) -> i64
 pub fn add_overflows(a: u64, b: u64, carry: bool) -> bool
     ensures { result ≡ leaves 64 (signed_sum 64 a b (bit carry)) }
 {
-    let sum = add64(a, b, carry);
+    let sum = add(a, b, carry);
     let negative = SIGN <= a;
     negative == (SIGN <= b) && negative != (SIGN <= sum.word)
 }

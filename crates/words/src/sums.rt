@@ -1,44 +1,25 @@
 // Sums with their carry and differences with their borrow.
 ghost use Rattle.std.specs.Prelude.{◌+◌};
 ghost use Rattle.words.specs.Bits.{bit};
-ghost use Rattle.words.specs.Sums.{Added, Subtracted};
+ghost use Rattle.words.specs.Sums.{Added};
 
-use crate::{Sum32, Sum64};
-use std::num::{wrapping_add_u64, wrapping_sub_u32, wrapping_sub_u64};
+use crate::word::Word;
 
-// A sum that wraps lies below each of its terms, and at most one of the two sums wraps.
-pub fn add64(a: u64, b: u64, carry: bool) -> Sum64
-    ensures { Added 64 (a + b + bit carry) result.word result.carry }
+// A word and what left it: the carry of a sum, the borrow of a difference.
+#[derive(Clone, Copy)]
+pub struct Sum<W> {
+    pub word: W,
+    pub carry: bool,
+}
+
+// The sum of two words and a carry: at most one of its two sums wraps.
+pub fn add<W: Word>(a: W, b: W, carry: bool) -> Sum<W>
+    ensures { Added W.bits (W.number a + W.number b + bit carry) (W.number result.word) result.carry }
 {
-    let part = wrapping_add_u64(a, b);
-    let word = wrapping_add_u64(part, carry as u64);
-    Sum64 {
-        word,
-        carry: part < a || word < part,
+    let part = a.plus(b);
+    let sum = part.word.plus(W::from(carry));
+    Sum {
+        word: sum.word,
+        carry: part.carry | sum.carry,
     }
-}
-
-// The sum of two 32-bit words and a carry fits 64 bits.
-pub fn add32(a: u32, b: u32, carry: bool) -> Sum32
-    ensures { Added 32 (a + b + bit carry) result.word result.carry }
-{
-    let sum = a as u64 + b as u64 + carry as u64;
-    Sum32 {
-        word: (sum % 4294967296) as u32,
-        carry: sum >= 4294967296,
-    }
-}
-
-pub fn sub64(a: u64, b: u64) -> Sum64
-    ensures { Subtracted 64 a b result.word result.carry }
-{
-    let word = wrapping_sub_u64(a, b);
-    Sum64 { word, carry: a < b }
-}
-
-pub fn sub32(a: u32, b: u32) -> Sum32
-    ensures { Subtracted 32 a b result.word result.carry }
-{
-    let word = wrapping_sub_u32(a, b);
-    Sum32 { word, carry: a < b }
 }

@@ -1,8 +1,8 @@
-// One way to call every function of `words`: a number names the function, x and y hold up to two
-// words each, s the selector, amount, carry or flag, and the result is two words.
-use words::{Double32, Quad32};
+// One way to call every function of `words`: by its name, with up to two words each in x and y, and the selector, amount,
+// carry or flag in s. The result is two words.
+use words::{Double32, Four, Quad32, Sum, Two, Word};
 
-#[derive(Clone, Copy)]
+#[derive(Clone, Copy, PartialEq, Eq)]
 pub struct Pair {
     pub lo: u64,
     pub hi: u64,
@@ -14,202 +14,192 @@ fn word(x: u64) -> u32 {
     (x % 0x1_0000_0000) as u32
 }
 
+fn half(x: u64) -> u16 {
+    (x % 0x1_0000) as u16
+}
+
 fn byte(x: u64) -> u8 {
     (x % 256) as u8
 }
 
 fn double(x: u64) -> Double32 {
-    Double32 {
+    Two {
         lo: (x % 0x1_0000_0000) as u32,
         hi: (x / 0x1_0000_0000) as u32,
     }
 }
 
 fn quad(x: Pair) -> Quad32 {
-    Quad32 {
-        lo0: (x.lo % 0x1_0000_0000) as u32,
-        lo1: (x.lo / 0x1_0000_0000) as u32,
-        hi2: (x.hi % 0x1_0000_0000) as u32,
-        hi3: (x.hi / 0x1_0000_0000) as u32,
+    let lo = double(x.lo);
+    let hi = double(x.hi);
+    Four {
+        lo0: lo.lo,
+        lo1: lo.hi,
+        hi2: hi.lo,
+        hi3: hi.hi,
     }
 }
 
-fn one(x: u64) -> Pair {
-    Pair { lo: x, hi: 0 }
+fn whole(x: Double32) -> u64 {
+    u64::from(x.lo) + u64::from(x.hi) * 0x1_0000_0000
 }
 
-fn packed(lo0: u32, lo1: u32, hi2: u32, hi3: u32) -> Pair {
-    Pair {
-        lo: lo0 as u64 + lo1 as u64 * 0x1_0000_0000,
-        hi: hi2 as u64 + hi3 as u64 * 0x1_0000_0000,
+impl From<u64> for Pair {
+    fn from(lo: u64) -> Pair {
+        Pair { lo, hi: 0 }
     }
 }
 
-fn twos(op: u8, x: Pair, y: Pair, s: u8) -> Pair {
+impl From<u32> for Pair {
+    fn from(x: u32) -> Pair {
+        u64::from(x).into()
+    }
+}
+
+impl From<bool> for Pair {
+    fn from(x: bool) -> Pair {
+        u64::from(x).into()
+    }
+}
+
+impl From<Double32> for Pair {
+    fn from(x: Double32) -> Pair {
+        whole(x).into()
+    }
+}
+
+impl From<Two<Double32>> for Pair {
+    fn from(x: Two<Double32>) -> Pair {
+        Pair {
+            lo: whole(x.lo),
+            hi: whole(x.hi),
+        }
+    }
+}
+
+impl From<Quad32> for Pair {
+    fn from(x: Quad32) -> Pair {
+        Pair {
+            lo: u64::from(x.lo0) + u64::from(x.lo1) * 0x1_0000_0000,
+            hi: u64::from(x.hi2) + u64::from(x.hi3) * 0x1_0000_0000,
+        }
+    }
+}
+
+impl<W: Into<u64>> From<Sum<W>> for Pair {
+    fn from(sum: Sum<W>) -> Pair {
+        Pair {
+            lo: sum.word.into(),
+            hi: u64::from(sum.carry),
+        }
+    }
+}
+
+fn parts(name: &str, x: Pair, y: Pair, s: u8) -> Option<Pair> {
     let d = double(x.lo);
-    match op {
-        0 => one(words::two_select(d, s) as u64),
-        1 => {
-            let r = words::two_insert(d, word(y.lo), s);
-            packed(r.lo, r.hi, 0, 0)
-        }
-        2 => {
-            let r = words::nat_to_two(x.lo);
-            packed(r.lo, r.hi, 0, 0)
-        }
-        3 => one(words::two_to_nat(d)),
-        4 => {
-            let r = words::four_to_two_two(quad(x));
-            let lo = r.lo;
-            let hi = r.hi;
-            packed(lo.lo, lo.hi, hi.lo, hi.hi)
-        }
-        _ => {
-            let r = words::byte_to_twobits(byte(x.lo));
-            packed(r.lo0 as u32, r.lo1 as u32, r.hi2 as u32, r.hi3 as u32)
-        }
-    }
+    let q = quad(x);
+    Some(match name {
+        "two_select" => words::two_select(d, s).into(),
+        "two_insert" => words::two_insert(d, word(y.lo), s).into(),
+        "nat_to_two" => words::nat_to_two(x.lo).into(),
+        "two_to_nat" => words::two_to_nat(d).into(),
+        "four_to_two_two" => words::four_to_two_two(q).into(),
+        "two_two_to_four" => words::two_two_to_four(double(y.lo), double(y.hi)).into(),
+        "byte_to_twobits" => words::byte_to_twobits(byte(x.lo)).map(u32::from).into(),
+        "four_select" => words::four_select(q, s).into(),
+        "four_insert" => words::four_insert(q, word(y.lo), s).into(),
+        "select_word" => words::select_word(q, s).into(),
+        "insert_nat32" => words::insert_nat32(q, word(y.lo), s).into(),
+        "insert_nat64" => words::insert_nat64(q, y.lo, s).into(),
+        "extract_nat64" => words::extract_nat64(q, s).into(),
+        _ => return None,
+    })
 }
 
-fn bits(op: u8, x: u64, y: u64, s: u64) -> u64 {
-    match op {
-        6 => words::iand64(x, y),
-        7 => words::iand32(word(x), word(y)) as u64,
-        8 => words::ixor64(x, y),
-        9 => words::ixor32(word(x), word(y)) as u64,
-        10 => words::ishl64(x, s),
-        11 => words::ishl32(word(x), word(s)) as u64,
-        12 => words::ishr64(x, s),
-        13 => words::ishr32(word(x), word(s)) as u64,
-        14 => words::mul_div(x, y),
-        15 => words::mul_mod(x, y),
-        16 => words::cf(x) as u64,
-        17 => words::overflow(x) as u64,
-        18 => words::update_cf(x, s == 1),
-        _ => words::update_of(x, s == 1),
-    }
+fn bits(name: &str, x: u64, y: u64, s: u64) -> Option<Pair> {
+    let x32 = word(x);
+    let y32 = word(y);
+    let s32 = word(s);
+    Some(match name {
+        "iand64" => x.iand(y).into(),
+        "iand32" => x32.iand(y32).into(),
+        "ixor64" => x.ixor(y).into(),
+        "ixor32" => x32.ixor(y32).into(),
+        "ishl64" => x.ishl(s).into(),
+        "ishl32" => x32.ishl(s32).into(),
+        "ishr64" => x.ishr(s).into(),
+        "ishr32" => x32.ishr(s32).into(),
+        "cf" => words::cf(x).into(),
+        "overflow" => words::overflow(x).into(),
+        "update_cf" => words::update_cf(x, s == 1).into(),
+        "update_of" => words::update_of(x, s == 1).into(),
+        "popcnt64" => words::popcnt64(x).into(),
+        "lzcnt64" => words::lzcnt64(x).into(),
+        "tzcnt64" => words::tzcnt64(x).into(),
+        _ => return None,
+    })
 }
 
-fn sums(op: u8, x: u64, y: u64, carry: bool) -> Pair {
-    if op == 20 {
-        let r = words::add64(x, y, carry);
-        return Pair {
-            lo: r.word,
-            hi: r.carry as u64,
-        };
-    }
-    if op == 21 {
-        let r = words::add32(word(x), word(y), carry);
-        return Pair {
-            lo: r.word as u64,
-            hi: r.carry as u64,
-        };
-    }
-    if op == 22 {
-        let r = words::sub64(x, y);
-        return Pair {
-            lo: r.word,
-            hi: r.carry as u64,
-        };
-    }
-    if op == 23 {
-        let r = words::sub32(word(x), word(y));
-        return Pair {
-            lo: r.word as u64,
-            hi: r.carry as u64,
-        };
-    }
-    let r = words::mul_wide(x, y);
-    Pair {
-        lo: r.low,
-        hi: r.high,
-    }
+fn sums(name: &str, x: u64, y: u64, carry: bool) -> Option<Pair> {
+    Some(match name {
+        "add64" => words::add(x, y, carry).into(),
+        "add32" => words::add(word(x), word(y), carry).into(),
+        "sub64" => x.minus(y).into(),
+        "sub32" => word(x).minus(word(y)).into(),
+        "mul_wide" => {
+            let product = words::mul_wide(x, y);
+            Pair {
+                lo: product.low,
+                hi: product.high,
+            }
+        }
+        "mul_div" => words::mul_div(x, y).into(),
+        "mul_mod" => words::mul_mod(x, y).into(),
+        "add_overflows" => words::add_overflows(x, y, carry).into(),
+        _ => return None,
+    })
 }
 
-fn quads(op: u8, x: Quad32, y: Quad32, n: u64, s: u8) -> Quad32 {
-    match op {
-        25 => words::four_insert(x, word(n), s),
-        26 => words::insert_nat32(x, word(n), s),
-        27 => words::insert_nat64(x, n, s),
-        28 => words::quad32_xor(x, y),
-        29 => words::add_lanes(x, y),
-        30 => words::equal_lanes(x, y),
-        31 => words::shl_lanes(x, s),
-        32 => words::shr_lanes(x, s),
-        33 => words::shuffle_lanes(x, s),
-        34 => words::shift_quad(x),
-        _ => words::two_two_to_four(
-            double(n),
-            Double32 {
-                lo: y.hi2,
-                hi: y.hi3,
-            },
+fn lanes(name: &str, x: Quad32, y: Quad32, s: u8) -> Option<Pair> {
+    let result = match name {
+        "quad32_xor" => words::quad32_xor(x, y),
+        "add_lanes" => words::add_lanes(x, y),
+        "equal_lanes" => words::equal_lanes(x, y),
+        "shl_lanes" => words::shl_lanes(x, s),
+        "shr_lanes" => words::shr_lanes(x, s),
+        "shuffle_lanes" => words::shuffle_lanes(x, s),
+        "shift_quad" => words::shift_quad(x),
+        _ => return None,
+    };
+    Some(result.into())
+}
+
+// Whether a number is below the one that is picked of the least, -1, 0, 1 and the largest, and whether it is above.
+fn beside<I: Ord + Copy>(n: I, picks: [I; 5], pick: u8) -> Option<Pair> {
+    let m = picks.get(usize::from(pick))?;
+    Some(Pair {
+        lo: u64::from(n < *m),
+        hi: u64::from(*m < n),
+    })
+}
+
+fn signed(name: &str, x: u64, pick: u8) -> Option<Pair> {
+    match name {
+        "signed16" => beside(
+            words::signed16(half(x)),
+            [i16::MIN, -1, 0, 1, i16::MAX],
+            pick,
         ),
+        "signed64" => beside(words::signed64(x), [i64::MIN, -1, 0, 1, i64::MAX], pick),
+        _ => None,
     }
 }
 
-fn counts(op: u8, x: u64) -> u64 {
-    match op {
-        39 => words::popcnt64(x),
-        40 => words::lzcnt64(x),
-        _ => words::tzcnt64(x),
-    }
-}
-
-fn low16(x: u64) -> u16 {
-    (x % 0x1_0000) as u16
-}
-
-// Whether a number is below the one that is picked, and whether it is above.
-fn beside16(n: i16, pick: u8) -> Pair {
-    let m = match pick {
-        0 => -32768,
-        1 => -1,
-        2 => 0,
-        3 => 1,
-        _ => 32767,
-    };
-    Pair {
-        lo: (n < m) as u64,
-        hi: (m < n) as u64,
-    }
-}
-
-fn beside64(n: i64, pick: u8) -> Pair {
-    let m = match pick {
-        0 => -9223372036854775808,
-        1 => -1,
-        2 => 0,
-        3 => 1,
-        _ => 9223372036854775807,
-    };
-    Pair {
-        lo: (n < m) as u64,
-        hi: (m < n) as u64,
-    }
-}
-
-fn signed(op: u8, x: u64, y: u64, s: u64) -> Pair {
-    match op {
-        42 => beside16(words::signed16(low16(x)), byte(s)),
-        43 => beside64(words::signed64(x), byte(s)),
-        _ => one(words::add_overflows(x, y, s == 1) as u64),
-    }
-}
-
-pub fn apply(op: u8, x: Pair, y: Pair, s: u64) -> Pair {
-    match op {
-        0..=5 => twos(op, x, y, byte(s)),
-        6..=19 => one(bits(op, x.lo, y.lo, s)),
-        20..=24 => sums(op, x.lo, y.lo, s == 1),
-        25..=35 => {
-            let r = quads(op, quad(x), quad(y), y.lo, byte(s));
-            packed(r.lo0, r.lo1, r.hi2, r.hi3)
-        }
-        36 => one(words::four_select(quad(x), byte(s)) as u64),
-        37 => one(words::select_word(quad(x), byte(s)) as u64),
-        38 => one(words::extract_nat64(quad(x), byte(s))),
-        39..=41 => one(counts(op, x.lo)),
-        _ => signed(op, x.lo, y.lo, s),
-    }
+// What the function of this name answers.
+pub fn apply(name: &str, x: Pair, y: Pair, s: u64) -> Option<Pair> {
+    parts(name, x, y, byte(s))
+        .or_else(|| bits(name, x.lo, y.lo, s))
+        .or_else(|| sums(name, x.lo, y.lo, s == 1))
+        .or_else(|| lanes(name, quad(x), quad(y), byte(s)))
+        .or_else(|| signed(name, x.lo, byte(s)))
 }

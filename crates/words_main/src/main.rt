@@ -6,89 +6,47 @@
 mod apply;
 mod vectors;
 
-ghost use Rattle.std.specs.Prelude.{◌+◌, ◌*◌, ◌≤◌, length};
-
 use apply::{Pair, apply};
 use std::io;
+use vectors::Row;
 
-// Whether the row's function answers what the row expects.
-fn agrees(row: &[u64]) -> bool
-    requires { 8 ≤ length row.now }
-{
-    let x = Pair {
-        lo: row[1],
-        hi: row[2],
-    };
-    let y = Pair {
-        lo: row[3],
-        hi: row[4],
-    };
-    let r = apply((row[0] % 256) as u8, x, y, row[5]);
-    r.lo == row[6] && r.hi == row[7]
+// Whether the function of this name, which is the row's, answers what the row expects.
+fn agrees(name: &str, row: &Row) -> bool {
+    let [_, x_lo, x_hi, y_lo, y_hi, s, lo, hi] = *row;
+    let x = Pair { lo: x_lo, hi: x_hi };
+    let y = Pair { lo: y_lo, hi: y_hi };
+    apply(name, x, y, s) == Some(Pair { lo, hi })
 }
 
-// From row `first` on, the first row that is not the function op's or does not agree.
-fn agreeing(op: u64, rows: &[u64], first: usize) -> usize
-    ensures { first ≤ result }
-{
-    let count = rows.len() / 8;
-    let mut i = first;
-    while i < count {
-        let from = i * 8;
-        if rows[from] != op {
-            return i;
-        }
-        if !agrees(&rows[from..]) {
-            return i;
-        }
-        i += 1;
-    }
-    i
-}
-
-// Reports on the rows of the function op, which start at `first`, and returns where the next
-// function's start. After a row that differs nothing more is run.
-fn report(rt: &impl Print, name: &[u8], op: u64, rows: &[u64], first: usize) -> io::Result<usize> {
-    let after = agreeing(op, rows, first);
-    rt.write_all(name)?;
-    let agreed = after - first;
-    print!(rt; " {agreed}")?;
-    if after == first {
+// Reports on the rows of the function `name`, of number op, which come first, and returns the others. After a row that
+// differs nothing more is run.
+fn report<'a>(rt: &impl Print, name: &str, op: u64, rows: &'a [Row]) -> io::Result<&'a [Row]> {
+    let after = rows
+        .iter()
+        .position(|row| row[0] != op || !agrees(name, row))
+        .unwrap_or(rows.len());
+    let (agreed, rest) = rows.split_at(after);
+    print!(rt; "{name:16} {}", agreed.len())?;
+    if agreed.is_empty() {
         println!(rt; " not run")?;
-        return Ok(after);
+        return Ok(rest);
     }
-    let count = rows.len() / 8;
-    if after < count {
-        let at = after * 8;
-        if rows[at] == op {
+    match rest.first() {
+        Some(row) if row[0] == op => {
             println!(rt; " agree, the next differs")?;
-            return Ok(count);
+            Ok(&[])
+        }
+        _ => {
+            println!(rt; " ok")?;
+            Ok(rest)
         }
     }
-    println!(rt; " ok")?;
-    Ok(after)
-}
-
-// A function's name: 16 bytes, by its number.
-fn name_of(names: &[u8], op: usize) -> &[u8]
-    requires { op * 16 + 16 ≤ length names.now }
-{
-    let from = op * 16;
-    let to = from + 16;
-    &names[from..to]
-}
-
-// Reports on every function, in the order of the names.
-fn run(rt: &impl Print, names: &[u8], rows: &[u64]) -> io::Result<()> {
-    let mut first = 0;
-    let mut op = 0;
-    while op < names.len() / 16 {
-        first = report(rt, name_of(names, op), op as u64, rows, first)?;
-        op += 1;
-    }
-    Ok(())
 }
 
 fn main(rt: HostRuntime) -> io::Result<()> {
-    run(&rt, &vectors::NAMES, &vectors::ROWS)
+    let mut rows = &vectors::ROWS[..];
+    for (op, name) in vectors::NAMES.iter().enumerate() {
+        rows = report(&rt, name, op as u64, rows)?;
+    }
+    Ok(())
 }

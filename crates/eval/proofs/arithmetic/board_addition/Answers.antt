@@ -3,9 +3,9 @@ use Rattle.eval.specs.FlagRule.{board_flags}
 use borrow.Author.Rules.{rules}
 use Rattle.eval.proofs.arithmetic.board_addition.Goals as goal
 
-pub add64-sum-requires : goal.add64-sum-requires
+pub add-sum-requires : goal.add-sum-requires
 unfolding board_flags
-add64-sum-requires c = search rules
+add-sum-requires c = search rules
 
 pub add_overflows-requires : goal.add_overflows-requires
 unfolding board_flags

@@ -42,7 +42,7 @@ returns-in-6 c =
 
 pub returns-in-7 : goal.returns-in-7
 unfolding two_word two_flags
-returns-in-7 c = record { word_is = rw c.in-7.is c.sub64.ensures.word_is; flags_is = rw c.in-7.is }
+returns-in-7 c = record { word_is = rw c.in-7.is c.minus.ensures.word_is; flags_is = rw c.in-7.is }
 
 pub returns-in-10 : goal.returns-in-10
 unfolding two_word two_flags
@@ -52,19 +52,19 @@ pub returns-in-11 : goal.returns-in-11
 unfolding two_word two_flags
 returns-in-11 c =
     let kind = c.in-11.is in
-    record { word_is = rw kind c.ixor64.ensures; flags_is = rw kind c.cleared.ensures }
+    record { word_is = rw kind c.ixor.ensures; flags_is = rw kind c.cleared.ensures }
 
 pub returns-in-12 : goal.returns-in-12
 unfolding two_word two_flags
-returns-in-12 c = record { word_is = rw c.in-12.is c.iand64.ensures; flags_is = rw c.in-12.is }
+returns-in-12 c = record { word_is = rw c.in-12.is c.iand.ensures; flags_is = rw c.in-12.is }
 
 pub returns-in-13 : goal.returns-in-13
 unfolding two_word two_flags
-returns-in-13 c = record { word_is = rw c.in-13.is c.ishr64.ensures; flags_is = rw c.in-13.is }
+returns-in-13 c = record { word_is = rw c.in-13.is c.ishr.ensures; flags_is = rw c.in-13.is }
 
 pub returns-in-14 : goal.returns-in-14
 unfolding two_word two_flags
-returns-in-14 c = record { word_is = rw c.in-14.is c.ishl64.ensures; flags_is = rw c.in-14.is }
+returns-in-14 c = record { word_is = rw c.in-14.is c.ishl.ensures; flags_is = rw c.in-14.is }
 
 pub returns-in-25 : goal.returns-in-25
 unfolding two_word two_flags

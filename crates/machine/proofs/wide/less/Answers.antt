@@ -7,11 +7,11 @@ use Rattle.machine.proofs.wide.less.Goals as goal
 pub returns-then-w-high : goal.returns-then-w-high
 returns-then-w-high c =
     let a = c.args in
-    let low = c.sub64-low in
+    let low = c.minus-low in
     level a.w a.x low.result.word low.result.carry low.ensures (search rules) (search rules) c.if-w-high.true
 
 pub returns-else-w-high : goal.returns-else-w-high
 returns-else-w-high c =
     let a = c.args in
-    let low = c.sub64-low in
+    let low = c.minus-low in
     apart a.w a.x low.result.word low.result.carry low.ensures (search rules) (search rules) c.if-w-high.false

@@ -6,9 +6,9 @@ use Rattle.machine.proofs.wide.plus.Goals as goal
 
 pub overflow_add-result : goal.overflow_add-result
 overflow_add-result c =
-    record { fits = carry_fits c.args.w c.add64-sum.result.carry c.requires }
+    record { fits = carry_fits c.args.w c.plus-sum.result.carry c.requires }
 
 pub returns : goal.returns
 returns c =
-    let sum = c.add64-sum in
+    let sum = c.plus-sum in
     omega (arith, added_number 64 _ sum.result.word sum.result.carry sum.ensures (omega arith))

@@ -1,7 +1,0 @@
--- The language's operation is the one on lists of 32 bits.
-use Rattle.std.proofs.Common.{sym}
-use Rattle.words.proofs.BitLaws.{iand_is}
-use Rattle.words.proofs.bits.iand32.Goals as goal
-
-pub returns : goal.returns
-returns c = sym (iand_is 32 c.args.x c.args.y c.ranges.x.fits c.ranges.y.fits)
