@@ -6,6 +6,7 @@ use mathlib.Core.List.{List}
 use native.Mathlib.Omega.{arith}
 use native.Mathlib.Numerals.{sub-one}
 use borrow.Author.Tests.{eq-eqb, ne_eqb, lt-ltb, le-ltb}
+use lib.Dec.{eqb}
 use lib.ListN.{length}
 use Rattle.machine.specs.Cells.{accepted, refused}
 use Rattle.code.specs.declared.tree.Ocmp.{Ocmp}
@@ -13,13 +14,14 @@ use Rattle.code.specs.Tree.{Code, Ins, Block, IfElse, While, ⟨⟩, ◌∷ᶜ�
 use Rattle.code.specs.Records.{is_ins, is_structure, is_code, body_length, byte_at, number_at, behind, ins_at}
 use Rattle.code.specs.Reader.{Read, got, trouble, followed, with_body, read_ocmp, One, read_part, read_codes, read_block, read_if, read_while, read_structure, read_body, read_code, parse, verdict_of, check_code}
 use Rattle.code.specs.Reached.{reached, reach, rest_of_all, structure_of}
-use Rattle.code.specs.declared.reader.Reach.{Reach}
-use Rattle.code.specs.declared.reader.Reach.TheVariants.{Next, Trouble}
+use Rattle.std.specs.Prelude.{Ok, Err}
+use Rattle.machine.specs.Rules.{rule_number}
+use Rattle.machine.specs.declared.refusal.Refusal.{Refusal}
 use Rattle.code.proofs.Passing.{between_true}
 use Rattle.code.proofs.Sound.{code_sound, part_sound, ocmp_sound}
 use Rattle.code.proofs.KindLaws.{no_ins}
 use Rattle.code.proofs.Classes.{ins_is_code, structure_is_code}
-use Rattle.code.proofs.Reaches.{reached_got, reached_trouble, stops, goes_on, kind_short, kind_wrong, kind_right, with_right}
+use Rattle.code.proofs.Reaches.{Reach, reached_got, reached_trouble, stops, goes_on, kind_short, kind_wrong, kind_right, with_right}
 
 -- a node is left away, and its parts' end stays
 pub erase_map : {A B : Type 0} (r : Read A) (f : A → B) → reached (followed r (λ a last. got (f a) last)) ≡ reached r
@@ -29,31 +31,31 @@ erase_map (trouble n p) f = refl
 
 -- from an answer to the reading
 module _ {A : Type 0} (r : Reach) (x : Read A) (of : reach r ≡ reached x) where
-  pub went : (m : ℕ) → r ≡ Next m → (a : A) × (x ≡ got a m)
+  pub went : (m : ℕ) → r ≡ Ok m → (a : A) × (x ≡ got a m)
   unfolding reach
   went m h = reached_got x m (let e : got tt m ≡ reach r = rw h in e ∙ of)
 
-  pub halted : (n p : ℕ) → r ≡ Trouble n p → x ≡ trouble n p
+  pub halted : (y : Refusal) → r ≡ Err y → x ≡ trouble (rule_number y.rule) y.place
   unfolding reach
-  halted n p h = reached_trouble x n p (let e : trouble n p ≡ reach r = rw h in e ∙ of)
+  halted y h = reached_trouble x _ _ (let e : trouble (rule_number y.rule) y.place ≡ reach r = rw h in e ∙ of)
 
-  pub halts : {B : Type 0} (k : A → ℕ → Read B) (n p : ℕ) → r ≡ Trouble n p → reach r ≡ reached (followed x k)
+  pub halts : {B : Type 0} (k : A → ℕ → Read B) (y : Refusal) → r ≡ Err y → reach (Err y) ≡ reached (followed x k)
   unfolding reach reached
-  halts k n p h = rw (h, stops x n p k (halted n p h))
+  halts k y h = rw (stops x _ _ k (halted y h))
 
 -- `read_code`
-pub code_short : (d : ℕ) (bs : List ℕ) (e at : ℕ) → e ≤ at → reach (Trouble 3 at) ≡ reached (read_code d bs e at)
+pub code_short : (d : ℕ) (bs : List ℕ) (e at : ℕ) → e ≤ at → trouble 3 at ≡ reached (read_code d bs e at)
 unfolding read_code reach reached
 code_short zero bs e at h = rw (kind_short is_code bs e at (trouble 5 at) h)
 code_short (suc d) bs e at h = rw (kind_short is_code bs e at (read_body (read_code d bs) bs e at) h)
 
 module _ (bs : List ℕ) (e at : ℕ) (in_part : at < e) where
-  pub code_wrong : (d : ℕ) → is_code (byte_at bs at) ≡ false → reach (Trouble 2 at) ≡ reached (read_code d bs e at)
+  pub code_wrong : (d : ℕ) → is_code (byte_at bs at) ≡ false → trouble 2 at ≡ reached (read_code d bs e at)
   unfolding read_code reach reached
   code_wrong zero h = rw (kind_wrong is_code bs e at (trouble 5 at) in_part h)
   code_wrong (suc d) h = rw (kind_wrong is_code bs e at (read_body (read_code d bs) bs e at) in_part h)
 
-  pub code_deep : (d : ℕ) → is_code (byte_at bs at) ≡ true → d ≡ 0 → reach (Trouble 5 at) ≡ reached (read_code d bs e at)
+  pub code_deep : (d : ℕ) → is_code (byte_at bs at) ≡ true → d ≡ 0 → trouble 5 at ≡ reached (read_code d bs e at)
   unfolding read_code reach reached
   code_deep zero h z = rw (kind_right is_code bs e at (trouble 5 at) in_part h)
   code_deep (suc d) h z = absurd (omega arith)
@@ -98,7 +100,7 @@ unfolding body_length
 while_body k h = rw h
 
 module _ (d : ℕ) (bs : List ℕ) (e at body : ℕ) (in_part : at < e) (is : body ≡ body_length (byte_at bs at)) where
-  pub structure_short : e - at - 1 < body → reach (Trouble 3 at) ≡ reached (structure_of d bs e at)
+  pub structure_short : e - at - 1 < body → trouble 3 at ≡ reached (structure_of d bs e at)
   unfolding reach reached structure_of behind
   structure_short l =
       let m : e < at + 1 + body_length (byte_at bs at) = omega arith in
@@ -138,7 +140,7 @@ module _ (d : ℕ) (bs : List ℕ) (e at body : ℕ) (in_part : at < e) (is : bo
 
 -- `read_block`
 module _ (one : One) (bs : List ℕ) (e at size : ℕ) (is : size ≡ number_at 4 bs (at + 1)) where
-  pub block_over : e - (at + 5) < size → reach (Trouble 6 at) ≡ reached (read_block one bs e at)
+  pub block_over : e - (at + 5) < size → trouble 6 at ≡ reached (read_block one bs e at)
   unfolding reach reached read_block
   block_over l = rw (← is, lt-ltb (e - (at + 5)) size l)
 
@@ -153,30 +155,30 @@ module _ (one : One) (bs : List ℕ) (e at size : ℕ) (is : size ≡ number_at 
       f ∙ sym (rw (← is, le-ltb (e - (at + 5)) size l) (erase_map (read_codes one size (at + 5 + size) (at + 5)) (Block at)))
 
 -- `read_part`
-full_of : (one : One) (e at : ℕ) (c : Code) (next : ℕ) → one e at ≡ got c next → next ≡ e → reach (Next next) ≡ reached (read_part one e at)
+full_of : (one : One) (e at : ℕ) (c : Code) (next : ℕ) → one e at ≡ got c next → next ≡ e → reach (Ok e) ≡ reached (read_part one e at)
 unfolding read_part reach reached followed
-full_of one e at c next h x = rw (h, eq-eqb next e x, x)
+full_of one e at c next h x = rw (h, eq-eqb next e x)
 
 module _ (one : One) (e at : ℕ) (r : Reach) (of : reach r ≡ reached (one e at)) where
-  pub part_stops : (n p : ℕ) → r ≡ Trouble n p → reach r ≡ reached (read_part one e at)
+  pub part_stops : (y : Refusal) → r ≡ Err y → reach (Err y) ≡ reached (read_part one e at)
   unfolding read_part
-  part_stops n p h = halts r (one e at) of _ n p h
+  part_stops y h = halts r (one e at) of _ y h
 
-  pub part_more : (next : ℕ) → r ≡ Next next → (next ≡ e → ⊥) → reach (Trouble 6 next) ≡ reached (read_part one e at)
+  pub part_more : (next : ℕ) → r ≡ Ok next → (next ≡ e → ⊥) → trouble 6 next ≡ reached (read_part one e at)
   unfolding read_part reach reached followed
   part_more next h x = let w = went r (one e at) of next h in rw (w.1, ne_eqb next e x)
 
-  pub part_full : (next : ℕ) → r ≡ Next next → next ≡ e → reach (Next next) ≡ reached (read_part one e at)
+  pub part_full : (next : ℕ) → r ≡ Ok next → next ≡ e → reach (Ok e) ≡ reached (read_part one e at)
   part_full next h x = let w = went r (one e at) of next h in full_of one e at w.0 next w.1 x
 
 -- where a part, and a comparison, have been read to
 pub part_end :
-    (d : ℕ) (bs : List ℕ) (e at : ℕ) (r : Reach) → reach r ≡ reached (read_part (read_code d bs) e at) → (m : ℕ) → r ≡ Next m → m ≡ e
+    (d : ℕ) (bs : List ℕ) (e at : ℕ) (r : Reach) → reach r ≡ reached (read_part (read_code d bs) e at) → (m : ℕ) → r ≡ Ok m → m ≡ e
 part_end d bs e at r of m h =
     let w = went r (read_part (read_code d bs) e at) of m h in
     (part_sound (read_code d bs) d bs (λ e at c m h. code_sound d bs e at c m h) e at w.0 m w.1).1
 
-pub ocmp_end : (bs : List ℕ) (e at : ℕ) (r : Reach) → reach r ≡ reached (read_ocmp bs e at) → (m : ℕ) → r ≡ Next m → (at < m) × (m ≤ e)
+pub ocmp_end : (bs : List ℕ) (e at : ℕ) (r : Reach) → reach r ≡ reached (read_ocmp bs e at) → (m : ℕ) → r ≡ Ok m → (at < m) × (m ≤ e)
 ocmp_end bs e at r of m h =
     let w = went r (read_ocmp bs e at) of m h in
     let s = ocmp_sound bs e at w.0 m w.1 in
@@ -185,12 +187,12 @@ ocmp_end bs e at r of m h =
 -- `read_while`
 module _ (one : One) (bs : List ℕ) (e at size : ℕ) (is : size ≡ number_at 4 bs (at + 1))
     (r : Reach) (of : reach r ≡ reached (read_ocmp bs e (at + 5))) where
-  pub while_stops : (n p : ℕ) → r ≡ Trouble n p → reach r ≡ reached (read_while one bs e at)
+  pub while_stops : (y : Refusal) → r ≡ Err y → reach (Err y) ≡ reached (read_while one bs e at)
   unfolding read_while
-  while_stops n p h = halts r (read_ocmp bs e (at + 5)) of _ n p h
+  while_stops y h = halts r (read_ocmp bs e (at + 5)) of _ y h
 
-  module _ (next : ℕ) (h : r ≡ Next next) where
-    pub while_over : e - next < size → reach (Trouble 6 at) ≡ reached (read_while one bs e at)
+  module _ (next : ℕ) (h : r ≡ Ok next) where
+    pub while_over : e - next < size → trouble 6 at ≡ reached (read_while one bs e at)
     unfolding read_while reach reached followed
     while_over l = let w = went r (read_ocmp bs e (at + 5)) of next h in rw (w.1, ← is, lt-ltb (e - next) size l)
 
@@ -208,12 +210,12 @@ module _ (one : One) (bs : List ℕ) (e at size : ℕ) (is : size ≡ number_at 
 module _ (one : One) (bs : List ℕ) (e at size other : ℕ)
     (is : size ≡ number_at 4 bs (at + 1)) (is_other : other ≡ number_at 4 bs (at + 5))
     (r : Reach) (of : reach r ≡ reached (read_ocmp bs e (at + 9))) where
-  pub if_stops : (n p : ℕ) → r ≡ Trouble n p → reach r ≡ reached (read_if one bs e at)
+  pub if_stops : (y : Refusal) → r ≡ Err y → reach (Err y) ≡ reached (read_if one bs e at)
   unfolding read_if
-  if_stops n p h = halts r (read_ocmp bs e (at + 9)) of _ n p h
+  if_stops y h = halts r (read_ocmp bs e (at + 9)) of _ y h
 
-  module _ (next : ℕ) (h : r ≡ Next next) where
-    pub if_over : e - next < size + other → reach (Trouble 6 at) ≡ reached (read_if one bs e at)
+  module _ (next : ℕ) (h : r ≡ Ok next) where
+    pub if_over : e - next < size + other → trouble 6 at ≡ reached (read_if one bs e at)
     unfolding read_if reach reached followed
     if_over l =
         let w = went r (read_ocmp bs e (at + 9)) of next h in
@@ -229,13 +231,13 @@ module _ (one : One) (bs : List ℕ) (e at size other : ℕ)
       parts c g =
           goes_on (read_ocmp bs e (at + 9)) c next _ g ∙ rw (← is, ← is_other, le-ltb (e - next) (size + other) l) refl
 
-      pub if_first_stops : (n p : ℕ) → s ≡ Trouble n p → reach s ≡ reached (read_if one bs e at)
-      if_first_stops n p k =
+      pub if_first_stops : (y : Refusal) → s ≡ Err y → reach (Err y) ≡ reached (read_if one bs e at)
+      if_first_stops y k =
           let w = went r (read_ocmp bs e (at + 9)) of next h in
-          rw (parts w.0 w.1) (halts s (read_part one (next + size) next) of_first _ n p k)
+          rw (parts w.0 w.1) (halts s (read_part one (next + size) next) of_first _ y k)
 
       pub if_last :
-          (mid : ℕ) → s ≡ Next mid → (t : Reach) → reach t ≡ reached (read_part one (mid + other) mid) →
+          (mid : ℕ) → s ≡ Ok mid → (t : Reach) → reach t ≡ reached (read_part one (mid + other) mid) →
           reach t ≡ reached (read_if one bs e at)
       if_last mid k t g =
           let w = went r (read_ocmp bs e (at + 9)) of next h in
@@ -270,7 +272,7 @@ stop_of one n e at x p z h = rw (ne_eqb at e z) (stops (one e at) x p _ h)
 
 module _ (d : ℕ) (bs : List ℕ) (e from at : ℕ) (g : Going d bs e from at) (in_part : at < e) (r : Reach)
     (of : reach r ≡ reached (read_code d bs e at)) where
-  pub codes_go : (next : ℕ) → r ≡ Next next → Going d bs e from next
+  pub codes_go : (next : ℕ) → r ≡ Ok next → Going d bs e from next
   codes_go next h = of_left g.left g.enough g.same
     where
       of_left :
@@ -289,23 +291,23 @@ module _ (d : ℕ) (bs : List ℕ) (e from at : ℕ) (g : Going d bs e from at) 
             same = s ∙ tail_of (read_code d bs) n e at w.0 next (λ z. omega arith) w.1;
           }
 
-  pub codes_past : (next : ℕ) → r ≡ Next next → at < next
+  pub codes_past : (next : ℕ) → r ≡ Ok next → at < next
   codes_past next h =
       let w = went r (read_code d bs e at) of next h in
       (code_sound d bs e at w.0 next w.1).past
 
-  pub codes_stop : (n p : ℕ) → r ≡ Trouble n p → reach r ≡ reached (read_codes (read_code d bs) (e - from) e from)
+  pub codes_stop : (y : Refusal) → r ≡ Err y → reach (Err y) ≡ reached (read_codes (read_code d bs) (e - from) e from)
   unfolding reach reached
-  codes_stop n p h = of_left g.left g.enough g.same
+  codes_stop y h = of_left g.left g.enough g.same
     where
       of_left :
           (m : ℕ) → e ≤ at + m →
           reached (read_codes (read_code d bs) (e - from) e from) ≡ reached (read_codes (read_code d bs) m e at) →
-          reach r ≡ reached (read_codes (read_code d bs) (e - from) e from)
+          reach (Err y) ≡ reached (read_codes (read_code d bs) (e - from) e from)
       of_left zero l s = absurd (omega arith)
       of_left (suc m) l s =
-          let w = halted r (read_code d bs e at) of n p h in
-          ap reach h ∙ sym (s ∙ ap reached (stop_of (read_code d bs) m e at n p (λ z. omega arith) w))
+          let w = halted r (read_code d bs e at) of y h in
+          sym (s ∙ ap reached (stop_of (read_code d bs) m e at _ _ (λ z. omega arith) w))
 
 end_of : (one : One) (n e at : ℕ) → at ≡ e → read_codes one n e at ≡ got ⟨⟩ e
 unfolding read_codes
@@ -314,33 +316,33 @@ end_of one (suc n) e at h = rw (eq-eqb at e h)
 
 pub codes_end :
     (d : ℕ) (bs : List ℕ) (e from at : ℕ) → Going d bs e from at → e ≤ at →
-    reach (Next e) ≡ reached (read_codes (read_code d bs) (e - from) e from)
+    reach (Ok e) ≡ reached (read_codes (read_code d bs) (e - from) e from)
 unfolding reach reached
 codes_end d bs e from at g l =
     sym (g.same ∙ ap reached (end_of (read_code d bs) g.left e at (let w = g.within in omega arith)))
 
 -- `check_code`
 module _ (bs : List ℕ) where
-  pub check_empty : length bs ≡ 0 → refused 1 0 ≡ check_code bs
+  pub check_empty : eqb (length bs) 0 ≡ true → refused 1 0 ≡ check_code bs
   unfolding check_code parse verdict_of
-  check_empty h = rw (eq-eqb (length bs) 0 h)
+  check_empty h = rw h
 
   pub check_long : 16384 < length bs → refused 1 0 ≡ check_code bs
   unfolding check_code parse verdict_of
   check_long h = rw (ne_eqb (length bs) 0 (λ z. omega arith), lt-ltb 16384 (length bs) h)
 
-  module _ (some : length bs ≡ 0 → ⊥) (few : length bs ≤ 16384) (r : Reach)
+  module _ (some : eqb (length bs) 0 ≡ false) (few : length bs ≤ 16384) (r : Reach)
       (of : reach r ≡ reached (read_part (read_code 32 bs) (length bs) 0)) where
     parsed : parse bs ≡ read_part (read_code 32 bs) (length bs) 0
     unfolding parse
-    parsed = rw (ne_eqb (length bs) 0 some, le-ltb 16384 (length bs) few)
+    parsed = rw (some, le-ltb 16384 (length bs) few)
 
-    pub check_accepts : (m : ℕ) → r ≡ Next m → accepted ≡ check_code bs
+    pub check_accepts : (m : ℕ) → r ≡ Ok m → accepted ≡ check_code bs
     unfolding check_code verdict_of
     check_accepts m h =
         let w = went r (read_part (read_code 32 bs) (length bs) 0) of m h in
         rw (parsed, w.1)
 
-    pub check_refuses : (n p : ℕ) → r ≡ Trouble n p → refused n p ≡ check_code bs
+    pub check_refuses : (y : Refusal) → r ≡ Err y → refused (rule_number y.rule) y.place ≡ check_code bs
     unfolding check_code verdict_of
-    check_refuses n p h = rw (parsed, halted r (read_part (read_code 32 bs) (length bs) 0) of n p h)
+    check_refuses y h = rw (parsed, halted r (read_part (read_code 32 bs) (length bs) 0) of y h)

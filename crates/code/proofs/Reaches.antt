@@ -4,16 +4,39 @@ use mathlib.Core.Path.{◌≡◌, refl, sym, ap, ◌∙◌}
 use mathlib.Core.Bool.{Bool, true, false}
 use mathlib.Core.List.{List}
 use native.Mathlib.Omega.{arith}
-use native.Mathlib.Numerals.{sub-one}
 use borrow.Author.Tests.{lt-ltb, le-ltb, le-leb, lt-leb}
 use Rattle.machine.specs.Operands.{is_scale}
 use Rattle.code.specs.Records.{is_ocmp, is_operand, body_length, operand_count, byte_at, signed_at, behind, ocmp_at}
 use Rattle.code.specs.Kinds.{fields_to, LastField}
 use Rattle.code.specs.Reader.{Read, got, trouble, followed, with_kind, with_fields, read_record, read_operands, read_with, read_ocmp}
 use Rattle.code.specs.Reached.{reached, reach, rest_of_record, rest_of_all}
-use Rattle.code.specs.declared.reader.Reach.{Reach}
-use Rattle.code.specs.declared.reader.Reach.TheVariants.{Next, Trouble}
+use Rattle.std.specs.Prelude.{Result, Ok, Err}
+use Rattle.std.specs.Result.{IsErrAnd}
+use Rattle.machine.specs.Rules.{rule_number}
+use Rattle.machine.specs.declared.refusal.Refusal.{Refusal}
+use Rattle.machine.specs.declared.refusal.Rule.{Rule}
 use Rattle.code.proofs.Passing.{clash}
+
+-- what the reader's functions answer
+abbrev pub Reach : Type 0
+Reach = Result ℕ Refusal
+
+-- a refusal by a rule at a place
+abbrev pub By : Rule → ℕ → Refusal → Type 0
+By rule place r = r ≡ record { rule = rule; place = place }
+
+-- what `?` hands on is what it found
+pub handed_on : {T : Type 0} (r : Result T Refusal) (y : Refusal) → IsErrAnd r (λ z. z ≡ y) → r ≡ Err y
+handed_on (Ok x) y h = absurd h
+handed_on (Err z) y h = ap Err h
+
+pub stopped : (r : Reach) (y : Refusal) → IsErrAnd r (λ z. z ≡ y) → (x : Read (Unit {0})) → reach (Err y) ≡ x → reach r ≡ x
+stopped r y h x e = ap reach (handed_on r y h) ∙ e
+
+-- what a refusal by a rule says
+pub told : (r : Refusal) (rule : Rule) (place : ℕ) → By rule place r → reach (Err r) ≡ trouble (rule_number rule) place
+unfolding reach
+told r rule place is = rw is refl
 
 -- readings without their trees
 pub reached_got : {A : Type 0} (r : Read A) (m : ℕ) → got tt m ≡ reached r → (a : A) × (r ≡ got a m)
@@ -109,7 +132,7 @@ module _ {A : Type 0} (bs : List ℕ) (at : ℕ) (k : Read A) where
 
 -- `read_body`
 module _ (bs : List ℕ) (e at body : ℕ) (is : body ≡ body_length (byte_at bs at)) (in_part : at < e) where
-  pub body_short : e - at - 1 < body → reach (Trouble 3 at) ≡ rest_of_record bs e at
+  pub body_short : e - at - 1 < body → trouble 3 at ≡ rest_of_record bs e at
   unfolding reach rest_of_record behind
   body_short l =
       let m : e < at + 1 + body_length (byte_at bs at) = omega arith in
@@ -122,43 +145,43 @@ module _ (bs : List ℕ) (e at body : ℕ) (is : body ≡ body_length (byte_at b
         let m : at + 1 + body_length (byte_at bs at) ≤ e = omega arith in
         rw (le-ltb e (at + 1 + body_length (byte_at bs at)) m, f.fields)
 
-    ends : reach (Next (at + 1 + body)) ≡ got tt (behind bs at)
+    ends : reach (Ok (at + 1 + body)) ≡ got tt (behind bs at)
     unfolding reach behind
     ends = rw is
 
-    pub body_none : last ≡ 0 → reach (Next (at + 1 + body)) ≡ rest_of_record bs e at
+    pub body_none : last ≡ 0 → reach (Ok (at + 1 + body)) ≡ rest_of_record bs e at
     body_none h = ends ∙ sym (inner ∙ fields_none bs at (got tt (behind bs at)) last h)
 
-    pub body_first : (last ≡ 0 → ⊥) → 15 < byte_at bs (at + 1) → reach (Trouble 4 (at + 1)) ≡ rest_of_record bs e at
+    pub body_first : (last ≡ 0 → ⊥) → 15 < byte_at bs (at + 1) → trouble 4 (at + 1) ≡ rest_of_record bs e at
     unfolding reach
     body_first h l = sym (inner ∙ fields_first bs at (got tt (behind bs at)) last h l)
 
-    pub body_one : last ≡ 1 → byte_at bs (at + 1) ≤ 15 → reach (Next (at + 1 + body)) ≡ rest_of_record bs e at
+    pub body_one : last ≡ 1 → byte_at bs (at + 1) ≤ 15 → reach (Ok (at + 1 + body)) ≡ rest_of_record bs e at
     body_one h l = ends ∙ sym (inner ∙ fields_one bs at (got tt (behind bs at)) last h l)
 
     pub body_scale :
-        2 < last → byte_at bs (at + 1) ≤ 15 → is_scale (signed_at 2 bs (at + 2)) ≡ false → reach (Trouble 7 (at + 2)) ≡ rest_of_record bs e at
+        2 < last → byte_at bs (at + 1) ≤ 15 → is_scale (signed_at 2 bs (at + 2)) ≡ false → trouble 7 (at + 2) ≡ rest_of_record bs e at
     unfolding reach
     body_scale g l s = sym (inner ∙ fields_scale bs at (got tt (behind bs at)) last g l s)
 
     pub body_last :
         (last ≡ 0 → ⊥) → (last ≡ 1 → ⊥) → byte_at bs (at + 1) ≤ 15 → RightScale bs at last → 15 < byte_at bs (at + last) →
-        reach (Trouble 4 (at + last)) ≡ rest_of_record bs e at
+        trouble 4 (at + last) ≡ rest_of_record bs e at
     unfolding reach
     body_last h g l s m = sym (inner ∙ fields_last bs at (got tt (behind bs at)) last h g l s m)
 
     pub body_all :
         (last ≡ 0 → ⊥) → (last ≡ 1 → ⊥) → byte_at bs (at + 1) ≤ 15 → RightScale bs at last → byte_at bs (at + last) ≤ 15 →
-        reach (Next (at + 1 + body)) ≡ rest_of_record bs e at
+        reach (Ok (at + 1 + body)) ≡ rest_of_record bs e at
     body_all h g l s m = ends ∙ sym (inner ∙ fields_all bs at (got tt (behind bs at)) last h g l s m)
 
 -- `read_operand`
 module _ (bs : List ℕ) (e at : ℕ) where
-  pub operand_short : e ≤ at → reach (Trouble 3 at) ≡ read_record is_operand bs e at
+  pub operand_short : e ≤ at → trouble 3 at ≡ read_record is_operand bs e at
   unfolding reach read_record
   operand_short h = sym (kind_short is_operand bs e at _ h)
 
-  pub operand_wrong : at < e → is_operand (byte_at bs at) ≡ false → reach (Trouble 2 at) ≡ read_record is_operand bs e at
+  pub operand_wrong : at < e → is_operand (byte_at bs at) ≡ false → trouble 2 at ≡ read_record is_operand bs e at
   unfolding reach read_record
   operand_wrong l h = sym (kind_wrong is_operand bs e at _ l h)
 
@@ -169,36 +192,35 @@ module _ (bs : List ℕ) (e at : ℕ) where
 
 -- `read_operands`
 pub operands_go :
-    (left : ℕ) (bs : List ℕ) (e at : ℕ) (r : Reach) (next : ℕ) → (left ≡ 0 → ⊥) →
-    reach r ≡ read_record is_operand bs e at → r ≡ Next next →
-    read_operands left bs e at ≡ read_operands (left - 1) bs e next
+    (left : ℕ) (bs : List ℕ) (e at : ℕ) (r : Reach) (next : ℕ) → (n : ℕ) → left ≡ suc n →
+    reach r ≡ read_record is_operand bs e at → r ≡ Ok next →
+    read_operands left bs e at ≡ read_operands n bs e next
 unfolding read_operands followed reach
-operands_go zero bs e at r next h g k = absurd (h refl)
-operands_go (suc n) bs e at r next h g k = rw (← g, k, sub-one)
+operands_go left bs e at r next n h g k = rw (h, ← g, k)
 
 pub operands_stop :
-    (left : ℕ) (bs : List ℕ) (e at : ℕ) (r : Reach) (n p : ℕ) → (left ≡ 0 → ⊥) →
-    reach r ≡ read_record is_operand bs e at → r ≡ Trouble n p →
-    reach r ≡ read_operands left bs e at
+    (left : ℕ) (bs : List ℕ) (e at : ℕ) (r : Reach) (y : Refusal) → (left ≡ 0 → ⊥) →
+    reach r ≡ read_record is_operand bs e at → r ≡ Err y →
+    reach (Err y) ≡ read_operands left bs e at
 unfolding read_operands followed reach
-operands_stop zero bs e at r n p h g k = absurd (h refl)
-operands_stop (suc m) bs e at r n p h g k = rw (← g, k)
+operands_stop zero bs e at r y h g k = absurd (h refl)
+operands_stop (suc m) bs e at r y h g k = rw (← g, k)
 
-pub operands_end : (left : ℕ) (bs : List ℕ) (e at : ℕ) → left ≡ 0 → reach (Next at) ≡ read_operands left bs e at
+pub operands_end : (left : ℕ) (bs : List ℕ) (e at : ℕ) → left ≡ 0 → reach (Ok at) ≡ read_operands left bs e at
 unfolding read_operands reach
 operands_end left bs e at h = rw h
 
 -- `read_rest`
 module _ (bs : List ℕ) (e at : ℕ) (r : Reach) (body : reach r ≡ rest_of_record bs e at) where
   pub rest_go :
-      (next count : ℕ) (s : Reach) → r ≡ Next next → count ≡ operand_count (byte_at bs at) →
+      (next count : ℕ) (s : Reach) → r ≡ Ok next → count ≡ operand_count (byte_at bs at) →
       reach s ≡ read_operands count bs e next → reach s ≡ rest_of_all bs e at
   unfolding rest_of_all followed reach
   rest_go next count s k c h = rw (← body, k, ← c) h
 
-  pub rest_stop : (n p : ℕ) → r ≡ Trouble n p → reach r ≡ rest_of_all bs e at
+  pub rest_stop : (y : Refusal) → r ≡ Err y → reach (Err y) ≡ rest_of_all bs e at
   unfolding rest_of_all followed reach
-  rest_stop n p k = rw (← body, k)
+  rest_stop y k = rw (← body, k)
 
 -- a record and its operands without what they say
 erase : {A : Type 0} (r : Read (Unit {0})) (a : A) → reached (followed r (λ _ last. got a last)) ≡ r
@@ -232,11 +254,11 @@ module _ {A : Type 0} (allowed : ℕ → Bool) (a : A) (bs : List ℕ) (e at : �
 
 -- `read_ocmp`
 module _ (bs : List ℕ) (e at : ℕ) where
-  pub ocmp_short : e ≤ at → reach (Trouble 3 at) ≡ reached (read_ocmp bs e at)
+  pub ocmp_short : e ≤ at → trouble 3 at ≡ reached (read_ocmp bs e at)
   unfolding reach reached read_ocmp
   ocmp_short h = rw (with_short is_ocmp (ocmp_at bs at) bs e at h)
 
-  pub ocmp_wrong : at < e → is_ocmp (byte_at bs at) ≡ false → reach (Trouble 2 at) ≡ reached (read_ocmp bs e at)
+  pub ocmp_wrong : at < e → is_ocmp (byte_at bs at) ≡ false → trouble 2 at ≡ reached (read_ocmp bs e at)
   unfolding reach reached read_ocmp
   ocmp_wrong l h = rw (with_wrong is_ocmp (ocmp_at bs at) bs e at l h)
 

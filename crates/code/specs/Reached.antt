@@ -1,10 +1,10 @@
 -- What the functions of the reader ask, and what they answer: where a reading goes on, without the tree that it has read.
-use Rattle.std.specs.Prelude.{ℕ, ◌≤◌, ◌<◌, ◌≡◌, Bool, true, List, length}
+use Rattle.std.specs.Prelude.{ℕ, ◌≤◌, ◌<◌, ◌≡◌, Bool, true, List, length, Result, Ok, Err}
+use Rattle.machine.specs.Rules.{rule_number}
+use Rattle.machine.specs.declared.refusal.Refusal.{Refusal}
 use Rattle.code.specs.Records.{operand_count, judged_fields, byte_at, behind}
 use Rattle.code.specs.Tree.{Code}
 use Rattle.code.specs.Reader.{Read, got, trouble, followed, with_body, with_fields, read_operands, read_structure, read_code}
-use Rattle.code.specs.declared.reader.Reach.{Reach}
-use Rattle.code.specs.declared.reader.Reach.TheVariants.{Next, Trouble}
 
 -- a record of an allowed kind begins at `at`, in the part that ends at e
 pub record Begins (allowed : ℕ → Bool) (bs : List ℕ) (e at : ℕ) : Type 0 where
@@ -18,9 +18,9 @@ reached (got a next) = got tt next
 reached (trouble n p) = trouble n p
 
 -- the place, or the number and place, of each answer
-unfoldable pub reach : Reach → Read (Unit {0})
-reach (Next p) = got tt p
-reach (Trouble n p) = trouble n p
+unfoldable pub reach : Result ℕ Refusal → Read (Unit {0})
+reach (Ok next) = got tt next
+reach (Err refusal) = trouble (rule_number refusal.rule) refusal.place
 
 -- a record behind its kind byte: its body and its fields
 unfoldable pub rest_of_record : List ℕ → ℕ → ℕ → Read (Unit {0})

@@ -71,7 +71,7 @@ pub fn check_from(
         let address = addresses[place];
         let tag = tags[place];
         if let Some(rule) = broken_rule(last, address, tag, values[place]) {
-            return Err(Refusal { rule, place });
+            return Err(rule.at(place));
         }
         last = end(address, tag);
     }
@@ -83,16 +83,10 @@ pub fn check_cells(addresses: &[u64], tags: &[u8], values: &[u64]) -> Result<(),
     ensures { verdict result ≡ check_cells addresses.now tags.now values.now }
 {
     if tags.len() != addresses.len() || values.len() != addresses.len() {
-        return Err(Refusal {
-            rule: Rule::Lists,
-            place: 0,
-        });
+        return Err(Rule::Lists.at(0));
     }
     if addresses.len() > 1024 {
-        return Err(Refusal {
-            rule: Rule::Count,
-            place: 0,
-        });
+        return Err(Rule::Count.at(0));
     }
     check_from(addresses, tags, values, 0, of_word(0))
 }

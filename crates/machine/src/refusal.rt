@@ -29,6 +29,13 @@ impl Rule {
     {
         self as u8
     }
+
+    // The refusal by this rule.
+    pub fn at(self, place: usize) -> Refusal
+        ensures { result ≡ record { rule = self; place = place } }
+    {
+        Refusal { rule: self, place }
+    }
 }
 
 // The first rule that is broken, and the byte or the index of the cell where it is.

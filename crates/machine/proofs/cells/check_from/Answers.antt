@@ -12,12 +12,13 @@ pub returns-in-Some : goal.returns-in-Some
 returns-in-Some c =
     let l = c.loop-place in
     let rule = sym (ap broken c.in-Some.is) ∙ c.broken_rule.ensures in
-    ap (λ (n : ℕ). refused n l.place) rule
+    rw c.at.ensures
+    (ap (λ (n : ℕ). refused n l.place) rule
     ∙ sym
     (l.invariant
     ∙ from_stop c.args.addresses.now c.args.tags.now c.args.values.now c.requires l.place (number l.last)
     c.loop-place-test.true
-    (λ e. number_pos c.in-Some.rule (rule ∙ e)))
+    (λ e. number_pos c.in-Some.rule (rule ∙ e))))
 
 pub loop-place-preserved : goal.loop-place-preserved
 loop-place-preserved c =
