@@ -23,7 +23,7 @@ use Rattle.eval.specs.Running.{step_ins, step_ocmp, run_code, run_codes}
 use Rattle.eval.specs.LeastFuel.{is_spent}
 use Rattle.eval.specs.declared.answer.Watch.{Watch}
 use Rattle.eval.specs.declared.answer.Mark.{Mark}
-use Rattle.eval.specs.declared.answer.Mark.TheVariants.{Unmarked, Marked}
+use Rattle.eval.specs.declared.counted.Counter.{Counter}
 use Rattle.eval.specs.declared.exit.Exit.{Exit}
 use Rattle.eval.specs.declared.operand.Sought.{Sought}
 use Rattle.eval.specs.declared.operand.Loaded.{Loaded}
@@ -145,10 +145,6 @@ Lent A = Both (Bor A) (Bor A)
 abbrev LentMut : Type 0 → Type 0
 LentMut A = Both (MutBor A) (MutBor A)
 
--- a mark as a word: 0 for none, or the place and one more
-abbrev pub mark_of : ℕ → Mark
-mark_of word = cond (eqb word 0) Unmarked (Marked (word - 1))
-
 -- whether carry is open, as a word says it: below 4 its bit 0, else as it is behind the instruction, of this kind, that set both flags last. No row of the
 -- table behind 06 asks the rule, and a kind is below 32
 abbrev pub carry_in : ℕ → Bool
@@ -158,21 +154,17 @@ carry_in word = cond (ltb word 4) (eqb (word % 2) 1) (open_after (touched base_r
 abbrev pub overflow_in : ℕ → Bool
 overflow_in word = cond (ltb word 4) (eqb (word / 2 % 2) 1) (open_after (touched base_rule (word % 32)).overflow false)
 
--- a watch as two words: what is open, and the mark
-abbrev pub watch_of : ℕ → ℕ → Watch
-watch_of word mark = watch (carry_in word) (overflow_in word) (mark_of mark)
+-- a watch, of the word that says what is open, and the mark
+abbrev pub watch_of : ℕ → Mark → Watch
+watch_of word mark = watch (carry_in word) (overflow_in word) mark
 
--- what is counted, in a lent array of words: at place 0 the steps made, at 1 what is open, at 2 the mark
-abbrev pub tally : List ℕ → Counted
-tally words = counted (get_or words 0 0) (watch_of (get_or words 1 0) (get_or words 2 0))
+-- what is counted: the steps made, and the watch
+abbrev pub tally : Counter → Counted
+tally k = counted k.steps (watch_of k.opened k.mark)
 
--- at place 3 the least fuel with which a loop was tested; where none was, one more than the fuel of the run
-unfoldable pub least_tested : List ℕ → ℕ
-least_tested words = get_or words 3 0
-
--- it is left as it was given
-abbrev pub TestedNone : LentMut (List ℕ) → Type 0
-TestedNone counted = least_tested counted.exit.now ≡ least_tested counted.entry.now
+-- the least fuel with which a loop was tested; where none was, one more than the fuel of the run
+abbrev pub least_tested : Counter → ℕ
+least_tested k = k.tested
 
 -- the least tested fuel where a round has begun with so much left: a While tests it, and an IfElse, which chooses, does not
 abbrev pub tested_with : Bool → ℕ → ℕ → ℕ
@@ -184,7 +176,7 @@ KeepsFlags k = (rule : FlagRule) (at : ℕ) (w : Watch) → watched rule k at w 
 
 -- a kind of which the watch behind it is told by the kind alone
 abbrev pub SetsFlags : ℕ → Type 0
-SetsFlags k = (rule : FlagRule) (at word mark : ℕ) → watched rule k at (watch_of word mark) ≡ watch_of k mark
+SetsFlags k = (rule : FlagRule) (at word : ℕ) (mark : Mark) → watched rule k at (watch_of word mark) ≡ watch_of k mark
 
 -- what is open behind a kind that opens nothing, as two bits, of what was
 pub record Kept (rule : FlagRule) (k was r : ℕ) : Type 0 where
@@ -304,29 +296,29 @@ module _
   abbrev pub EvaluatesIns : ℕ → Exit → Type 0
   EvaluatesIns at r = RunsIns env code.entry.now at given r left
 
-  module _ (counted : LentMut (List ℕ)) (limit : ℕ) where
+  module _ (counter : LentMut Counter) (limit : ℕ) where
     -- the same of that instruction as a step
     abbrev pub EvaluatesStep : ℕ → Exit → Type 0
-    EvaluatesStep at r = StepsIns env (some limit) code.entry.now at given (tally counted.entry.now) r left (tally counted.exit.now)
+    EvaluatesStep at r = StepsIns env (some limit) code.entry.now at given (tally counter.entry.now) r left (tally counter.exit.now)
 
     -- what is left, and the exit, are those of the code at a place, with fuel
     abbrev pub Evaluates : ℕ → ℕ → Exit → Type 0
-    Evaluates at fuel r = Runs env (some limit) code.entry.now at fuel given (tally counted.entry.now) r left (tally counted.exit.now)
+    Evaluates at fuel r = Runs env (some limit) code.entry.now at fuel given (tally counter.entry.now) r left (tally counter.exit.now)
 
     -- what less fuel would have done with it
     abbrev pub WithLess : ℕ → ℕ → Exit → Type 0
     WithLess at fuel r =
-        LessFuel (λ e. Evaluates at (fuel - e) r) (λ e. Spends env (some limit) code.entry.now at (fuel - e) given (tally counted.entry.now))
-        (least_tested counted.entry.now) (least_tested counted.exit.now)
+        LessFuel (λ e. Evaluates at (fuel - e) r) (λ e. Spends env (some limit) code.entry.now at (fuel - e) given (tally counter.entry.now))
+        (least_tested counter.entry.now) (least_tested counter.exit.now)
 
     -- what is left, and the exit, are those of the list of codes between two places, with fuel
     abbrev pub EvaluatesAll : ℕ → ℕ → ℕ → Exit → Type 0
     EvaluatesAll from end fuel r =
-        RunsAll env (some limit) code.entry.now from end fuel given (tally counted.entry.now) r left (tally counted.exit.now)
+        RunsAll env (some limit) code.entry.now from end fuel given (tally counter.entry.now) r left (tally counter.exit.now)
 
     -- what less fuel would have done with them
     abbrev pub WithLessAll : ℕ → ℕ → ℕ → Exit → Type 0
     WithLessAll from end fuel r =
         LessFuel (λ e. EvaluatesAll from end (fuel - e) r)
-        (λ e. SpendsAll env (some limit) code.entry.now from end (fuel - e) given (tally counted.entry.now))
-        (least_tested counted.entry.now) (least_tested counted.exit.now)
+        (λ e. SpendsAll env (some limit) code.entry.now from end (fuel - e) given (tally counter.entry.now))
+        (least_tested counter.entry.now) (least_tested counter.exit.now)

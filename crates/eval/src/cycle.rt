@@ -9,7 +9,7 @@ ghost use Rattle.eval.specs.Promises.{Cells, CodeAt, CodesAt, codes_from, Tested
 
 use crate::answer::Evaluation;
 use crate::comparison::Compared;
-use crate::counted::{COUNTED, count_test};
+use crate::counted::Counter;
 use crate::exit::Exit;
 use crate::step::{step_comparison, step_instruction};
 use code::number4;
@@ -87,22 +87,22 @@ pub fn eval_codes(
     flags: &mut u64,
     addresses: &[u64],
     tags: &[u8],
-    counted: &mut [u64; COUNTED],
+    counter: &mut Counter,
     limit: u64,
     fill: u64,
     evaluation: Evaluation,
 ) -> Exit
     requires codes_at { CodesAt code.now from end }
     requires cells { Cells addresses.now tags.now values.old }
-    ensures evaluates_all { EvaluatesAll code fill (flag_rule evaluation) regs xmms flags addresses tags values counted limit from end fuel result }
-    ensures with_less_all { WithLessAll code fill (flag_rule evaluation) regs xmms flags addresses tags values counted limit from end fuel result }
+    ensures evaluates_all { EvaluatesAll code fill (flag_rule evaluation) regs xmms flags addresses tags values counter limit from end fuel result }
+    ensures with_less_all { WithLessAll code fill (flag_rule evaluation) regs xmms flags addresses tags values counter limit from end fuel result }
 {
     let mut next = from;
     while next < end {
         let kind = code[next];
         if kind < 0x20 {
             let ran = step_instruction(
-                code, next, fill, evaluation, regs, xmms, flags, addresses, tags, values, counted,
+                code, next, fill, evaluation, regs, xmms, flags, addresses, tags, values, counter,
                 limit,
             );
             if ran.number != 0 {
@@ -113,7 +113,7 @@ pub fn eval_codes(
             next += 5;
         } else {
             let went = eval_code(
-                code, next, values, regs, fuel, xmms, flags, addresses, tags, counted, limit, fill,
+                code, next, values, regs, fuel, xmms, flags, addresses, tags, counter, limit, fill,
                 evaluation,
             );
             if went.number != 0 {
@@ -141,7 +141,7 @@ fn eval_code(
     flags: &mut u64,
     addresses: &[u64],
     tags: &[u8],
-    counted: &mut [u64; COUNTED],
+    counter: &mut Counter,
     limit: u64,
     fill: u64,
     evaluation: Evaluation,
@@ -149,15 +149,15 @@ fn eval_code(
     requires code_at { CodeAt code.now at }
     requires bound { 0x21 ≤ byte_at code.now at }
     requires cells { Cells addresses.now tags.now values.old }
-    ensures evaluates { Evaluates code fill (flag_rule evaluation) regs xmms flags addresses tags values counted limit at fuel result }
-    ensures with_less { WithLess code fill (flag_rule evaluation) regs xmms flags addresses tags values counted limit at fuel result }
+    ensures evaluates { Evaluates code fill (flag_rule evaluation) regs xmms flags addresses tags values counter limit at fuel result }
+    ensures with_less { WithLess code fill (flag_rule evaluation) regs xmms flags addresses tags values counter limit at fuel result }
 {
     let chooses = code[at] == 0x21;
     let test = test_at(at, chooses);
     let mut left = fuel;
     while chooses || left != 0 {
-        count_test(chooses, left, counted);
-        let compared = step_comparison(code, test, regs, addresses, tags, values, counted, limit);
+        counter.count_test(chooses, left);
+        let compared = step_comparison(code, test, regs, addresses, tags, values, counter, limit);
         if 1 < compared.how {
             return Exit {
                 number: compared.how,
@@ -184,7 +184,7 @@ fn eval_code(
             flags,
             addresses,
             tags,
-            counted,
+            counter,
             limit,
             fill,
             evaluation,

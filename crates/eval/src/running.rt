@@ -12,7 +12,7 @@ ghost use Rattle.eval.specs.Promises.{environment, how};
 ghost use Rattle.eval.specs.Inputs.{IsInput};
 
 use crate::answer::{Answer, Run, Setting};
-use crate::counted::{COUNTED, STEPS, TESTED, nothing_open, told_watch};
+use crate::counted::{Counter, nothing_open};
 use crate::cycle::eval_codes;
 use crate::exit::Exit;
 use code::check_code;
@@ -74,8 +74,7 @@ pub fn evaluate(
     let fill = setting.fill;
     let evaluation = setting.evaluation;
     let limit = setting.limit;
-    let mut counted = [0u64; COUNTED];
-    counted[TESTED] = fuel as u64 + 1;
+    let mut counter = Counter::new(fuel);
     let exit = eval_codes(
         code,
         0,
@@ -87,16 +86,16 @@ pub fn evaluate(
         &mut flags,
         addresses,
         tags,
-        &mut counted,
+        &mut counter,
         limit,
         fill,
         evaluation,
     );
     let answer = answer_of(exit);
     let state = State { regs, xmms, flags };
-    let steps = counted[STEPS];
-    let watch = told_watch(&counted);
-    let needed = needed_fuel(exit, fuel, counted[TESTED]);
+    let steps = counter.steps;
+    let watch = counter.watch();
+    let needed = needed_fuel(exit, fuel, counter.tested);
     Run {
         answer,
         state,

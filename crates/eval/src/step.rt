@@ -1,25 +1,15 @@
 // Instructions and comparisons as steps of a run: each is tried only where the limit leaves a step, and counted where it
 // completes. They know nothing of that themselves.
-ghost use Rattle.std.specs.Prelude.{◌≡◌, List, ℕ, ◌<◌, length};
+ghost use Rattle.std.specs.Prelude.{◌≡◌, List, ℕ};
 ghost use Rattle.std.proofs.Math.Option.{some};
 ghost use Rattle.eval.specs.FlagRule.{FlagRule, flag_rule};
-ghost use Rattle.eval.specs.Counted.{used_up};
-ghost use Rattle.eval.specs.Promises.{environment, held, tally, TestedNone, Cells, InsAt, OcmpAt, EvaluatesStep, DecidesAt};
+ghost use Rattle.eval.specs.Promises.{environment, held, tally, least_tested, Cells, InsAt, OcmpAt, EvaluatesStep, DecidesAt};
 
 use crate::answer::Evaluation;
 use crate::comparison::{Compared, compare};
-use crate::counted::{COUNTED, STEPS, count_comparison, count_instruction};
+use crate::counted::Counter;
 use crate::exit::Exit;
 use crate::instruction::instruction;
-
-// Read as a slice: a contract knows the length of a slice, and not that of an array.
-fn used_up(counted: &[u64; COUNTED], limit: u64) -> bool
-    ensures value { result ≡ used_up (some limit) (tally counted.now) }
-    ensures in_bounds { 3 < length counted.now }
-{
-    let words: &[u64] = counted;
-    limit <= words[STEPS]
-}
 
 pub fn step_instruction(
     code: &[u8],
@@ -32,15 +22,15 @@ pub fn step_instruction(
     addresses: &[u64],
     tags: &[u8],
     values: &mut [u64],
-    counted: &mut [u64; COUNTED],
+    counter: &mut Counter,
     limit: u64,
 ) -> Exit
     requires ins_at { InsAt code.now at }
     requires cells { Cells addresses.now tags.now values.old }
-    ensures evaluates_step { EvaluatesStep code fill (flag_rule evaluation) regs xmms flags addresses tags values counted limit at result }
-    ensures tested_none { TestedNone counted }
+    ensures evaluates_step { EvaluatesStep code fill (flag_rule evaluation) regs xmms flags addresses tags values counter limit at result }
+    ensures tested_none { least_tested counter.new ≡ least_tested counter.old }
 {
-    if used_up(counted, limit) {
+    if counter.used_up(limit) {
         return Exit {
             number: 37,
             place: at,
@@ -52,7 +42,7 @@ pub fn step_instruction(
     if ran.number != 0 {
         return ran;
     }
-    count_instruction(code[at], at, evaluation, counted);
+    counter.count_instruction(code[at], at, evaluation);
     ran
 }
 
@@ -65,23 +55,23 @@ pub fn step_comparison(
     addresses: &[u64],
     tags: &[u8],
     values: &[u64],
-    counted: &mut [u64; COUNTED],
+    counter: &mut Counter,
     limit: u64,
 ) -> Compared
     requires ocmp_at { OcmpAt code.now at }
     requires cells { Cells addresses.now tags.now values.now }
     ensures by_index { (fill : ℕ) (rule : FlagRule) (flags : ℕ) (xmms : List ℕ) →
         DecidesAt (environment addresses.now tags.now fill rule) (some limit) code.now at
-        (held regs.now xmms flags values.now) (tally counted.old) result (tally counted.new) }
-    ensures tested_none { TestedNone counted }
+        (held regs.now xmms flags values.now) (tally counter.old) result (tally counter.new) }
+    ensures tested_none { least_tested counter.new ≡ least_tested counter.old }
 {
-    if used_up(counted, limit) {
+    if counter.used_up(limit) {
         return Compared { how: 37, next: at };
     }
     let compared = compare(code, at, regs, addresses, tags, values);
     if 1 < compared.how {
         return compared;
     }
-    count_comparison(counted);
+    counter.count_comparison();
     compared
 }

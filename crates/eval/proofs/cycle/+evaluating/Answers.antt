@@ -89,7 +89,7 @@ compared :
     let l = c.loop-evaluation in
     let x = c.step_comparison-compared in
     DecidesAt (environment a.addresses.now a.tags.now a.fill (flag_rule a.evaluation)) (some a.limit) a.code.now c.test_at-test.result
-    (held l.regs l.xmms l.flags l.values) (tally l.counted) x.result (tally x.new.counted)
+    (held l.regs l.xmms l.flags l.values) (tally l.counter) x.result (tally x.new.counter)
 compared t c =
     let a = c.args in
     let l = c.loop-evaluation in
@@ -101,9 +101,9 @@ begun :
     let a = c.args in
     let l = c.loop-evaluation in
     BegunLess (environment a.addresses.now a.tags.now a.fill (flag_rule a.evaluation)) (some a.limit) a.code.now a.at a.fuel
-    (held a.regs.now a.xmms.now a.flags.now a.values.now) (tally a.counted.now) (least_tested a.counted.now)
+    (held a.regs.now a.xmms.now a.flags.now a.values.now) (tally a.counter.now) (least_tested a.counter.now)
     (eqb (byte_at a.code.now a.at) 0x21) c.test_at-test.result l.left (held l.regs l.xmms l.flags l.values)
-    (tally l.counted) (least_tested c.step_comparison-compared.new.counted)
+    (tally l.counter) (least_tested c.step_comparison-compared.new.counter)
 begun t c =
     begins_less c.loop-evaluation.invariant.less (fuelled t c)
     (c.step_comparison-compared.ensures.tested_none ∙ c.count_test.ensures.counted_after)
@@ -115,8 +115,8 @@ turn :
     let l = c.loop-evaluation in
     let x = c.step_comparison-compared in
     Turn (environment a.addresses.now a.tags.now a.fill (flag_rule a.evaluation)) (some a.limit) a.code.now a.at a.fuel t
-    (held a.regs.now a.xmms.now a.flags.now a.values.now) (tally a.counted.now) c.test_at-test.result l.left
-    (held l.regs l.xmms l.flags l.values) (tally l.counted) x.result (tally x.new.counted) c.way_from-way.result
+    (held a.regs.now a.xmms.now a.flags.now a.values.now) (tally a.counter.now) c.test_at-test.result l.left
+    (held l.regs l.xmms l.flags l.values) (tally l.counter) x.result (tally x.new.counter) c.way_from-way.result
     (eqb (byte_at a.code.now a.at) 0x21)
 turn t c =
     let a = c.args in

@@ -22,9 +22,9 @@ invariant-eval_code-loop-evaluation l =
     let first = held l.initial.regs l.initial.xmms l.initial.flags l.initial.values in
     let now = held l.regs l.xmms l.flags l.values in
     record {
-      runs : Testing env (some l.limit) l.code l.at l.fuel first (tally l.initial.counted) l.chooses l.test l.left now (tally l.counted);
-      less : TestingLess env (some l.limit) l.code l.at l.fuel first (tally l.initial.counted) (least_tested l.initial.counted)
-          l.chooses l.test l.left now (tally l.counted) (least_tested l.counted);
+      runs : Testing env (some l.limit) l.code l.at l.fuel first (tally l.initial.counter) l.chooses l.test l.left now (tally l.counter);
+      less : TestingLess env (some l.limit) l.code l.at l.fuel first (tally l.initial.counter) (least_tested l.initial.counter)
+          l.chooses l.test l.left now (tally l.counter) (least_tested l.counter);
     }
 
 abbrev pub decreases-eval_code-loop-evaluation : goal.decreases-eval_code-loop-evaluation
@@ -37,9 +37,9 @@ invariant-eval_codes-loop-next l =
     let first = held l.initial.regs l.initial.xmms l.initial.flags l.initial.values in
     let now = held l.regs l.xmms l.flags l.values in
     record {
-      runs : Going env (some l.limit) l.code l.from l.end l.fuel first (tally l.initial.counted) l.next now (tally l.counted);
-      less : GoingLess env (some l.limit) l.code l.from l.end l.fuel first (tally l.initial.counted) (least_tested l.initial.counted)
-          l.next now (tally l.counted) (least_tested l.counted);
+      runs : Going env (some l.limit) l.code l.from l.end l.fuel first (tally l.initial.counter) l.next now (tally l.counter);
+      less : GoingLess env (some l.limit) l.code l.from l.end l.fuel first (tally l.initial.counter) (least_tested l.initial.counter)
+          l.next now (tally l.counter) (least_tested l.counter);
     }
 
 abbrev pub decreases-eval_codes-loop-next : goal.decreases-eval_codes-loop-next

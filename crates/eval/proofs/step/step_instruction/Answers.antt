@@ -17,7 +17,7 @@ bounds-code-at c = search ins_starts
 pub count_instruction-requires : goal.count_instruction-requires
 count_instruction-requires c =
     let asked = c.requires in
-    record { in_bounds = search rules; kind_bound = ins_below _ _ asked.ins_at; at_bound = search place_fits; counted_bound = search step_fits }
+    record { kind_bound = ins_below _ _ asked.ins_at; counted_bound = search step_fits }
 
 pub returns : goal.returns
 returns c = record { evaluates_step = search ins_counted; tested_none = c.count_instruction.ensures.tested_none }
