@@ -10,7 +10,7 @@ use borrow.Author.Tests.{leb-false, ne_eqb}
 use mir.Syntax.{w64}
 use mir.Val.{Fits}
 use lib.Dec.{eqb}
-use lib.ListN.{length, get_or}
+use lib.ListN.{length}
 use Rattle.machine.proofs.OperandLaws.{unread_above, unread_below}
 use Rattle.code.specs.declared.tree.Ocmp.{Ocmp}
 use Rattle.code.specs.Layout.{Layout, layout, ocmp_layout, last_ins}

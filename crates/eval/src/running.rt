@@ -15,6 +15,7 @@ use crate::answer::{Answer, Run, Setting};
 use crate::counted::{Counter, nothing_open};
 use crate::cycle::eval_codes;
 use crate::exit::Exit;
+use crate::lent::Lent;
 use code::check_code;
 use machine::{Checked, State, check_cells};
 
@@ -67,32 +68,19 @@ pub fn evaluate(
         (environment addresses.now tags.now setting.fill (flag_rule setting.evaluation))
         fuel (some setting.limit) (config start values.old)) setting.fuel }
 {
-    let mut regs = start.regs;
-    let mut xmms = start.xmms;
-    let mut flags = start.flags;
-    let fuel = setting.fuel;
-    let fill = setting.fill;
-    let evaluation = setting.evaluation;
-    let limit = setting.limit;
-    let mut counter = Counter::new(fuel);
-    let exit = eval_codes(
+    let lent = Lent {
         code,
-        0,
-        code.len(),
-        values,
-        &mut regs,
-        fuel,
-        &mut xmms,
-        &mut flags,
         addresses,
         tags,
-        &mut counter,
-        limit,
-        fill,
-        evaluation,
-    );
+        fill: setting.fill,
+        limit: setting.limit,
+        evaluation: setting.evaluation,
+    };
+    let fuel = setting.fuel;
+    let mut state = start;
+    let mut counter = Counter::new(fuel);
+    let exit = eval_codes(&lent, 0, code.len(), fuel, &mut state, values, &mut counter);
     let answer = answer_of(exit);
-    let state = State { regs, xmms, flags };
     let steps = counter.steps;
     let watch = counter.watch();
     let needed = needed_fuel(exit, fuel, counter.tested);

@@ -5,8 +5,11 @@ use Rattle.eval.proofs.RunLaws.{accepted_cells, accepted_codes, run_ran}
 use Rattle.eval.proofs.NeededLaws.{needed_is}
 use Rattle.eval.proofs.running.evaluate.Goals as goal
 
+pub invariant_of-lent : goal.invariant_of-lent
+invariant_of-lent c = record { searchable = (accepted_cells _ _ _ c.requires.values_value).0 }
+
 pub eval_codes-exit-requires : goal.eval_codes-exit-requires
-eval_codes-exit-requires c = record { codes_at = search accepted_codes; cells = search accepted_cells }
+eval_codes-exit-requires c = record { codes_at = search accepted_codes; long = (accepted_cells _ _ _ c.requires.values_value).1 }
 
 pub needed_fuel-needed-requires : goal.needed_fuel-needed-requires
 needed_fuel-needed-requires c =
