@@ -34,16 +34,16 @@ use Rattle.code.specs.declared.records.Form.{Form}
 use Rattle.code.specs.declared.records.Form.TheVariants.{Const, Register, Memory}
 use Rattle.code.proofs.Frames.{operand_frame}
 use Rattle.code.proofs.CodeFrames.{ocmp_frame}
-use Rattle.code.proofs.Families.{Stood, ins_inside, lane_kinds, two_stood, lea_stood, mul_stood, mulx_stood, quads_stood, shifts_stood, shuffle_stood, word_shift_stood, extract_stood, inserts_stood}
+use Rattle.code.proofs.Families.{ins_inside, lane_kinds, two_stood, lea_stood, mul_stood, mulx_stood, quads_stood, shifts_stood, shuffle_stood, word_shift_stood, extract_stood, inserts_stood}
 use Rattle.code.proofs.Forms.{constant_is, register_is, register_below}
 use Rattle.eval.specs.FlagRule.{FlagRule, base_rule}
-use Rattle.eval.specs.Config.{Env, Config, with_flags}
+use Rattle.eval.specs.Config.{Env, Config, with_regs, with_flags}
 use Rattle.eval.specs.Config as Config
 use Rattle.eval.specs.Watch.{nothing_open}
 use Rattle.eval.specs.Counted.{Counted, counted, ended}
 use Rattle.eval.specs.Running.{run_of}
 use Rattle.eval.specs.Instructions.{checks_amount, two_word, two_flags, inserts_word, run_ins}
-use Rattle.eval.specs.Promises.{environment, held, Cells, CodeAt, CodesAt, InsAt, OcmpAt, codes_from, Loads, Seeks, Resolves, no_slot, put_regs, put_values, comparison, Compares, how, Ran, StepsIns, DecidesAt, TestedAt, test_at, BehindTest, part_fuel, way_from, Runs, RunsIns, RunsAll, Spends, SpendsAll}
+use Rattle.eval.specs.Promises.{environment, held, CodeAt, CodesAt, InsAt, OcmpAt, codes_from, Loads, Seeks, Resolves, no_slot, put_regs, put_values, comparison, Compares, how, Ran, StepsIns, DecidesAt, TestedAt, test_at, BehindTest, part_fuel, way_from, Runs, RunsIns, RunsAll, Spends, SpendsAll}
 use Rattle.eval.specs.declared.answer.Watch.{Watch}
 use Rattle.eval.specs.declared.exit.Exit.{Exit}
 use Rattle.eval.specs.declared.operand.Sought.{Sought}
@@ -59,72 +59,56 @@ use Rattle.eval.proofs.RunLaws.{code_refused, cells_refused}
 use Rattle.eval.proofs.CycleLaws.{code_frame, starts, has_length, Choice, choice_inside, loop_inside, how_done, ins_ran, codes_past, Going, next_there, next_past, if_stops, Chosen, chosen_there, chosen_ran, chosen_spends, Looping, looped, looped_spends, loop_spent, loop_stopped, Round, round_over, round_there, round_spends, round_goes, round_stops}
 
 -- ---- an operand, of which a form was decoded, and the place next behind it
-abbrev Finds : List ℕ → List ℕ → List ℕ → List ℕ → ℕ → ℕ → Sought → Type 0
-Finds addresses tags regs bs at absent f = (m : Maddr) → operand_at bs at ≡ OMem m → Seeks addresses tags regs m absent f
+abbrev Finds : Env → List ℕ → List ℕ → ℕ → ℕ → Sought → Type 0
+Finds env regs bs at absent f = (m : Maddr) → operand_at bs at ≡ OMem m → Seeks env.addresses env.tags regs m absent f
 
-module _ (addresses tags regs values bs : List ℕ) (at next : ℕ) (is_next : next ≡ behind bs at) (form : Form)
+module _ (env : Env) (s : Config) (bs : List ℕ) (at next : ℕ) (is_next : next ≡ behind bs at) (form : Form)
     (is : form ≡ form_of (operand_at bs at)) where
-  module _ (fill : ℕ) (rule : FlagRule) (flags : ℕ) (xmms : List ℕ) where
-    abbrev Load : Loaded → Type 0
-    Load r = Loads (environment addresses tags fill rule) (held regs xmms flags values) (operand_at bs at) (behind bs at) r
+  abbrev Load : Loaded → Type 0
+  Load r = Loads env s (operand_at bs at) (behind bs at) r
 
-    abbrev Resolve : Slot → Type 0
-    Resolve t = Resolves (environment addresses tags fill rule) (held regs xmms flags values) (operand_at bs at) (behind bs at) t
+  abbrev Resolve : Slot → Type 0
+  Resolve t = Resolves env s (operand_at bs at) (behind bs at) t
 
-    module _ (n : ℕ) (constant : form ≡ Const n) where
-      pub loads_constant : Load (record { number = 0; word = n; next = next })
-      loads_constant = rw is_next (load_constant _ _ _ _ _ _ fill rule flags xmms n (constant_is _ n (sym is ∙ constant)))
+  module _ (n : ℕ) (constant : form ≡ Const n) where
+    pub loads_constant : Load (record { number = 0; word = n; next = next })
+    loads_constant = rw is_next (load_constant env s _ _ n (constant_is _ n (sym is ∙ constant)))
 
-      pub no_constant : (t : Slot) → t ≡ no_slot 32 next → Resolve t
-      no_constant t e = resolve_constant _ _ _ _ _ _ fill rule flags xmms n (constant_is _ n (sym is ∙ constant)) t (e ∙ ap (no_slot 32) is_next)
+    pub no_constant : (t : Slot) → t ≡ no_slot 32 next → Resolve t
+    no_constant t e = resolve_constant env s _ _ n (constant_is _ n (sym is ∙ constant)) t (e ∙ ap (no_slot 32) is_next)
 
-    module _ (r : Reg) (register : form ≡ Register r) where
-      pub loads_register : Load (record { number = 0; word = reg_at regs r; next = next })
-      loads_register = rw is_next (load_register _ _ _ _ _ _ fill rule flags xmms r (register_is _ r (sym is ∙ register)))
+  module _ (r : Reg) (register : form ≡ Register r) where
+    pub loads_register : Load (record { number = 0; word = reg_at s.regs r; next = next })
+    loads_register = rw is_next (load_register env s _ _ r (register_is _ r (sym is ∙ register)))
 
-      module _ (b : Bool) (rsp : b ≡ eqb r.number Rsp.number) where
-        pub no_rsp : b ≡ true → (t : Slot) → t ≡ no_slot 32 next → Resolve t
-        no_rsp h t e =
-            resolve_rsp _ _ _ _ _ _ fill rule flags xmms r (register_is _ r (sym is ∙ register)) b rsp h t (e ∙ ap (no_slot 32) is_next)
+    module _ (b : Bool) (rsp : b ≡ eqb r.number Rsp.number) where
+      pub no_rsp : b ≡ true → (t : Slot) → t ≡ no_slot 32 next → Resolve t
+      no_rsp h t e = resolve_rsp env s _ _ r (register_is _ r (sym is ∙ register)) b rsp h t (e ∙ ap (no_slot 32) is_next)
 
-        pub resolves_register :
-            b ≡ false → OperandBytes bs at →
-            Resolve (record { how = 0; index = r.number; word = reg_at regs r; next = next })
-        resolves_register h stands =
-            let q = register_is _ r (sym is ∙ register) in
-            rw is_next (resolve_register _ _ _ _ _ _ fill rule flags xmms r q b rsp h (register_below bs at stands r q))
+      pub resolves_register :
+          b ≡ false → OperandBytes bs at →
+          Resolve (record { how = 0; index = r.number; word = reg_at s.regs r; next = next })
+      resolves_register h stands =
+          let q = register_is _ r (sym is ∙ register) in
+          rw is_next (resolve_register env s _ _ r q b rsp h (register_below bs at stands r q))
 
-    module _ (memory : form ≡ Memory) (f : Sought) where
-      module _ (found : Finds addresses tags regs bs at 31 f) where
-        pub loads_cell : f.number ≡ 0 → Load (record { number = 0; word = get_or values f.index 0; next = next })
-        loads_cell e = rw is_next (load_cell _ _ _ _ _ _ fill rule flags xmms form is memory 31 f found (omega arith) e)
+  module _ (memory : form ≡ Memory) (f : Sought) where
+    module _ (found : Finds env s.regs bs at 31 f) where
+      pub loads_cell : f.number ≡ 0 → Load (record { number = 0; word = get_or s.values f.index 0; next = next })
+      loads_cell e = rw is_next (load_cell env s _ _ form is memory 31 f found (omega arith) e)
 
-        pub loads_none : (f.number ≡ 0 → ⊥) → Load (record { number = f.number; word = 0; next = next })
-        loads_none e = rw is_next (load_none _ _ _ _ _ _ fill rule flags xmms form is memory 31 f found (omega arith) e refl)
+      pub loads_none : (f.number ≡ 0 → ⊥) → Load (record { number = f.number; word = 0; next = next })
+      loads_none e = rw is_next (load_none env s _ _ form is memory 31 f found (omega arith) e refl)
 
-      module _ (found : Finds addresses tags regs bs at 32 f) where
-        pub resolves_cell :
-            f.number ≡ 0 → Cells addresses tags values →
-            Resolve (record { how = 1; index = f.index; word = get_or values f.index 0; next = next })
-        resolves_cell e cells = rw is_next (resolve_cell _ _ _ _ _ _ fill rule flags xmms form is memory 32 f found (omega arith) e cells)
+    module _ (found : Finds env s.regs bs at 32 f) where
+      pub resolves_cell :
+          f.number ≡ 0 → length s.values ≡ length env.addresses →
+          Resolve (record { how = 1; index = f.index; word = get_or s.values f.index 0; next = next })
+      resolves_cell e long = rw is_next (resolve_cell env s _ _ form is memory 32 f found (omega arith) e long)
 
-        pub no_cell : (f.number ≡ 0 → ⊥) → (t : Slot) → t ≡ no_slot f.number next → Resolve t
-        no_cell e t g =
-            resolve_none _ _ _ _ _ _ fill rule flags xmms form is memory 32 f found (omega arith) e refl t (g ∙ ap (no_slot f.number) is_next)
-
--- f is what was found for a memory operand, in some registers
-pub record IsFound (addresses tags bs : List ℕ) (at : ℕ) (f : Sought) : Type 0 where
-  pub regs : List ℕ
-  pub absent : ℕ
-  pub above : 1 < absent
-  pub found : Finds addresses tags regs bs at absent f
-
-module _ (addresses tags regs bs : List ℕ) (at : ℕ) (f : Sought) where
-  pub found_source : Finds addresses tags regs bs at 31 f → IsFound addresses tags bs at f
-  found_source h = record { regs = regs; absent = 31; above = omega arith; found = h }
-
-  pub found_destination : Finds addresses tags regs bs at 32 f → IsFound addresses tags bs at f
-  found_destination h = record { regs = regs; absent = 32; above = omega arith; found = h }
+      pub no_cell : (f.number ≡ 0 → ⊥) → (t : Slot) → t ≡ no_slot f.number next → Resolve t
+      no_cell e t g =
+          resolve_none env s _ _ form is memory 32 f found (omega arith) e refl t (g ∙ ap (no_slot f.number) is_next)
 
 module _ (bs : List ℕ) (at : ℕ) (form : Form) (is : form ≡ form_of (operand_at bs at)) where
   pub register_inside : OperandBytes bs at → (r : Reg) → form ≡ Register r → r.number < 16
@@ -133,15 +117,29 @@ module _ (bs : List ℕ) (at : ℕ) (form : Form) (is : form ≡ form_of (operan
   pub is_memory : form ≡ Memory → form_of (operand_at bs at) ≡ Memory
   is_memory memory = sym is ∙ memory
 
-  module _ (addresses tags values : List ℕ) (cells : Cells addresses tags values) (memory : form ≡ Memory) (f : Sought)
-      (w : IsFound addresses tags bs at f) (e : f.number ≡ 0) where
-    pub found_inside : f.index < length values
-    found_inside = cell_inside addresses tags w.regs values _ 0 0 base_rule 0 [] form is memory w.absent f w.found w.above e cells
+  -- what was found is inside the values
+  module _ (addresses tags regs values : List ℕ) (long : length values ≡ length addresses) (memory : form ≡ Memory) (f : Sought) (e : f.number ≡ 0)
+    where
+      abbrev Found : ℕ → Type 0
+      Found absent = (m : Maddr) → operand_at bs at ≡ OMem m → Seeks addresses tags regs m absent f
 
-    pub found_fits : length values * 8 < 2 ^ 63 → Fits w64 (f.index * 8)
-    found_fits room = omega (arith, found_inside)
+      inside_of : (absent : ℕ) → 1 < absent → Found absent → f.index < length values
+      inside_of absent above found =
+          cell_inside (environment addresses tags 0 base_rule) (held regs [] 0 values) _ 0 form is memory absent f found above e long
 
--- ---- what was loaded or resolved at a place, whatever the fill word, the flags and the xmms are
+      pub source_inside : Found 31 → f.index < length values
+      source_inside = inside_of 31 (omega arith)
+
+      pub destination_inside : Found 32 → f.index < length values
+      destination_inside = inside_of 32 (omega arith)
+
+      pub source_fits : Found 31 → length values * 8 < 2 ^ 63 → Fits w64 (f.index * 8)
+      source_fits found room = let l = source_inside found in omega (arith, l)
+
+      pub destination_fits : Found 32 → length values * 8 < 2 ^ 63 → Fits w64 (f.index * 8)
+      destination_fits found room = let l = destination_inside found in omega (arith, l)
+
+-- ---- what was loaded or resolved at a place
 pub operand_starts : (bs : List ℕ) (at : ℕ) → OperandBytes bs at → at < length bs
 operand_starts bs at o = (operand_frame bs at o).starts
 
@@ -153,16 +151,12 @@ pub third_there :
     (bs : List ℕ) (at a b : ℕ) → a ≡ behind bs at → b ≡ behind bs a → OperandBytes bs (behind bs (behind bs at)) → OperandBytes bs b
 third_there bs at a b is is' o = rw (is', is) o
 
-module _ (addresses tags regs values bs : List ℕ) (at : ℕ) where
+module _ (env : Env) (s : Config) (bs : List ℕ) (at : ℕ) where
   abbrev Loaded_at : Loaded → Type 0
-  Loaded_at r =
-      (fill : ℕ) (rule : FlagRule) (flags : ℕ) (xmms : List ℕ) →
-      Loads (environment addresses tags fill rule) (held regs xmms flags values) (operand_at bs at) (behind bs at) r
+  Loaded_at r = Loads env s (operand_at bs at) (behind bs at) r
 
   abbrev Resolved_at : Slot → Type 0
-  Resolved_at t =
-      (fill : ℕ) (rule : FlagRule) (flags : ℕ) (xmms : List ℕ) →
-      Resolves (environment addresses tags fill rule) (held regs xmms flags values) (operand_at bs at) (behind bs at) t
+  Resolved_at t = Resolves env s (operand_at bs at) (behind bs at) t
 
 -- ---- a comparison
 module _ (bs : List ℕ) (at : ℕ) (o : OcmpAt bs at) where
@@ -179,24 +173,23 @@ module _ (bs : List ℕ) (at : ℕ) (o : OcmpAt bs at) where
   second_operand next is = rw is (ocmp_frame bs at o.0 o.1 o.2).operands.second
 
   -- its answer, from what was loaded of its operands
-  module _ (addresses tags regs xmms values : List ℕ) (fill : ℕ) (rule : FlagRule) (flags e : ℕ) (stands : Stands is_ocmp bs at e) (a : Loaded)
-      (one : Loaded_at addresses tags regs values bs (at + 1) a) where
+  module _ (env : Env) (s : Config) (e : ℕ) (stands : Stands is_ocmp bs at e) (a : Loaded) (one : Loaded_at env s bs (at + 1) a) where
     abbrev Says : ℕ → ℕ → Type 0
-    Says n next = Compares (environment addresses tags fill rule) (held regs xmms flags values) (ocmp_at bs at) e (record { how = n; next = next })
+    Says n next = Compares env s (ocmp_at bs at) e (record { how = n; next = next })
 
     inside : e ≤ length bs
     inside = stands_inside bs at o.0 o.1 o.2 e stands
 
     pub says_unread : (a.number ≡ 0 → ⊥) → Says a.number a.next
-    says_unread h = first_unread _ _ bs at e stands inside a (one fill rule flags xmms) h
+    says_unread h = first_unread env s bs at e stands inside a one h
 
-    module _ (x : a.number ≡ 0) (b : Loaded) (two : Loaded_at addresses tags regs values bs a.next b) where
+    module _ (x : a.number ≡ 0) (b : Loaded) (two : Loaded_at env s bs a.next b) where
       pub says_unread_second : (b.number ≡ 0 → ⊥) → Says b.number b.next
-      says_unread_second h = second_unread _ _ bs at e stands inside a b (one fill rule flags xmms) (two fill rule flags xmms) x h
+      says_unread_second h = second_unread env s bs at e stands inside a b one two x h
 
       module _ (y : b.number ≡ 0) (h : Bool) (is : h ≡ comparison (byte_at bs at) a.word b.word) where
         says : Says (cond h 1 0) b.next
-        says = compared _ _ bs at e stands inside a b (one fill rule flags xmms) (two fill rule flags xmms) x y h (sym is)
+        says = compared env s bs at e stands inside a b one two x y h (sym is)
 
         pub says_holds : h ≡ true → Says 1 b.next
         says_holds k = rw k at says
@@ -204,196 +197,183 @@ module _ (bs : List ℕ) (at : ℕ) (o : OcmpAt bs at) where
         pub says_fails : h ≡ false → Says 0 b.next
         says_fails k = rw k at says
 
--- a destination, and a source behind it, of an instruction of two operands
-pub record Operands2 (addresses tags regs values bs : List ℕ) (at : ℕ) (t : Slot) (r : Loaded) : Type 0 where
-  pub dst : Resolved_at addresses tags regs values bs (at + 1) t
-  pub src : Loaded_at addresses tags regs values bs t.next r
-  pub kind : is_two (byte_at bs at) ≡ true
-
--- a destination, and two sources behind it
-pub record Operands3 (addresses tags regs values bs : List ℕ) (at : ℕ) (t : Slot) (q r : Loaded) : Type 0 where
-  pub dst : Resolved_at addresses tags regs values bs (at + 1) t
-  pub one : Loaded_at addresses tags regs values bs t.next q
-  pub two : Loaded_at addresses tags regs values bs q.next r
-
--- the low destination, behind the high one, and a source behind it
-pub record OperandsX (addresses tags regs values bs : List ℕ) (at : ℕ) (t : Slot) (r : Loaded) : Type 0 where
-  pub second : ℕ
-  pub is_second : second ≡ behind bs (at + 1)
-  pub low : Resolved_at addresses tags regs values bs second t
-  pub src : Loaded_at addresses tags regs values bs t.next r
-
--- with both halves of the product, and the high destination in the registers as the low half will leave them
-pub record Halves (addresses tags regs values bs : List ℕ) (at : ℕ) (t : Slot) (r : Loaded) (lo hi : ℕ) (u : Slot) : Type 0 where
-  pub operands : OperandsX addresses tags regs values bs at t r
-  pub found : r.number ≡ 0
-  pub valid : t.how ≤ 1
-  pub is_lo : lo ≡ mul_mod 64 (get_or regs 3 0) r.word
-  pub is_hi : hi ≡ mul_div 64 (get_or regs 3 0) r.word
-  pub after : List ℕ
-  pub is_after : after ≡ put_regs t lo regs
-  pub high : Resolved_at addresses tags after values bs (at + 1) u
-
 -- ---- instructions, from what was loaded and resolved of their operands
-module _ (addresses tags regs xmms values bs : List ℕ) (fill : ℕ) (rule : FlagRule) (flags at : ℕ) where
-  abbrev env : Env
-  env = environment addresses tags fill rule
+-- the operands that stand behind a kind byte
+module _ (bs : List ℕ) (at : ℕ) where
+  abbrev first : Operand
+  first = operand_at bs (at + 1)
 
-  abbrev s : Config
-  s = held regs xmms flags values
+  abbrev second : Operand
+  second = operand_at bs (behind bs (at + 1))
 
-  module _ (r : Loaded) (src : Loaded_at addresses tags regs values bs (at + 1) r) where
+  abbrev third : Operand
+  third = operand_at bs (behind bs (behind bs (at + 1)))
+
+module _ (env : Env) (s : Config) (bs : List ℕ) (at : ℕ) where
+  -- a destination, and a source behind it, of an instruction of two operands
+  pub record Operands2 (t : Slot) (r : Loaded) : Type 0 where
+    pub dst : Resolved_at env s bs (at + 1) t
+    pub src : Loaded_at env s bs t.next r
+    pub kind : is_two (byte_at bs at) ≡ true
+
+  -- a destination, and two sources behind it
+  pub record Operands3 (t : Slot) (q r : Loaded) : Type 0 where
+    pub dst : Resolved_at env s bs (at + 1) t
+    pub one : Loaded_at env s bs t.next q
+    pub two : Loaded_at env s bs q.next r
+
+  -- the low destination, behind the high one, and a source behind it
+  pub record OperandsX (t : Slot) (r : Loaded) : Type 0 where
+    pub second : ℕ
+    pub is_second : second ≡ behind bs (at + 1)
+    pub low : Resolved_at env s bs second t
+    pub src : Loaded_at env s bs t.next r
+
+  -- with both halves of the product, and the high destination in the registers as the low half will leave them
+  pub record Halves (t : Slot) (r : Loaded) (lo hi : ℕ) (u : Slot) : Type 0 where
+    pub operands : OperandsX t r
+    pub found : r.number ≡ 0
+    pub valid : t.how ≤ 1
+    pub is_lo : lo ≡ mul_mod 64 (get_or s.regs 3 0) r.word
+    pub is_hi : hi ≡ mul_div 64 (get_or s.regs 3 0) r.word
+    pub after : List ℕ
+    pub is_after : after ≡ put_regs t lo s.regs
+    pub high : Resolved_at env (with_regs after s) bs (at + 1) u
+
+  module _ (r : Loaded) (src : Loaded_at env s bs (at + 1) r) where
     abbrev Mul : Exit → Config → Type 0
-    Mul x u = Ran (run_ins env at (Mul64 (operand_at bs (at + 1))) s) (behind bs (at + 1)) x u
+    Mul x u = Ran (run_ins env at (Mul64 (first bs at)) s) (behind bs (at + 1)) x u
 
     pub multiply_unread : (r.number ≡ 0 → ⊥) → Mul (exit r.number at) s
-    multiply_unread h = mul_unread addresses tags regs xmms values fill rule flags at _ _ r (src fill rule flags xmms) h
+    multiply_unread h = mul_unread env s at _ _ r src h
 
     pub multiply_done :
         r.number ≡ 0 →
-        (lo hi : ℕ) → lo ≡ mul_mod 64 (get_or regs 0 0) r.word → hi ≡ mul_div 64 (get_or regs 0 0) r.word →
-        Mul (exit 0 r.next) (held (set (set regs 0 lo) 3 hi) xmms fill values)
-    multiply_done h lo hi = mul_done addresses tags regs xmms values fill rule flags at _ _ r (src fill rule flags xmms) h lo hi
+        (lo hi : ℕ) → lo ≡ mul_mod 64 (get_or s.regs 0 0) r.word → hi ≡ mul_div 64 (get_or s.regs 0 0) r.word →
+        Mul (exit 0 r.next) (held (set (set s.regs 0 lo) 3 hi) s.xmms env.fill s.values)
+    multiply_done h lo hi = mul_done env s at _ _ r src h lo hi
 
-  module _ (t : Slot) (dst : Resolved_at addresses tags regs values bs (at + 3) t) where
+  module _ (t : Slot) (dst : Resolved_at env s bs (at + 3) t) where
     abbrev Extract : Exit → Config → Type 0
     Extract x u = Ran (run_ins env at (Pextrq (operand_at bs (at + 3)) (byte_at bs (at + 1)) (byte_at bs (at + 2))) s) (behind bs (at + 3)) x u
 
     pub extracts_nowhere : 1 < t.how → Extract (exit t.how at) s
-    extracts_nowhere h = extract_unwritten addresses tags regs xmms values fill rule flags at _ _ _ _ t (dst fill rule flags xmms) h
+    extracts_nowhere h = extract_unwritten env s at _ _ _ _ t dst h
 
     pub extracts :
         t.how ≤ 1 →
         (x : Quad32) (v : ℕ) (regs' values' : List ℕ) →
-        quad32 x ≡ xmm_at xmms (byte_at bs (at + 1)) → v ≡ extract_nat64 (quad32 x) (byte_at bs (at + 2) % 2) →
-        regs' ≡ put_regs t v regs → values' ≡ put_values t v values →
-        Extract (exit 0 t.next) (held regs' xmms flags values')
-    extracts h = extract_done addresses tags regs xmms values fill rule flags at _ _ _ _ t (dst fill rule flags xmms) h
+        quad32 x ≡ xmm_at s.xmms (byte_at bs (at + 1)) → v ≡ extract_nat64 (quad32 x) (byte_at bs (at + 2) % 2) →
+        regs' ≡ put_regs t v s.regs → values' ≡ put_values t v s.values →
+        Extract (exit 0 t.next) (held regs' s.xmms s.flags values')
+    extracts h = extract_done env s at _ _ _ _ t dst h
 
-  module _ (is : is_inserts (byte_at bs at) ≡ true) (r : Loaded) (src : Loaded_at addresses tags regs values bs (at + 3) r) where
+  module _ (is : is_inserts (byte_at bs at) ≡ true) (r : Loaded) (src : Loaded_at env s bs (at + 3) r) where
     abbrev Insert : Exit → Config → Type 0
     Insert x u =
         Ran (run_ins env at (inserts_ins (byte_at bs at) (byte_at bs (at + 1)) (operand_at bs (at + 3)) (byte_at bs (at + 2))) s)
         (behind bs (at + 3)) x u
 
     pub inserts_nothing : (r.number ≡ 0 → ⊥) → Insert (exit r.number at) s
-    inserts_nothing h = inserts_unread addresses tags regs xmms values fill rule flags at _ is _ _ _ _ r (src fill rule flags xmms) h
+    inserts_nothing h = inserts_unread env s at _ is _ _ _ _ r src h
 
     pub inserts :
         r.number ≡ 0 →
         (x q : Quad32) (xmms' : List ℕ) →
-        quad32 x ≡ xmm_at xmms (byte_at bs (at + 1)) →
+        quad32 x ≡ xmm_at s.xmms (byte_at bs (at + 1)) →
         quad32 q ≡ inserts_word (byte_at bs at) (quad32 x) r.word (byte_at bs (at + 2)) →
-        xmms' ≡ set_xmm xmms (byte_at bs (at + 1)) (quad32 q) →
-        Insert (exit 0 r.next) (held regs xmms' flags values)
-    inserts h = inserts_done addresses tags regs xmms values fill rule flags at _ is _ _ _ _ r (src fill rule flags xmms) h
+        xmms' ≡ set_xmm s.xmms (byte_at bs (at + 1)) (quad32 q) →
+        Insert (exit 0 r.next) (held s.regs xmms' s.flags s.values)
+    inserts h = inserts_done env s at _ is _ _ _ _ r src h
 
   -- a destination and a source
-  module _ (t : Slot) (r : Loaded) (w : Operands2 addresses tags regs values bs at t r) where
+  module _ (t : Slot) (r : Loaded) (w : Operands2 t r) where
     abbrev Two : Exit → Config → Type 0
-    Two x u =
-        Ran (run_ins env at (two_ins (byte_at bs at) (operand_at bs (at + 1)) (operand_at bs (behind bs (at + 1)))) s)
-        (behind bs (behind bs (at + 1))) x u
+    Two x u = Ran (run_ins env at (two_ins (byte_at bs at) (first bs at) (second bs at)) s) (behind bs (behind bs (at + 1))) x u
 
-    two_dst : Resolves env s (operand_at bs (at + 1)) (behind bs (at + 1)) t
-    two_dst = w.dst fill rule flags xmms
-
-    two_src : Loads env s (operand_at bs (behind bs (at + 1))) (behind bs (behind bs (at + 1))) r
-    two_src = load_at env s bs _ _ two_dst.next r (w.src fill rule flags xmms)
+    two_src : Loads env s (second bs at) (behind bs (behind bs (at + 1))) r
+    two_src = load_at env s bs _ _ w.dst.next r w.src
 
     pub reads_nothing : (r.number ≡ 0 → ⊥) → Two (exit r.number at) s
-    reads_nothing = two_unread addresses tags regs xmms values fill rule flags at _ w.kind _ _ _ _ t r two_dst two_src
+    reads_nothing = two_unread env s at _ w.kind _ _ _ _ t r w.dst two_src
 
     module _ (found : r.number ≡ 0) (far : Bool) (is_far : far ≡ (checks_amount (byte_at bs at) && leb 64 r.word)) where
       pub shifts_too_far : far ≡ true → Two (exit 33 at) s
-      shifts_too_far h =
-          two_amount addresses tags regs xmms values fill rule flags at _ w.kind _ _ _ _ t r two_dst two_src found (sym is_far ∙ h)
+      shifts_too_far h = two_amount env s at _ w.kind _ _ _ _ t r w.dst two_src found (sym is_far ∙ h)
 
       module _ (near : far ≡ false) where
         pub writes_nowhere : 1 < t.how → Two (exit t.how at) s
-        writes_nowhere =
-            two_unwritten addresses tags regs xmms values fill rule flags at _ w.kind _ _ _ _ t r two_dst two_src found (sym is_far ∙ near)
+        writes_nowhere = two_unwritten env s at _ w.kind _ _ _ _ t r w.dst two_src found (sym is_far ∙ near)
 
         pub writes :
             t.how ≤ 1 →
             (regs' values' : List ℕ) (v f : ℕ) →
-            regs' ≡ put_regs t v regs → values' ≡ put_values t v values →
-            v ≡ two_word (byte_at bs at) flags t.word r.word → f ≡ two_flags (byte_at bs at) rule fill flags t.word r.word →
-            Two (exit 0 r.next) (held regs' xmms f values')
-        writes = two_done addresses tags regs xmms values fill rule flags at _ w.kind _ _ _ _ t r two_dst two_src found (sym is_far ∙ near)
+            regs' ≡ put_regs t v s.regs → values' ≡ put_values t v s.values →
+            v ≡ two_word (byte_at bs at) s.flags t.word r.word → f ≡ two_flags (byte_at bs at) env.rule env.fill s.flags t.word r.word →
+            Two (exit 0 r.next) (held regs' s.xmms f values')
+        writes = two_done env s at _ w.kind _ _ _ _ t r w.dst two_src found (sym is_far ∙ near)
 
   -- a destination and two sources
-  module _ (t : Slot) (q r : Loaded) (w : Operands3 addresses tags regs values bs at t q r) where
+  module _ (t : Slot) (q r : Loaded) (w : Operands3 t q r) where
     abbrev Lea : Exit → Config → Type 0
-    Lea x u =
-        Ran (run_ins env at
-        (AddLea64 (operand_at bs (at + 1)) (operand_at bs (behind bs (at + 1))) (operand_at bs (behind bs (behind bs (at + 1))))) s)
-        (behind bs (behind bs (behind bs (at + 1)))) x u
+    Lea x u = Ran (run_ins env at (AddLea64 (first bs at) (second bs at) (third bs at)) s) (behind bs (behind bs (behind bs (at + 1)))) x u
 
-    lea_dst : Resolves env s (operand_at bs (at + 1)) (behind bs (at + 1)) t
-    lea_dst = w.dst fill rule flags xmms
+    lea_one : Loads env s (second bs at) (behind bs (behind bs (at + 1))) q
+    lea_one = load_at env s bs _ _ w.dst.next q w.one
 
-    lea_one : Loads env s (operand_at bs (behind bs (at + 1))) (behind bs (behind bs (at + 1))) q
-    lea_one = load_at env s bs _ _ lea_dst.next q (w.one fill rule flags xmms)
-
-    lea_two : Loads env s (operand_at bs (behind bs (behind bs (at + 1)))) (behind bs (behind bs (behind bs (at + 1)))) r
-    lea_two = load_at env s bs _ _ lea_one.next r (w.two fill rule flags xmms)
+    lea_two : Loads env s (third bs at) (behind bs (behind bs (behind bs (at + 1)))) r
+    lea_two = load_at env s bs _ _ lea_one.next r w.two
 
     pub sum_unread : (q.number ≡ 0 → ⊥) → Lea (exit q.number at) s
-    sum_unread = lea_unread addresses tags regs xmms values fill rule flags at _ _ _ _ _ _ t q r lea_dst lea_one lea_two
+    sum_unread = lea_unread env s at _ _ _ _ _ _ t q r w.dst lea_one lea_two
 
     module _ (there : q.number ≡ 0) where
       pub sum_unread_second : (r.number ≡ 0 → ⊥) → Lea (exit r.number at) s
-      sum_unread_second = lea_unread_second addresses tags regs xmms values fill rule flags at _ _ _ _ _ _ t q r lea_dst lea_one lea_two there
+      sum_unread_second = lea_unread_second env s at _ _ _ _ _ _ t q r w.dst lea_one lea_two there
 
       module _ (found : r.number ≡ 0) where
         pub sum_unwritten : 1 < t.how → Lea (exit t.how at) s
-        sum_unwritten = lea_unwritten addresses tags regs xmms values fill rule flags at _ _ _ _ _ _ t q r lea_dst lea_one lea_two there found
+        sum_unwritten = lea_unwritten env s at _ _ _ _ _ _ t q r w.dst lea_one lea_two there found
 
         pub sum_done :
             t.how ≤ 1 →
             (regs' values' : List ℕ) (v : ℕ) →
-            regs' ≡ put_regs t v regs → values' ≡ put_values t v values → v ≡ sum_mod 64 (q.word + r.word) →
-            Lea (exit 0 r.next) (held regs' xmms flags values')
-        sum_done h regs' values' v a b c =
-            lea_done addresses tags regs xmms values fill rule flags at _ _ _ _ _ _ t q r lea_dst lea_one lea_two there found
-            h regs' values' v a b c
+            regs' ≡ put_regs t v s.regs → values' ≡ put_values t v s.values → v ≡ sum_mod 64 (q.word + r.word) →
+            Lea (exit 0 r.next) (held regs' s.xmms s.flags values')
+        sum_done h regs' values' v a b c = lea_done env s at _ _ _ _ _ _ t q r w.dst lea_one lea_two there found h regs' values' v a b c
 
   -- two destinations and a source
-  module _ (t : Slot) (r : Loaded) (w : OperandsX addresses tags regs values bs at t r) where
+  module _ (t : Slot) (r : Loaded) (w : OperandsX t r) where
     abbrev Mulx : Exit → Config → Type 0
-    Mulx x u =
-        Ran (run_ins env at
-        (Mulx64 (operand_at bs (at + 1)) (operand_at bs (behind bs (at + 1))) (operand_at bs (behind bs (behind bs (at + 1))))) s)
-        (behind bs (behind bs (behind bs (at + 1)))) x u
+    Mulx x u = Ran (run_ins env at (Mulx64 (first bs at) (second bs at) (third bs at)) s) (behind bs (behind bs (behind bs (at + 1)))) x u
 
-    mulx_low : Resolves env s (operand_at bs (behind bs (at + 1))) (behind bs (behind bs (at + 1))) t
-    mulx_low = slot_at env s bs _ _ w.is_second t (w.low fill rule flags xmms)
+    mulx_low : Resolves env s (second bs at) (behind bs (behind bs (at + 1))) t
+    mulx_low = slot_at env s bs _ _ w.is_second t w.low
 
-    mulx_src : Loads env s (operand_at bs (behind bs (behind bs (at + 1)))) (behind bs (behind bs (behind bs (at + 1)))) r
-    mulx_src = load_at env s bs _ _ mulx_low.next r (w.src fill rule flags xmms)
+    mulx_src : Loads env s (third bs at) (behind bs (behind bs (behind bs (at + 1)))) r
+    mulx_src = load_at env s bs _ _ mulx_low.next r w.src
 
     pub product_unread : (r.number ≡ 0 → ⊥) → Mulx (exit r.number at) s
-    product_unread = mulx_unread addresses tags regs xmms values fill rule flags at _ _ _ _ _ t r mulx_low mulx_src
+    product_unread = mulx_unread env s at _ _ _ _ _ t r mulx_low mulx_src
 
     pub product_unwritten : r.number ≡ 0 → 1 < t.how → Mulx (exit t.how at) s
-    product_unwritten = mulx_unwritten addresses tags regs xmms values fill rule flags at _ _ _ _ _ t r mulx_low mulx_src
+    product_unwritten = mulx_unwritten env s at _ _ _ _ _ t r mulx_low mulx_src
 
-  module _ (t : Slot) (r : Loaded) (lo hi : ℕ) (u : Slot) (w : Halves addresses tags regs values bs at t r lo hi u) where
+  module _ (t : Slot) (r : Loaded) (lo hi : ℕ) (u : Slot) (w : Halves t r lo hi u) where
     pub product_unresolved : 1 < u.how → Mulx t r w.operands (exit u.how at) s
     product_unresolved =
-        mulx_unresolved addresses tags regs xmms values fill rule flags at _ _ _ _ _ t r (mulx_low t r w.operands) (mulx_src t r w.operands)
-        w.found w.valid lo hi w.is_lo w.is_hi w.after _ w.is_after refl _ u (w.high fill rule flags xmms)
+        mulx_unresolved env s at _ _ _ _ _ t r (mulx_low t r w.operands) (mulx_src t r w.operands)
+        w.found w.valid lo hi w.is_lo w.is_hi w.after _ w.is_after refl _ u w.high
 
     pub product_done :
         u.how ≤ 1 →
         (regs' values' regs'' values'' : List ℕ) →
-        regs' ≡ put_regs t lo regs → values' ≡ put_values t lo values →
+        regs' ≡ put_regs t lo s.regs → values' ≡ put_values t lo s.values →
         regs'' ≡ put_regs u hi regs' → values'' ≡ put_values u hi values' →
-        Mulx t r w.operands (exit 0 r.next) (held regs'' xmms flags values'')
+        Mulx t r w.operands (exit 0 r.next) (held regs'' s.xmms s.flags values'')
     product_done h regs' values' regs'' values'' a b c d =
-        mulx_done addresses tags regs xmms values fill rule flags at _ _ _ _ _ t r (mulx_low t r w.operands) (mulx_src t r w.operands)
-        w.found w.valid lo hi w.is_lo w.is_hi w.after values' w.is_after b _ u (w.high fill rule flags xmms)
+        mulx_done env s at _ _ _ _ _ t r (mulx_low t r w.operands) (mulx_src t r w.operands)
+        w.found w.valid lo hi w.is_lo w.is_hi w.after values' w.is_after b _ u w.high
         h regs'' values'' (c ∙ ap (put_regs u hi) (a ∙ sym w.is_after)) d
 
 -- ---- an instruction: what its function is asked, and that this runs it
@@ -405,30 +385,25 @@ module _ (bs : List ℕ) (at : ℕ) (i : InsAt bs at) where
   byte n = byte_at bs (at + n)
 
   -- where it has operands alone
-  module _ (addresses tags values : List ℕ) (cells : Cells addresses tags values) where
-    pub two_asked :
-        (two : Bool) → two ≡ is_two (byte_at bs at) → two ≡ true →
-        OperandsFrom 2 bs (at + 1) × ((is_two (byte_at bs at) ≡ true) × Cells addresses tags values)
-    two_asked two is h =
-        let k = sym is ∙ h in ((two_stood bs at i.0 i.1 i.2 _ k refl).operands, (k, cells))
+  pub two_asked : (two : Bool) → two ≡ is_two (byte_at bs at) → two ≡ true → OperandsFrom 2 bs (at + 1) × (is_two (byte_at bs at) ≡ true)
+  two_asked two is h = let k = sym is ∙ h in ((two_stood bs at i.0 i.1 i.2 _ k refl).operands, k)
 
-    pub lea_asked : byte_at bs at ≡ 0x03 → OperandsFrom 3 bs (at + 1) × Cells addresses tags values
-    lea_asked q = ((lea_stood bs at i.0 i.1 i.2 q).operands, cells)
+  pub lea_asked : byte_at bs at ≡ 0x03 → OperandsFrom 3 bs (at + 1)
+  lea_asked q = (lea_stood bs at i.0 i.1 i.2 q).operands
 
-    pub mul_asked : byte_at bs at ≡ 0x08 → OperandsFrom 1 bs (at + 1) × Cells addresses tags values
-    mul_asked q = ((mul_stood bs at i.0 i.1 i.2 q).operands, cells)
+  pub mul_asked : byte_at bs at ≡ 0x08 → OperandsFrom 1 bs (at + 1)
+  mul_asked q = (mul_stood bs at i.0 i.1 i.2 q).operands
 
-    pub mulx_asked : byte_at bs at ≡ 0x09 → OperandsFrom 3 bs (at + 1) × Cells addresses tags values
-    mulx_asked q = ((mulx_stood bs at i.0 i.1 i.2 q).operands, cells)
+  pub mulx_asked : byte_at bs at ≡ 0x09 → OperandsFrom 3 bs (at + 1)
+  mulx_asked q = (mulx_stood bs at i.0 i.1 i.2 q).operands
 
-    -- what is past 0e and has not a destination and a source is a lane's
-    pub lane_asked :
-        (two : Bool) → two ≡ is_two (byte_at bs at) → two ≡ false → 0x0e < byte_at bs at →
-        InsAt bs at × (((0x0f ≤ byte_at bs at) × (byte_at bs at < 0x19)) × Cells addresses tags values)
-    lane_asked two is h l =
-        let no : (n : ℕ) → n < 0x0f → byte_at bs at ≡ n → ⊥ = λ n m e. omega (arith, l, m, e) in
-        let k = lane_kinds _ i.1.head.kind (sym is ∙ h) (no 0x03 (omega arith)) (no 0x08 (omega arith)) (no 0x09 (omega arith)) in
-        (i, (k, cells))
+  -- what is past 0e and has not a destination and a source is a lane's
+  pub lane_asked :
+      (two : Bool) → two ≡ is_two (byte_at bs at) → two ≡ false → 0x0e < byte_at bs at →
+      (0x0f ≤ byte_at bs at) × (byte_at bs at < 0x19)
+  lane_asked two is h l =
+      let no : (n : ℕ) → n < 0x0f → byte_at bs at ≡ n → ⊥ = λ n m e. omega (arith, l, m, e) in
+      lane_kinds _ i.1.head.kind (sym is ∙ h) (no 0x03 (omega arith)) (no 0x08 (omega arith)) (no 0x09 (omega arith))
 
   -- there is none but those
   pub no_other :
@@ -453,113 +428,52 @@ module _ (bs : List ℕ) (at : ℕ) (i : InsAt bs at) where
   pub word_shift_asked : byte_at bs at ≡ 0x18 → (at + 4 ≤ length bs) × ((byte 1 < 16) × (byte 2 < 16))
   word_shift_asked q = let w = word_shift_stood bs at i.0 i.1 i.2 q in (w.stood.operands, (w.xmm, w.other))
 
-  module _ (addresses tags values : List ℕ) (cells : Cells addresses tags values) where
-    pub extract_asked : byte_at bs at ≡ 0x15 → OperandsFrom 1 bs (at + 3) × ((byte 1 < 16) × Cells addresses tags values)
-    extract_asked q = let w = extract_stood bs at i.0 i.1 i.2 q in (w.stood.operands, (w.xmm, cells))
+  pub extract_asked : byte_at bs at ≡ 0x15 → OperandsFrom 1 bs (at + 3) × (byte 1 < 16)
+  extract_asked q = let w = extract_stood bs at i.0 i.1 i.2 q in (w.stood.operands, w.xmm)
 
-    pub inserts_asked :
-        is_inserts (byte_at bs at) ≡ true →
-        OperandsFrom 1 bs (at + 3) × ((byte 1 < 16) × (Cells addresses tags values × (is_inserts (byte_at bs at) ≡ true)))
-    inserts_asked h =
-        let w = inserts_stood bs at i.0 i.1 i.2 _ h refl in
-        (w.stood.operands, (w.xmm, (cells, h)))
+  pub inserts_asked : is_inserts (byte_at bs at) ≡ true → OperandsFrom 1 bs (at + 3) × ((byte 1 < 16) × (is_inserts (byte_at bs at) ≡ true))
+  inserts_asked h =
+      let w = inserts_stood bs at i.0 i.1 i.2 _ h refl in
+      (w.stood.operands, (w.xmm, h))
 
-  -- of those that look at xmms alone: a run of j that ends at b and leaves xmms' is that of what stands there
-  module _ (env : Env) (regs xmms values xmms' : List ℕ) (flags : ℕ) (r : Exit) where
-    abbrev Lanes : Instruction → ℕ → Type 0
-    Lanes j b =
-        ((env : Env) (regs values : List ℕ) (flags : ℕ) →
-        Ran (run_ins env at j (held regs xmms flags values)) b r (held regs xmms' flags values)) →
-        RunsIns env bs at (held regs xmms flags values) r (held regs xmms' flags values)
-
-    lanes : (j : Instruction) (b : ℕ) → Stood bs at j 0 b → Lanes j b
-    lanes j b w ran = ran_stood bs at j 0 b w env _ _ r (ran env regs values flags)
-
-    pub shifts_ran : is_shifts (byte_at bs at) ≡ true → Lanes (shifts_ins (byte_at bs at) (byte 1) (byte 2)) (at + 3)
-    shifts_ran h = lanes _ _ (shifts_stood bs at i.0 i.1 i.2 _ h refl).stood
-
-    pub shuffle_ran : byte_at bs at ≡ 0x13 → Lanes (Pshufd (byte 1) (byte 2) (byte 3)) (at + 4)
-    shuffle_ran q = lanes _ _ (shuffle_stood bs at i.0 i.1 i.2 q).stood
-
-    pub word_shift_ran : byte_at bs at ≡ 0x18 → Lanes (VPSLLDQ (byte 1) (byte 2) (byte 3)) (at + 4)
-    word_shift_ran q = lanes _ _ (word_shift_stood bs at i.0 i.1 i.2 q).stood
-
-  -- of the others
-  module _ (addresses tags regs xmms values : List ℕ) (fill : ℕ) (rule : FlagRule) (flags : ℕ) (r : Exit) where
-    abbrev first : Operand
-    first = operand_at bs (at + 1)
-
-    abbrev second : Operand
-    second = operand_at bs (behind bs (at + 1))
-
-    abbrev third : Operand
-    third = operand_at bs (behind bs (behind bs (at + 1)))
-
-    -- a run of j that ends at b, whatever the xmms are, is that of what stands there
-    abbrev WithXmms : FlagRule → Instruction → ℕ → List ℕ → ℕ → List ℕ → Type 0
-    WithXmms rule j b regs' flags' values' =
-        (xmms : List ℕ) →
-        Ran (run_ins (environment addresses tags fill rule) at j (held regs xmms flags values)) b r (held regs' xmms flags' values')
+  -- a run of j that ends at b is that of what stands there
+  module _ (env : Env) (s t : Config) (r : Exit) where
+    abbrev StandsFor : Instruction → ℕ → Type 0
+    StandsFor j b = Ran (run_ins env at j s) b r t → RunsIns env bs at s r t
 
     pub two_ran :
-        (regs' values' : List ℕ) (flags' : ℕ) (two : Bool) → two ≡ is_two (byte_at bs at) → two ≡ true →
-        WithXmms rule (two_ins (byte_at bs at) first second) (behind bs (behind bs (at + 1))) regs' flags' values' →
-        RunsIns (environment addresses tags fill rule) bs at (held regs xmms flags values) r (held regs' xmms flags' values')
-    two_ran regs' values' flags' two is h ran =
-        ran_stood bs at _ 2 _ (two_stood bs at i.0 i.1 i.2 _ (sym is ∙ h) refl) _ _ _ r (ran xmms)
+        (two : Bool) → two ≡ is_two (byte_at bs at) → two ≡ true →
+        StandsFor (two_ins (byte_at bs at) (first bs at) (second bs at)) (behind bs (behind bs (at + 1)))
+    two_ran two is h = ran_stood bs at _ 2 _ (two_stood bs at i.0 i.1 i.2 _ (sym is ∙ h) refl) env s t r
 
-    pub mul_ran :
-        (regs' : List ℕ) (flags' : ℕ) → byte_at bs at ≡ 0x08 →
-        ((rule : FlagRule) → WithXmms rule (Mul64 first) (behind bs (at + 1)) regs' flags' values) →
-        RunsIns (environment addresses tags fill rule) bs at (held regs xmms flags values) r (held regs' xmms flags' values)
-    mul_ran regs' flags' q ran =
-        ran_stood bs at _ 1 _ (mul_stood bs at i.0 i.1 i.2 q) _ _ _ r (ran rule xmms)
+    pub mul_ran : byte_at bs at ≡ 0x08 → StandsFor (Mul64 (first bs at)) (behind bs (at + 1))
+    mul_ran q = ran_stood bs at _ 1 _ (mul_stood bs at i.0 i.1 i.2 q) env s t r
 
-    -- a run of j, behind three operands, whatever the fill word, the flags and the xmms are
-    abbrev WithFlags : Instruction → List ℕ → List ℕ → Type 0
-    WithFlags j regs' values' =
-        (fill : ℕ) (rule : FlagRule) (flags : ℕ) (xmms : List ℕ) →
-        Ran (run_ins (environment addresses tags fill rule) at j (held regs xmms flags values))
-        (behind bs (behind bs (behind bs (at + 1)))) r (held regs' xmms flags values')
+    pub lea_ran : byte_at bs at ≡ 0x03 → StandsFor (AddLea64 (first bs at) (second bs at) (third bs at)) (behind bs (behind bs (behind bs (at + 1))))
+    lea_ran q = ran_stood bs at _ 3 _ (lea_stood bs at i.0 i.1 i.2 q) env s t r
 
-    pub lea_ran :
-        (regs' values' : List ℕ) → byte_at bs at ≡ 0x03 → WithFlags (AddLea64 first second third) regs' values' →
-        RunsIns (environment addresses tags fill rule) bs at (held regs xmms flags values) r (held regs' xmms flags values')
-    lea_ran regs' values' q ran =
-        ran_stood bs at _ 3 _ (lea_stood bs at i.0 i.1 i.2 q) _ _ _ r (ran fill rule flags xmms)
+    pub mulx_ran : byte_at bs at ≡ 0x09 → StandsFor (Mulx64 (first bs at) (second bs at) (third bs at)) (behind bs (behind bs (behind bs (at + 1))))
+    mulx_ran q = ran_stood bs at _ 3 _ (mulx_stood bs at i.0 i.1 i.2 q) env s t r
 
-    pub mulx_ran :
-        (regs' values' : List ℕ) → byte_at bs at ≡ 0x09 → WithFlags (Mulx64 first second third) regs' values' →
-        RunsIns (environment addresses tags fill rule) bs at (held regs xmms flags values) r (held regs' xmms flags values')
-    mulx_ran regs' values' q ran =
-        ran_stood bs at _ 3 _ (mulx_stood bs at i.0 i.1 i.2 q) _ _ _ r (ran fill rule flags xmms)
+    pub quads_ran : is_quads (byte_at bs at) ≡ true → StandsFor (quads_ins (byte_at bs at) (byte 1) (byte 2)) (at + 3)
+    quads_ran h = ran_stood bs at _ 0 _ (quads_stood bs at i.0 i.1 i.2 _ h refl).stood env s t r
 
-    pub quads_ran :
-        (xmms' : List ℕ) (flags' : ℕ) → is_quads (byte_at bs at) ≡ true →
-        ((rule : FlagRule) (addresses tags regs values : List ℕ) →
-        Ran (run_ins (environment addresses tags fill rule) at (quads_ins (byte_at bs at) (byte 1) (byte 2)) (held regs xmms flags values))
-        (at + 3) r (held regs xmms' flags' values)) →
-        RunsIns (environment addresses tags fill rule) bs at (held regs xmms flags values) r (held regs xmms' flags' values)
-    quads_ran xmms' flags' h ran =
-        ran_stood bs at _ 0 _ (quads_stood bs at i.0 i.1 i.2 _ h refl).stood _ _ _ r (ran rule addresses tags regs values)
+    pub shifts_ran : is_shifts (byte_at bs at) ≡ true → StandsFor (shifts_ins (byte_at bs at) (byte 1) (byte 2)) (at + 3)
+    shifts_ran h = ran_stood bs at _ 0 _ (shifts_stood bs at i.0 i.1 i.2 _ h refl).stood env s t r
 
-    pub extract_ran :
-        (regs' values' : List ℕ) → byte_at bs at ≡ 0x15 →
-        ((fill : ℕ) (rule : FlagRule) (flags : ℕ) →
-        Ran (run_ins (environment addresses tags fill rule) at (Pextrq (operand_at bs (at + 3)) (byte 1) (byte 2)) (held regs xmms flags values))
-        (behind bs (at + 3)) r (held regs' xmms flags values')) →
-        RunsIns (environment addresses tags fill rule) bs at (held regs xmms flags values) r (held regs' xmms flags values')
-    extract_ran regs' values' q ran =
-        ran_stood bs at _ 1 _ (extract_stood bs at i.0 i.1 i.2 q).stood _ _ _ r (ran fill rule flags)
+    pub shuffle_ran : byte_at bs at ≡ 0x13 → StandsFor (Pshufd (byte 1) (byte 2) (byte 3)) (at + 4)
+    shuffle_ran q = ran_stood bs at _ 0 _ (shuffle_stood bs at i.0 i.1 i.2 q).stood env s t r
+
+    pub word_shift_ran : byte_at bs at ≡ 0x18 → StandsFor (VPSLLDQ (byte 1) (byte 2) (byte 3)) (at + 4)
+    word_shift_ran q = ran_stood bs at _ 0 _ (word_shift_stood bs at i.0 i.1 i.2 q).stood env s t r
+
+    pub extract_ran : byte_at bs at ≡ 0x15 → StandsFor (Pextrq (operand_at bs (at + 3)) (byte 1) (byte 2)) (behind bs (at + 3))
+    extract_ran q = ran_stood bs at _ 1 _ (extract_stood bs at i.0 i.1 i.2 q).stood env s t r
 
     pub inserts_ran :
-        (xmms' : List ℕ) → is_inserts (byte_at bs at) ≡ true →
-        ((fill : ℕ) (rule : FlagRule) (flags : ℕ) →
-        Ran (run_ins (environment addresses tags fill rule) at (inserts_ins (byte_at bs at) (byte 1) (operand_at bs (at + 3)) (byte 2))
-        (held regs xmms flags values)) (behind bs (at + 3)) r (held regs xmms' flags values)) →
-        RunsIns (environment addresses tags fill rule) bs at (held regs xmms flags values) r (held regs xmms' flags values)
-    inserts_ran xmms' h ran =
-        ran_stood bs at _ 1 _ (inserts_stood bs at i.0 i.1 i.2 _ h refl).stood _ _ _ r (ran fill rule flags)
+        is_inserts (byte_at bs at) ≡ true →
+        StandsFor (inserts_ins (byte_at bs at) (byte 1) (operand_at bs (at + 3)) (byte 2)) (behind bs (at + 3))
+    inserts_ran h = ran_stood bs at _ 1 _ (inserts_stood bs at i.0 i.1 i.2 _ h refl).stood env s t r
 
 -- ---- a structure: the places of its lengths fit, inside the bytes, of which there are fewer than 2 ^ 63
 module _ (bs : List ℕ) (at : ℕ) (c : CodeAt bs at) (k : 0x20 ≤ byte_at bs at) where
@@ -761,7 +675,7 @@ pub record Turn (env : Env) (limit : Option ℕ) (bs : List ℕ) (at fuel m : �
   pub read : x.how ≤ 1
   pub holds : chooses ≡ false → x.how ≡ 0 → ⊥
   pub way_is : way ≡ way_from bs at chooses x
-  pub cells : Cells env.addresses env.tags s₀.values
+  pub long : length s₀.values ≡ length env.addresses
   pub measured : fuel + (length bs - (at + 1)) ≡ m
 
 module _ (env : Env) (limit : Option ℕ) (bs : List ℕ) (at fuel m : ℕ) (s₀ : Config) (k₀ : Counted) (test left : ℕ) (s : Config)
@@ -822,9 +736,8 @@ module _ (env : Env) (limit : Option ℕ) (bs : List ℕ) (at fuel m : ℕ) (s�
   pub taken_codes : (chooses : Bool) → Takes chooses → CodesAt bs p way.behind
   taken_codes chooses w = rw w.begins (part_there env limit bs at fuel m s₀ k₀ test left s k x j way chooses w.turn).1
 
-  pub taken_cells : (chooses : Bool) → Takes chooses → Cells env.addresses env.tags s.values
-  taken_cells chooses w =
-      let v = w.turn in record { searchable = v.cells.searchable; long = v.head.looping.long ∙ v.cells.long }
+  pub taken_long : (chooses : Bool) → Takes chooses → length s.values ≡ length env.addresses
+  taken_long chooses w = let v = w.turn in v.head.looping.long ∙ v.long
 
   pub taken_less : (chooses : Bool) → Takes chooses → given + (length bs - p) < m
   taken_less chooses w =

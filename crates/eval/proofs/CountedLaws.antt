@@ -1,15 +1,14 @@
--- What the words of what is counted say behind a step. What the bits of a word say of each kind is a test that antt computes, for the word that the
+-- What is counted behind a step. What the bits of a word say of each kind is a test that antt computes, for the word that the
 -- code has. Assumes nothing.
-use Prim.Native.Nat.{ℕ, ◌+◌, ◌-◌, ◌*◌, ◌/◌, ◌%◌, ◌^◌, ◌≤◌, ◌<◌}
+use Prim.Native.Nat.{ℕ, ◌+◌, ◌*◌, ◌/◌, ◌%◌, ◌^◌, ◌<◌}
 use mathlib.Core.Path.{◌≡◌, refl, sym, ap, ◌∙◌, subst}
 use mathlib.Core.Bool.{Bool, true, false, not, cond}
 use mathlib.Core.List.{List, [], ◌∷◌}
 use native.Mathlib.Omega.{arith}
-use borrow.Author.Tests.{eq-eqb, ne_eqb, lt-ltb, ltb-true}
+use borrow.Author.Tests.{eq-eqb, lt-ltb, ltb-true}
 use lib.Bits.{bit_and}
 use lib.Dec.{eqb, ltb}
-use lib.ListN.{length, get_or, set, length-set}
-use lib.Seq.{get_or-set_same, get_or-set_other}
+use lib.ListN.{get_or}
 use Rattle.code.specs.Records.{is_ocmp}
 use Rattle.code.proofs.KindLaws.{answers, same_within}
 use Rattle.code.proofs.Passing.{between_true}
@@ -17,10 +16,11 @@ use Rattle.eval.specs.FlagRule.{FlagRule, base_rule}
 use Rattle.eval.specs.Config.{done}
 use Rattle.eval.specs.Watch.{watch, touched, open_after, reads_open, first_mark, watched}
 use Rattle.eval.specs.Counted.{Counted, counted, count}
-use Rattle.eval.specs.Promises.{carry_in, overflow_in, mark_of, watch_of, tally, least_tested, tested_with, Kept, SetsFlags}
+use Rattle.eval.specs.Promises.{carry_in, overflow_in, watch_of, tally, Kept, SetsFlags}
 use Rattle.eval.specs.declared.answer.Watch.{Watch}
 use Rattle.eval.specs.declared.answer.Mark.{Mark}
 use Rattle.eval.specs.declared.answer.Mark.TheVariants.{Unmarked}
+use Rattle.eval.specs.declared.counted.Counter.{Counter}
 
 -- bit k of a word
 abbrev bit : ℕ → ℕ → Bool
@@ -44,7 +44,7 @@ module _ (rule : FlagRule) (word k at : ℕ) (w : Watch) where
       subst (λ (b : Bool). cond b w (watched rule k at w) ≡ w) z (same_within untouched (λ k. w) 32 0 h k (omega arith) (omega arith))
 
   -- and where it is set, behind the first six kinds
-  module _ (bits mark : ℕ) where
+  module _ (bits : ℕ) (mark : Mark) where
     abbrev as_watched : ℕ → Watch
     as_watched k = cond (bit word k) (watched rule k at (watch_of bits mark)) w
 
@@ -121,18 +121,6 @@ module _ (reads k was : ℕ) (l : k < 7) (m : was < 4) (mark : Mark) where
       answers (λ k. answers (read_bits k) 0 4) 0 7 ≡ answers (λ k. answers (read_table k) 0 4) 0 7 → read_bits k was ≡ read_table k was
   reads_as h = same_below read_bits read_table 7 4 h k was l m
 
--- the mark, where there is none and where there is one
-pub marks : (at mark : ℕ) → mark ≡ 0 → mark_of (at + 1) ≡ first_mark true at (mark_of mark)
-unfolding first_mark
-marks at mark z =
-    let some_mark = ne_eqb (at + 1) 0 (λ e. omega (arith, e)) in
-    let place : at + 1 - 1 ≡ at = omega arith in
-    rw (z, some_mark, place)
-
-stays_marked : (at mark : ℕ) → (mark ≡ 0 → ⊥) → mark_of mark ≡ first_mark true at (mark_of mark)
-unfolding first_mark
-stays_marked at mark z = rw (ne_eqb mark 0 z)
-
 -- a comparison opens both
 opens_both : (rule : FlagRule) (k at : ℕ) (w : Watch) → is_ocmp k ≡ true → watched rule k at w ≡ watch true true w.mark
 unfolding touched open_after reads_open first_mark watched
@@ -140,134 +128,66 @@ opens_both rule k at w h =
     let l = between_true 0x30 0x35 k h in
     same_within (λ k. watched rule k at w) (λ k. watch true true w.mark) 6 0x30 refl k l.0 (omega (arith, l.1))
 
--- ---- what the words say behind a step
--- other words were stored: no loop was tested
-pub untested : (words : List ℕ) (i v : ℕ) → i < 3 → least_tested (set words i v) ≡ least_tested words
-unfolding least_tested
-untested words i v l = get_or-set_other words i 3 v 0 (λ e. omega (arith, e, l))
+-- ---- what is counted behind a step
+-- what is kept open, of the word that says what was
+module _ (k : Counter) (rule : FlagRule) (kind at was bits : ℕ)
+    (open_was : (eqb (was % 2) 1 ≡ carry_in k.opened) × (eqb (was / 2 % 2) 1 ≡ overflow_in k.opened)) (kept : Kept rule kind was bits) where
+  abbrev w : Watch
+  w = (tally k).watch
 
-pub untested_twice : (words : List ℕ) (i j v w : ℕ) → i < 3 → j < 3 → least_tested (set (set words i v) j w) ≡ least_tested words
-untested_twice words i j v w l m = untested (set words i v) j w m ∙ untested words i v l
+  abbrev left : Counted
+  left = counted k.steps (watch_of bits k.mark)
 
--- the least fuel was stored: nothing else is counted
-pub tested_alone : (words : List ℕ) (v : ℕ) → tally (set words 3 v) ≡ tally words
-tested_alone words v =
-    let other : (i : ℕ) → i < 3 → get_or (set words 3 v) i 0 ≡ get_or words i 0 = λ i l. get_or-set_other words 3 i v 0 (λ e. omega (arith, e, l)) in
-    rw (other 0 (omega arith), other 1 (omega arith), other 2 (omega arith))
+  -- the watch, but for the mark
+  kept_so : left ≡ counted k.steps (watch (open_after (touched rule kind).carry w.carry) (open_after (touched rule kind).overflow w.overflow) w.mark)
+  kept_so = rw (lt-ltb bits 4 kept.below, kept.carry, kept.over, open_was.0, open_was.1)
 
--- the least fuel behind a test
-module _ (words : List ℕ) (chooses : Bool) (left : ℕ) where
-  pub not_tested : chooses ≡ true → least_tested words ≡ tested_with chooses left (least_tested words)
-  not_tested h = rw h
+  -- where all of it is kept, nothing changes
+  pub same_so : bits ≡ was → tally k ≡ counted k.steps (watched rule kind at w)
+  unfolding watched first_mark
+  same_so same =
+      let none : reads_open kind w ≡ false = sym (sym (kept.unread same w.mark) ∙ rw (open_was.0, open_was.1)) in
+      let carry : w.carry ≡ open_after (touched rule kind).carry w.carry =
+      sym open_was.0 ∙ ap (λ n. eqb (n % 2) 1) (sym same) ∙ kept.carry ∙ ap (open_after (touched rule kind).carry) open_was.0
+      in
+      let over : w.overflow ≡ open_after (touched rule kind).overflow w.overflow =
+      sym open_was.1 ∙ ap (λ n. eqb (n / 2 % 2) 1) (sym same) ∙ kept.over ∙ ap (open_after (touched rule kind).overflow) open_was.1
+      in
+      rw (none, sym carry, sym over)
 
-  module _ (h : chooses ≡ false) where
-    pub tested_less : 3 < length words → left < get_or words 3 0 → least_tested (set words 3 left) ≡ tested_with chooses left (least_tested words)
-    unfolding least_tested
-    tested_less long l = rw h (get_or-set_same words 3 left 0 long ∙ omega arith)
+  -- whether it reads an open one
+  module _ (r : Bool) (is : (m : Mark) → r ≡ reads_open kind (watch (eqb (was % 2) 1) (eqb (was / 2 % 2) 1) m)) where
+    reads_so : r ≡ reads_open kind w
+    reads_so = is w.mark ∙ rw (open_was.0, open_was.1)
 
-    pub tested_more : get_or words 3 0 ≤ left → least_tested words ≡ tested_with chooses left (least_tested words)
-    unfolding least_tested
-    tested_more l = rw h (omega arith)
-
-module _ (words : List ℕ) (long : 3 < length words) where
-  pub one_more : (step : ℕ) → tally (set words 0 step) ≡ counted step (tally words).watch
-  one_more step =
-      let bits = get_or-set_other words 0 1 step 0 (λ e. omega (arith, e)) in
-      let mark = get_or-set_other words 0 2 step 0 (λ e. omega (arith, e)) in
-      rw (get_or-set_same words 0 step 0 (omega arith), bits, mark)
-
-  -- what a mark changes
-  pub stays_so : (at : ℕ) → (get_or words 2 0 ≡ 0 → ⊥)
-      → let w = (tally words).watch in tally words ≡ counted (tally words).steps (watch w.carry w.overflow (first_mark true at w.mark))
-  stays_so at z =
-      let w = (tally words).watch in
-      ap (λ (m : Mark). counted (get_or words 0 0) (watch w.carry w.overflow m)) (stays_marked at (get_or words 2 0) z)
-
-  pub marks_so : (at : ℕ) → get_or words 2 0 ≡ 0 → let w = (tally words).watch in
-      tally (set words 2 (at + 1)) ≡ counted (tally words).steps (watch w.carry w.overflow (first_mark true at w.mark))
-  marks_so at z =
-      let steps = get_or-set_other words 2 0 (at + 1) 0 (λ e. omega (arith, e)) in
-      let bits = get_or-set_other words 2 1 (at + 1) 0 (λ e. omega (arith, e)) in
-      let mark = get_or-set_same words 2 (at + 1) 0 (omega arith) in
-      rw (steps, bits, mark, marks at (get_or words 2 0) z)
-
-  -- what is kept open, of the word that says what was
-  module _ (rule : FlagRule) (k at was bits : ℕ)
-      (open_was : (eqb (was % 2) 1 ≡ carry_in (get_or words 1 0)) × (eqb (was / 2 % 2) 1 ≡ overflow_in (get_or words 1 0)))
-      (kept : Kept rule k was bits) where
-    -- the watch, but for the mark
-    kept_so : let w = (tally words).watch in
-        tally (set words 1 bits)
-        ≡ counted (get_or words 0 0) (watch (open_after (touched rule k).carry w.carry) (open_after (touched rule k).overflow w.overflow) w.mark)
-    kept_so =
-        let steps = get_or-set_other words 1 0 bits 0 (λ e. omega (arith, e)) in
-        let opened = get_or-set_same words 1 bits 0 (omega arith) in
-        let mark = get_or-set_other words 1 2 bits 0 (λ e. omega (arith, e)) in
-        rw (steps, opened, mark, lt-ltb bits 4 kept.below, kept.carry, kept.over, open_was.0, open_was.1)
-
-    -- what it reads
-    reads_so : (r : Bool) → ((m : Mark) → r ≡ reads_open k (watch (eqb (was % 2) 1) (eqb (was / 2 % 2) 1) m)) → r ≡ reads_open k (tally words).watch
-    reads_so r is = is (tally words).watch.mark ∙ rw (open_was.0, open_was.1)
-
-    pub unread_so : (r : Bool) → ((m : Mark) → r ≡ reads_open k (watch (eqb (was % 2) 1) (eqb (was / 2 % 2) 1) m)) → r ≡ false
-        → tally (set words 1 bits) ≡ counted (tally words).steps (watched rule k at (tally words).watch)
+    pub unread_so : r ≡ false → left ≡ counted k.steps (watched rule kind at w)
     unfolding watched first_mark
-    unread_so r is z = rw (sym (reads_so r is) ∙ z) kept_so
+    unread_so z = rw (sym reads_so ∙ z) kept_so
 
-    -- where all of it is kept, nothing changes
-    pub same_so : bits ≡ was → tally words ≡ counted (tally words).steps (watched rule k at (tally words).watch)
-    unfolding watched first_mark
-    same_so same =
-        let none = sym (reads_so _ (λ m. sym (kept.unread same m))) in
-        let carry : carry_in (get_or words 1 0) ≡ open_after (touched rule k).carry (carry_in (get_or words 1 0)) =
-        sym open_was.0 ∙ ap (λ n. eqb (n % 2) 1) (sym same) ∙ kept.carry ∙ ap (open_after (touched rule k).carry) open_was.0
-        in
-        let over : overflow_in (get_or words 1 0) ≡ open_after (touched rule k).overflow (overflow_in (get_or words 1 0)) =
-        sym open_was.1 ∙ ap (λ n. eqb (n / 2 % 2) 1) (sym same) ∙ kept.over ∙ ap (open_after (touched rule k).overflow) open_was.1
-        in
-        rw (none, sym carry, sym over)
-
-    pub read_so : (r : Bool) → ((m : Mark) → r ≡ reads_open k (watch (eqb (was % 2) 1) (eqb (was / 2 % 2) 1) m)) → r ≡ true
-        → (l : Counted)
-        → (let b = tally (set words 1 bits) in let w = b.watch in l ≡ counted b.steps (watch w.carry w.overflow (first_mark true at w.mark)))
-        → l ≡ counted (tally words).steps (watched rule k at (tally words).watch)
+    pub read_so :
+        r ≡ true → (l : Counted) →
+        l ≡ counted k.steps (watch left.watch.carry left.watch.overflow (first_mark true at k.mark)) → l ≡ counted k.steps (watched rule kind at w)
     unfolding watched
-    read_so r is z l e =
+    read_so z l e =
         e ∙ ap (λ (b : Counted). counted b.steps (watch b.watch.carry b.watch.overflow (first_mark true at b.watch.mark))) kept_so
-        ∙ rw (sym (reads_so r is) ∙ z)
+        ∙ rw (sym reads_so ∙ z)
 
-  abbrev stepped : List ℕ
-  stepped = set words 0 (get_or words 0 0 + 1)
+module _ (k : Counter) (rule : FlagRule) (kind at : ℕ) where
+  abbrev done_so : Counted → Type 0
+  done_so l = l ≡ count done (watched rule kind at) (tally k)
 
-  pub still_long : 3 < length stepped
-  still_long = subst (λ n. 3 < n) (sym (length-set words 0 (get_or words 0 0 + 1))) long
+  -- an instruction that is watched, and one that need not be
+  pub counted_so : (l : Counted) → l ≡ counted (k.steps + 1) (watched rule kind at (tally k).watch) → done_so l
+  unfolding count
+  counted_so l e = e ∙ ap (λ n. counted n (watched rule kind at (tally k).watch)) (omega arith)
 
-  module _ (rule : FlagRule) (k at : ℕ) where
-    -- an instruction that is watched, and one that need not be
-    pub counted_so :
-        (l : Counted) → l ≡ counted (tally stepped).steps (watched rule k at (tally stepped).watch) → l ≡ count done (watched rule k at) (tally words)
-    unfolding count
-    counted_so l e =
-        e ∙ ap (λ (j : Counted). counted j.steps (watched rule k at j.watch)) (one_more (get_or words 0 0 + 1))
-        ∙ ap (λ n. counted n (watched rule k at (tally words).watch)) (omega arith)
+  pub unwatched_so : ((w : Watch) → watched rule kind at w ≡ w) → done_so (counted (k.steps + 1) (tally k).watch)
+  unwatched_so same = counted_so _ (ap (counted (k.steps + 1)) (sym (same (tally k).watch)))
 
-    pub unwatched_so : ((w : Watch) → watched rule k at w ≡ w) → tally stepped ≡ count done (watched rule k at) (tally words)
-    unwatched_so same = counted_so (tally stepped) (ap (counted (tally stepped).steps) (sym (same (tally stepped).watch)))
+  -- one that sets both
+  pub set_so : SetsFlags kind → done_so (counted (k.steps + 1) (watch_of kind k.mark))
+  set_so sets = counted_so _ (ap (counted (k.steps + 1)) (sym (sets rule at k.opened k.mark)))
 
-    -- one that sets both
-    pub set_so : SetsFlags k → tally (set stepped 1 k) ≡ count done (watched rule k at) (tally words)
-    set_so sets =
-        let steps = get_or-set_other stepped 1 0 k 0 (λ e. omega (arith, e)) in
-        let opened = get_or-set_same stepped 1 k 0 (omega (arith, still_long)) in
-        let marked = get_or-set_other stepped 1 2 k 0 (λ e. omega (arith, e)) in
-        counted_so (tally (set stepped 1 k))
-        (rw (steps, opened, marked) (ap (counted (get_or stepped 0 0)) (sym (sets rule at (get_or stepped 1 0) (get_or stepped 2 0)))))
-
-    -- a comparison
-    pub compared_so : is_ocmp k ≡ true → tally (set stepped 1 3) ≡ count done (watched rule k at) (tally words)
-    unfolding count watched
-    compared_so h =
-        let steps : get_or (set stepped 1 3) 0 0 ≡ get_or stepped 0 0 = get_or-set_other stepped 1 0 3 0 (λ e. omega (arith, e)) in
-        let opened : get_or (set stepped 1 3) 1 0 ≡ 3 = get_or-set_same stepped 1 3 0 (omega (arith, still_long)) in
-        let marked : get_or (set stepped 1 3) 2 0 ≡ get_or stepped 2 0 = get_or-set_other stepped 1 2 3 0 (λ e. omega (arith, e)) in
-        counted_so (tally (set stepped 1 3)) (rw (steps, opened, marked, opens_both rule k at (tally stepped).watch h))
+  -- a comparison
+  pub compared_so : is_ocmp kind ≡ true → done_so (counted (k.steps + 1) (watch_of 3 k.mark))
+  compared_so h = counted_so _ (ap (counted (k.steps + 1)) (sym (opens_both rule kind at (tally k).watch h)))

@@ -19,10 +19,9 @@ use Rattle.code.specs.Records.{operand_at, behind}
 use Rattle.code.specs.Families.{is_two, two_ins}
 use Rattle.code.proofs.Passing.{and_both}
 use Rattle.code.proofs.Families.{after, Stood, same_two}
-use Rattle.eval.specs.FlagRule.{FlagRule}
 use Rattle.eval.specs.Config.{Env, Config, with_regs, with_values, with_flags, End, ends, done, check}
 use Rattle.eval.specs.Instructions.{checks_amount, two_word, two_flags, valid_operand, eval_operand, valid_dst_operand, update_operand, act, run_ins}
-use Rattle.eval.specs.Promises.{environment, held, Loads, Resolves, put_regs, put_values, how, Ran, RunsIns}
+use Rattle.eval.specs.Promises.{held, Loads, Resolves, put_regs, put_values, how, Ran, RunsIns}
 use Rattle.eval.specs.declared.exit.Exit.{Exit}
 use Rattle.eval.specs.declared.operand.Loaded.{Loaded}
 use Rattle.eval.specs.declared.operand.Slot.{Slot}
@@ -111,13 +110,7 @@ module _ (env : Env) (p : ℕ) (dst src : Operand) (s : Config) where
       let w = and_both (checks_amount k) (leb 64 b) h in
       rw (w.0, ← q, le-ltb b 64 (leb-true 64 b w.1))
 
-module _ (addresses tags regs xmms values : List ℕ) (fill : ℕ) (rule : FlagRule) (flags p : ℕ) where
-  abbrev env : Env
-  env = environment addresses tags fill rule
-
-  abbrev s : Config
-  s = held regs xmms flags values
-
+module _ (env : Env) (s : Config) (p : ℕ) where
   module _ (k : ℕ) (is : is_two k ≡ true) (dst src : Operand) (m n : ℕ) (t : Slot) (r : Loaded)
       (resolves : Resolves env s dst m t) (loads : Loads env s src n r) where
     abbrev Two : Exit → Config → Type 0
@@ -148,11 +141,11 @@ module _ (addresses tags regs xmms values : List ℕ) (fill : ℕ) (rule : FlagR
         pub two_done :
             t.how ≤ 1 →
             (regs' values' : List ℕ) (v f : ℕ) →
-            regs' ≡ put_regs t v regs →
-            values' ≡ put_values t v values →
-            v ≡ two_word k flags t.word r.word →
-            f ≡ two_flags k rule fill flags t.word r.word →
-            Two (exit 0 r.next) (held regs' xmms f values')
+            regs' ≡ put_regs t v s.regs →
+            values' ≡ put_values t v s.values →
+            v ≡ two_word k s.flags t.word r.word →
+            f ≡ two_flags k env.rule env.fill s.flags t.word r.word →
+            Two (exit 0 r.next) (held regs' s.xmms f values')
         two_done h regs' values' v f a b c d =
             finished _ n r.next p _
             (rw (a, b, c, d, (resolves.writes h).word, loads.word found) (two_passes ∙ wrote env s p dst m t resolves h _ _))
@@ -166,7 +159,7 @@ module _ (addresses tags regs xmms values : List ℕ) (fill : ℕ) (rule : FlagR
 
     lea_shape :
         run_ins env p (AddLea64 dst one two) s
-        ≡ read_check env p one s (read_check env p two s (write env p dst (sum_mod 64 (eval_operand env one s + eval_operand env two s)) flags s))
+        ≡ read_check env p one s (read_check env p two s (write env p dst (sum_mod 64 (eval_operand env one s + eval_operand env two s)) s.flags s))
     unfolding run_ins act
     lea_shape = refl
 
@@ -181,7 +174,7 @@ module _ (addresses tags regs xmms values : List ℕ) (fill : ℕ) (rule : FlagR
       module _ (found : r.number ≡ 0) where
         lea_passes :
             run_ins env p (AddLea64 dst one two) s
-            ≡ write env p dst (sum_mod 64 (eval_operand env one s + eval_operand env two s)) flags s
+            ≡ write env p dst (sum_mod 64 (eval_operand env one s + eval_operand env two s)) s.flags s
         lea_passes = lea_shape ∙ read_passes env s p one m q first _ there ∙ read_passes env s p two n r second _ found
 
         pub lea_unwritten : 1 < t.how → Lea (exit t.how p) s
@@ -190,10 +183,10 @@ module _ (addresses tags regs xmms values : List ℕ) (fill : ℕ) (rule : FlagR
         pub lea_done :
             t.how ≤ 1 →
             (regs' values' : List ℕ) (v : ℕ) →
-            regs' ≡ put_regs t v regs →
-            values' ≡ put_values t v values →
+            regs' ≡ put_regs t v s.regs →
+            values' ≡ put_values t v s.values →
             v ≡ sum_mod 64 (q.word + r.word) →
-            Lea (exit 0 r.next) (held regs' xmms flags values')
+            Lea (exit 0 r.next) (held regs' s.xmms s.flags values')
         lea_done h regs' values' v a b c =
             finished _ n r.next p _
             (rw (a, b, c, first.word there, second.word found) (lea_passes ∙ wrote env s p dst l t resolves h _ _))
@@ -207,9 +200,9 @@ module _ (addresses tags regs xmms values : List ℕ) (fill : ℕ) (rule : FlagR
     mul_shape :
         run_ins env p (Mul64 src) s
         ≡ read_check env p src s
-        (let a = get_or regs 0 0 in
+        (let a = get_or s.regs 0 0 in
         let b = eval_operand env src s in
-        ends done (held (set (set regs 0 (mul_mod 64 a b)) 3 (mul_div 64 a b)) xmms fill values))
+        ends done (held (set (set s.regs 0 (mul_mod 64 a b)) 3 (mul_div 64 a b)) s.xmms env.fill s.values))
     unfolding run_ins act
     mul_shape = refl
 
@@ -218,8 +211,8 @@ module _ (addresses tags regs xmms values : List ℕ) (fill : ℕ) (rule : FlagR
 
     pub mul_done :
         r.number ≡ 0 →
-        (lo hi : ℕ) → lo ≡ mul_mod 64 (get_or regs 0 0) r.word → hi ≡ mul_div 64 (get_or regs 0 0) r.word →
-        Mul (exit 0 r.next) (held (set (set regs 0 lo) 3 hi) xmms fill values)
+        (lo hi : ℕ) → lo ≡ mul_mod 64 (get_or s.regs 0 0) r.word → hi ≡ mul_div 64 (get_or s.regs 0 0) r.word →
+        Mul (exit 0 r.next) (held (set (set s.regs 0 lo) 3 hi) s.xmms env.fill s.values)
     mul_done h lo hi a b =
         finished _ n r.next p _ (rw (a, b, loads.word h) (mul_shape ∙ read_passes env s p src n r loads _ h)) loads.next
 
@@ -231,14 +224,14 @@ module _ (addresses tags regs xmms values : List ℕ) (fill : ℕ) (rule : FlagR
 
     -- the configuration after the low half is written
     low : Config
-    low = update_operand env dst_lo (mul_mod 64 (get_or regs 3 0) (eval_operand env src s)) s
+    low = update_operand env dst_lo (mul_mod 64 (get_or s.regs 3 0) (eval_operand env src s)) s
 
     mulx_shape :
         run_ins env p (Mulx64 dst_hi dst_lo src) s
         ≡ read_check env p src s
         (write_check env p dst_lo s
         (check (valid_dst_operand env dst_hi low) (wild_or 32 dst_hi low.regs) p s
-        (ends done (with_flags flags (update_operand env dst_hi (mul_div 64 (get_or regs 3 0) (eval_operand env src s)) low)))))
+        (ends done (with_flags s.flags (update_operand env dst_hi (mul_div 64 (get_or s.regs 3 0) (eval_operand env src s)) low)))))
     unfolding run_ins act low
     mulx_shape = refl
 
@@ -251,24 +244,24 @@ module _ (addresses tags regs xmms values : List ℕ) (fill : ℕ) (rule : FlagR
           failed _ n t.how p s
           (mulx_shape ∙ read_passes env s p src n r loads _ found ∙ unwritable env s p dst_lo m t resolves h _) (above_one h)
 
-      module _ (valid : t.how ≤ 1) (lo hi : ℕ) (is_lo : lo ≡ mul_mod 64 (get_or regs 3 0) r.word)
-          (is_hi : hi ≡ mul_div 64 (get_or regs 3 0) r.word) (regs' values' : List ℕ)
-          (a : regs' ≡ put_regs t lo regs) (b : values' ≡ put_values t lo values) where
-        after_low : low ≡ held regs' xmms flags values'
+      module _ (valid : t.how ≤ 1) (lo hi : ℕ) (is_lo : lo ≡ mul_mod 64 (get_or s.regs 3 0) r.word)
+          (is_hi : hi ≡ mul_div 64 (get_or s.regs 3 0) r.word) (regs' values' : List ℕ)
+          (a : regs' ≡ put_regs t lo s.regs) (b : values' ≡ put_values t lo s.values) where
+        after_low : low ≡ held regs' s.xmms s.flags values'
         unfolding low
-        after_low = rw (a, b, is_lo, loads.word found) ((resolves.writes valid).update _ values)
+        after_low = rw (a, b, is_lo, loads.word found) ((resolves.writes valid).update _ s.values)
 
         -- the high destination, found before anything is written, in the registers as the low half leaves them
-        module _ (l : ℕ) (u : Slot) (above : Resolves env (held regs' xmms flags values) dst_hi l u) where
+        module _ (l : ℕ) (u : Slot) (above : Resolves env (held regs' s.xmms s.flags s.values) dst_hi l u) where
           mulx_passes :
               run_ins env p (Mulx64 dst_hi dst_lo src) s
-              ≡ check (valid_dst_operand env dst_hi (held regs' xmms flags values)) (wild_or 32 dst_hi regs') p s
-              (ends done (with_flags flags (update_operand env dst_hi hi (held regs' xmms flags values'))))
+              ≡ check (valid_dst_operand env dst_hi (held regs' s.xmms s.flags s.values)) (wild_or 32 dst_hi regs') p s
+              (ends done (with_flags s.flags (update_operand env dst_hi hi (held regs' s.xmms s.flags values'))))
           mulx_passes =
               mulx_shape
               ∙ read_passes env s p src n r loads _ found
               ∙ writable env s p dst_lo m t resolves valid _
-              ∙ rw (after_low, valid_whatever env dst_hi (held regs' xmms flags values) values', is_hi, loads.word found)
+              ∙ rw (after_low, valid_whatever env dst_hi (held regs' s.xmms s.flags s.values) values', is_hi, loads.word found)
 
           pub mulx_unresolved : 1 < u.how → Mulx (exit u.how p) s
           mulx_unresolved h =
@@ -280,7 +273,7 @@ module _ (addresses tags regs xmms values : List ℕ) (fill : ℕ) (rule : FlagR
               (regs'' values'' : List ℕ) →
               regs'' ≡ put_regs u hi regs' →
               values'' ≡ put_values u hi values' →
-              Mulx (exit 0 r.next) (held regs'' xmms flags values'')
+              Mulx (exit 0 r.next) (held regs'' s.xmms s.flags values'')
           unfolding check
           mulx_done h regs'' values'' c d =
               finished _ n r.next p _

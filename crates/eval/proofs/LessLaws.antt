@@ -185,7 +185,7 @@ module _ {env : Env} {limit : Option ℕ} {bs : List ℕ} {at fuel : ℕ} {s₀ 
             read = r.read;
             holds = r.holds;
             way_is = r.way_is;
-            cells = r.cells;
+            long = r.long;
             measured = refl;
           } in
           record { turn = turn; begins = v.begins; fuel_is = given_less e chooses v.fuel_is }

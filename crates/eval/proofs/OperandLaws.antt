@@ -23,10 +23,9 @@ use Rattle.code.specs.Forms.{form_of}
 use Rattle.code.specs.declared.records.Form.{Form}
 use Rattle.code.specs.declared.records.Form.TheVariants.{Memory}
 use Rattle.code.proofs.Forms.{memory_is}
-use Rattle.eval.specs.FlagRule.{FlagRule}
 use Rattle.eval.specs.Config.{Env, Config, with_values}
 use Rattle.eval.specs.Instructions.{cell_of, valid_operand, eval_operand, valid_dst_operand, update_operand}
-use Rattle.eval.specs.Promises.{environment, held, Cells, Seeks, Loads, Resolves, no_slot}
+use Rattle.eval.specs.Promises.{Seeks, Loads, Resolves, no_slot}
 use Rattle.eval.specs.declared.operand.Sought.{Sought}
 use Rattle.eval.specs.declared.operand.Loaded.{Loaded}
 use Rattle.eval.specs.declared.operand.Slot.{Slot}
@@ -51,18 +50,18 @@ valid_whatever env (OConst n) s values = refl
 valid_whatever env (OReg r) s values = refl
 valid_whatever env (OMem m) s values = refl
 
-module _ (addresses tags regs values : List ℕ) (o : Operand) (next : ℕ) (fill : ℕ) (rule : FlagRule) (flags : ℕ) (xmms : List ℕ) where
+module _ (env : Env) (s : Config) (o : Operand) (next : ℕ) where
   abbrev Load : Loaded → Type 0
-  Load r = Loads (environment addresses tags fill rule) (held regs xmms flags values) o next r
+  Load r = Loads env s o next r
 
   abbrev Resolve : Slot → Type 0
-  Resolve t = Resolves (environment addresses tags fill rule) (held regs xmms flags values) o next t
+  Resolve t = Resolves env s o next t
 
   -- ---- what is no destination
   no_destination :
-      (n : ℕ) → 1 < n → n ≡ wild_or 32 o regs →
+      (n : ℕ) → 1 < n → n ≡ wild_or 32 o s.regs →
       (t : Slot) → t ≡ no_slot n next →
-      valid_dst_operand (environment addresses tags fill rule) o (held regs xmms flags values) ≡ false → Resolve t
+      valid_dst_operand env o s ≡ false → Resolve t
   no_destination n l is t e invalid =
       rw e record {
         valid = λ h. absurd (omega (arith, h, l));
@@ -79,11 +78,11 @@ module _ (addresses tags regs values : List ℕ) (o : Operand) (next : ℕ) (fil
 
   pub resolve_constant : (n : ℕ) → o ≡ OConst n → (t : Slot) → t ≡ no_slot 32 next → Resolve t
   unfolding valid_dst_operand valid_operand
-  resolve_constant n q t e = no_destination 32 (omega arith) (rw (q, constant_tame n regs)) t e (rw (q, constant_no_dst n))
+  resolve_constant n q t e = no_destination 32 (omega arith) (rw (q, constant_tame n s.regs)) t e (rw (q, constant_no_dst n))
 
   -- ---- a register
   module _ (r : Reg) (q : o ≡ OReg r) where
-    pub load_register : Load (record { number = 0; word = reg_at regs r; next = next })
+    pub load_register : Load (record { number = 0; word = reg_at s.regs r; next = next })
     unfolding valid_operand eval_operand
     load_register = record { number = rw q; word = λ _. rw q; next = refl }
 
@@ -92,11 +91,11 @@ module _ (addresses tags regs values : List ℕ) (o : Operand) (next : ℕ) (fil
       unfolding valid_dst_operand valid_operand
       resolve_rsp h t e =
           let p : eqb r.number 7 ≡ true = sym is ∙ h in
-          no_destination 32 (omega arith) (rw (q, register_tame r regs)) t e (rw (q, register_dst r, p))
+          no_destination 32 (omega arith) (rw (q, register_tame r s.regs)) t e (rw (q, register_dst r, p))
 
       pub resolve_register :
           b ≡ false → r.number < 16 →
-          Resolve (record { how = 0; index = r.number; word = reg_at regs r; next = next })
+          Resolve (record { how = 0; index = r.number; word = reg_at s.regs r; next = next })
       unfolding valid_dst_operand valid_operand eval_operand update_operand
       resolve_register h l =
           let p : eqb r.number 7 ≡ false = sym is ∙ h in
@@ -111,7 +110,7 @@ module _ (addresses tags regs values : List ℕ) (o : Operand) (next : ℕ) (fil
   -- ---- memory, by the form that was decoded and what was found for it
   module _
       (form : Form) (is : form ≡ form_of o) (memory : form ≡ Memory) (absent : ℕ) (f : Sought)
-      (found : (m : Maddr) → o ≡ OMem m → Seeks addresses tags regs m absent f) where
+      (found : (m : Maddr) → o ≡ OMem m → Seeks env.addresses env.tags s.regs m absent f) where
     m : Maddr
     m = (memory_is o (sym is ∙ memory)).0
 
@@ -120,51 +119,51 @@ module _ (addresses tags regs values : List ℕ) (o : Operand) (next : ℕ) (fil
     q = (memory_is o (sym is ∙ memory)).1
 
     abbrev there : Option ℕ
-    there = find_cell addresses tags (eval_maddr m regs)
+    there = find_cell env.addresses env.tags (eval_maddr m s.regs)
 
     module _ (above : 1 < absent) (e : f.number ≡ 0) where
       here : there ≡ some f.index
-      here = go there refl (passes (is_cell there) f.number _ (found m q).number (above_one (wild_or_above absent (OMem m) regs above)) e)
+      here = go there refl (passes (is_cell there) f.number _ (found m q).number (above_one (wild_or_above absent (OMem m) s.regs above)) e)
         where
           go : (k : Option ℕ) → there ≡ k → is_cell k ≡ true → k ≡ some f.index
           go none h b = absurd (false≢true b)
           go (some i) h b = ap some (sym ((found m q).cell i h))
 
-      pub cell_inside : Cells addresses tags values → f.index < length values
-      cell_inside cells = omega (arith, (find_hit addresses tags (eval_maddr m regs) f.index here).inside, cells.long)
+      pub cell_inside : length s.values ≡ length env.addresses → f.index < length s.values
+      cell_inside long = omega (arith, (find_hit env.addresses env.tags (eval_maddr m s.regs) f.index here).inside, long)
 
-      pub load_cell : Load (record { number = 0; word = get_or values f.index 0; next = next })
+      pub load_cell : Load (record { number = 0; word = get_or s.values f.index 0; next = next })
       unfolding valid_operand eval_operand cell_of
       load_cell = record { number = rw (q, here); word = λ _. rw (q, here); next = refl }
 
       pub resolve_cell :
-          Cells addresses tags values →
-          Resolve (record { how = 1; index = f.index; word = get_or values f.index 0; next = next })
+          length s.values ≡ length env.addresses →
+          Resolve (record { how = 1; index = f.index; word = get_or s.values f.index 0; next = next })
       unfolding valid_dst_operand valid_operand eval_operand update_operand cell_of
-      resolve_cell cells =
+      resolve_cell long =
           record {
             valid = λ _. rw (q, here, memory_dst m);
             fails = λ h. absurd (omega (arith, h));
             writes = λ _. record { word = rw (q, here); update = λ v vs. rw (q, here) };
-            bounds = λ _. record { register = λ h. absurd (omega (arith, h)); cell = λ _. cell_inside cells };
+            bounds = λ _. record { register = λ h. absurd (omega (arith, h)); cell = λ _. cell_inside long };
             next = refl;
           }
 
     module _ (above : 1 < absent) (e : f.number ≡ 0 → ⊥) where
-      nowhere : (is_cell there ≡ false) × (f.number ≡ wild_or absent o regs)
+      nowhere : (is_cell there ≡ false) × (f.number ≡ wild_or absent o s.regs)
       nowhere = let w = fails (is_cell there) f.number _ (found m q).number e in (w.0, rw q w.1)
 
-      unreadable : valid_operand (environment addresses tags fill rule) o (held regs xmms flags values) ≡ false
+      unreadable : valid_operand env o s ≡ false
       unfolding valid_operand cell_of
       unreadable = rw q nowhere.0
 
       pub load_none : absent ≡ 31 → Load (record { number = f.number; word = 0; next = next })
-      load_none is = record { number = rw unreadable (nowhere.1 ∙ ap (λ n. wild_or n o regs) is); word = λ h. absurd (e h); next = refl }
+      load_none is = record { number = rw unreadable (nowhere.1 ∙ ap (λ n. wild_or n o s.regs) is); word = λ h. absurd (e h); next = refl }
 
       pub resolve_none : absent ≡ 32 → (t : Slot) → t ≡ no_slot f.number next → Resolve t
       unfolding valid_dst_operand
       resolve_none is t g =
-          no_destination f.number (rw nowhere.1 (wild_or_above absent o regs above)) (nowhere.1 ∙ ap (λ n. wild_or n o regs) is) t g (rw unreadable)
+          no_destination f.number (rw nowhere.1 (wild_or_above absent o s.regs above)) (nowhere.1 ∙ ap (λ n. wild_or n o s.regs) is) t g (rw unreadable)
 
 -- ---- a memory operand, by what it leads to
 module _ (addresses tags regs : List ℕ) (m : Maddr) (absent : ℕ) (f : Target) (found : led_to f ≡ leads addresses tags (eval_maddr m regs)) where

@@ -7,7 +7,7 @@ use mathlib.Core.Option.{Option}
 use native.Mathlib.Omega.{arith}
 use borrow.Author.Tests.{eq-eqb, ne_eqb}
 use lib.ListN.{length}
-use Rattle.machine.specs.Cells.{accepted, refused, check_cells}
+use Rattle.machine.specs.Cells.{Searchable, accepted, refused, check_cells}
 use Rattle.machine.proofs.Accepting.{accepted_of, searchable_of}
 use Rattle.code.specs.Tree.{Code, ⟨⟩, ◌∷ᶜ◌}
 use Rattle.code.specs.Reader.{Read, check_code}
@@ -18,7 +18,7 @@ use Rattle.eval.specs.Config as Config
 use Rattle.eval.specs.Counted.{Counted, nothing_counted, Ended, ended}
 use Rattle.eval.specs.Running.{run_codes, run_checked, run_read, run_of}
 use Rattle.eval.specs.LeastFuel.{is_spent}
-use Rattle.eval.specs.Promises.{how, Reached, Cells, CodesAt, RunsAll, SpendsAll}
+use Rattle.eval.specs.Promises.{how, Reached, CodesAt, RunsAll, SpendsAll}
 use Rattle.eval.specs.declared.exit.Exit.{Exit}
 use Rattle.eval.proofs.CycleLaws.{spent_too, run_one}
 
@@ -34,10 +34,9 @@ pub how_fault :
     (r : Exit) → (r.number ≡ 0 → ⊥) → (r.number ≡ 1 → ⊥) → (r.number ≡ 37 → ⊥) → Config.fault r.number r.place ≡ how r
 how_fault r z h k = rw (ne_eqb r.number 0 z, ne_eqb r.number 1 h, ne_eqb r.number 37 k)
 
-pub accepted_cells : (xs ts vs : List ℕ) → check_cells xs ts vs ≡ accepted → Cells xs ts vs
-accepted_cells xs ts vs h =
-    let w = accepted_of xs ts vs h in
-    record { searchable = searchable_of xs ts vs w; long = w.same.values }
+-- accepted cells can be searched, and each has its value
+pub accepted_cells : (xs ts vs : List ℕ) → check_cells xs ts vs ≡ accepted → Searchable xs ts × (length vs ≡ length xs)
+accepted_cells xs ts vs h = let w = accepted_of xs ts vs h in (searchable_of xs ts vs w, w.same.values)
 
 -- all the bytes are a list of the one code that they spell
 abbrev pub accepted_codes : (bs : List ℕ) → check_code bs ≡ accepted → CodesAt bs 0 (length bs)

@@ -10,7 +10,7 @@ use borrow.Author.Tests.{leb-false, ne_eqb}
 use mir.Syntax.{w64}
 use mir.Val.{Fits}
 use lib.Dec.{eqb}
-use lib.ListN.{length, get_or}
+use lib.ListN.{length}
 use Rattle.machine.proofs.OperandLaws.{unread_above, unread_below}
 use Rattle.code.specs.declared.tree.Ocmp.{Ocmp}
 use Rattle.code.specs.Layout.{Layout, layout, ocmp_layout, last_ins}
@@ -26,6 +26,7 @@ use Rattle.eval.specs.Counted.{Counted, ended, used_up, count, step}
 use Rattle.eval.specs.Running.{run_ocmp}
 use Rattle.eval.specs.Promises.{how, InsAt, RunsIns, Compares, ComparesAt, tally, StepsIns, DecidesAt}
 use Rattle.eval.specs.declared.answer.Watch.{Watch}
+use Rattle.eval.specs.declared.counted.Counter.{Counter}
 use Rattle.eval.specs.declared.exit.Exit.{Exit}
 use Rattle.eval.specs.declared.comparison.Compared.{Compared}
 use Rattle.eval.proofs.InstructionLaws.{exit, check_fails}
@@ -108,9 +109,9 @@ pub not_counted : (r : Exit) (sees : Watch → Watch) (k : Counted) → (r.numbe
 not_counted r sees k h = rw (ne_eqb r.number 0 h) (uncounted (eqb r.number 1) (eqb r.number 37) r.number r.place sees k)
 
 -- where the limit is not used up, one step more is a word
-pub step_fits : (limit : ℕ) (words : List ℕ) (b : Bool) → b ≡ used_up (some limit) (tally words) → b ≡ false → Fits w64 limit → get_or words 0 0 + 1 < 2 ^ 64
+pub step_fits : (limit : ℕ) (k : Counter) (b : Bool) → b ≡ used_up (some limit) (tally k) → b ≡ false → Fits w64 limit → k.steps + 1 < 2 ^ 64
 unfolding used_up
-step_fits limit words b is h f = let l = leb-false limit (get_or words 0 0) (sym is ∙ h) in omega (arith, l, f.fits)
+step_fits limit k b is h f = let l = leb-false limit k.steps (sym is ∙ h) in omega (arith, l, f.fits)
 
 -- ---- the limit was tested, with the answer b, before what stands at a place was tried
 module _ (env : Env) (limit : Option ℕ) (bs : List ℕ) (at : ℕ) (s : Config) (k : Counted) (b : Bool) (is : b ≡ used_up limit k) where

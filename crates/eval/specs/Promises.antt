@@ -5,7 +5,8 @@ use Rattle.std.proofs.Math.Option.{Option, some}
 use Rattle.std.specs.Borrow.{Bor, MutBor}
 use denote.Triple.Both.{Both}
 use Rattle.machine.specs.Operands.{eval_maddr, wild_or}
-use Rattle.machine.specs.Cells.{Searchable, find_cell, is_cell}
+use Rattle.machine.specs.Cells.{find_cell, is_cell}
+use Rattle.machine.specs.declared.State.{State}
 use Rattle.machine.specs.declared.Maddr.{Maddr}
 use Rattle.machine.specs.declared.Operand.{Operand}
 use Rattle.machine.specs.declared.Operand.TheVariants.{OMem}
@@ -13,8 +14,8 @@ use Rattle.code.specs.declared.tree.Ocmp.{Ocmp}
 use Rattle.code.specs.Tree.{Code, Codes}
 use Rattle.code.specs.Records.{is_ins, is_ocmp, byte_at, number_at, ins_at, ocmp_at}
 use Rattle.code.specs.Spells.{Stands, Spells, SpellsAll}
-use Rattle.eval.specs.FlagRule.{FlagRule, base_rule}
-use Rattle.eval.specs.Config.{Env, Config, with_regs, with_flags, with_values, Outcome, done, fault, stopped, spent, End}
+use Rattle.eval.specs.FlagRule.{FlagRule, flag_rule, base_rule}
+use Rattle.eval.specs.Config.{Env, Config, config, with_regs, with_flags, with_values, Outcome, done, fault, stopped, spent, End}
 use Rattle.eval.specs.Config as Config
 use Rattle.eval.specs.Instructions.{valid_operand, eval_operand, valid_dst_operand, update_operand, valid_ocmp, ocmp_number, eval_ocmp, run_ins}
 use Rattle.eval.specs.Watch.{watch, touched, open_after, reads_open, watched}
@@ -23,7 +24,8 @@ use Rattle.eval.specs.Running.{step_ins, step_ocmp, run_code, run_codes}
 use Rattle.eval.specs.LeastFuel.{is_spent}
 use Rattle.eval.specs.declared.answer.Watch.{Watch}
 use Rattle.eval.specs.declared.answer.Mark.{Mark}
-use Rattle.eval.specs.declared.answer.Mark.TheVariants.{Unmarked, Marked}
+use Rattle.eval.specs.declared.counted.Counter.{Counter}
+use Rattle.eval.specs.declared.lent.Lent.{Lent}
 use Rattle.eval.specs.declared.exit.Exit.{Exit}
 use Rattle.eval.specs.declared.operand.Sought.{Sought}
 use Rattle.eval.specs.declared.operand.Loaded.{Loaded}
@@ -37,14 +39,13 @@ use Rattle.eval.specs.declared.arithmetic.Effect.{Effect}
 abbrev pub environment : List ℕ → List ℕ → ℕ → FlagRule → Env
 environment addresses tags fill rule = record { addresses = addresses; tags = tags; fill = fill; rule = rule }
 
+-- the environment of what is lent
+abbrev pub env_of : Lent → Env
+env_of lent = environment lent.addresses.now lent.tags.now lent.fill (flag_rule lent.evaluation)
+
 -- the configuration of lent parts
 abbrev pub held : List ℕ → List ℕ → ℕ → List ℕ → Config
 held regs xmms flags values = record { regs = regs; xmms = xmms; flags = flags; values = values }
-
--- cells that can be searched, each with its value
-pub record Cells (addresses tags values : List ℕ) : Type 0 where
-  pub searchable : Searchable addresses tags
-  pub long : length values ≡ length addresses
 
 -- ---- operands
 -- what a Sought says of a memory operand: 0, or the number of the check that fails, 36 where the exact address is wild and `absent` where merely no
@@ -137,17 +138,12 @@ abbrev pub ComparesAt : Env → List ℕ → ℕ → Config → Compared → Typ
 ComparesAt env bs at s r = (e : ℕ) → Stands is_ocmp bs at e → Compares env s (ocmp_at bs at) e r
 
 -- ---- steps
--- a lent value that is read, as it is given and as it is left
-abbrev Lent : Type 0 → Type 0
-Lent A = Both (Bor A) (Bor A)
+-- a value behind a reference, and one that may be changed there, as it is given and as it is left
+abbrev Shared : Type 0 → Type 0
+Shared A = Both (Bor A) (Bor A)
 
--- a lent value that may be changed, as it is given and as it is left
-abbrev LentMut : Type 0 → Type 0
-LentMut A = Both (MutBor A) (MutBor A)
-
--- a mark as a word: 0 for none, or the place and one more
-abbrev pub mark_of : ℕ → Mark
-mark_of word = cond (eqb word 0) Unmarked (Marked (word - 1))
+abbrev Changed : Type 0 → Type 0
+Changed A = Both (MutBor A) (MutBor A)
 
 -- whether carry is open, as a word says it: below 4 its bit 0, else as it is behind the instruction, of this kind, that set both flags last. No row of the
 -- table behind 06 asks the rule, and a kind is below 32
@@ -158,21 +154,17 @@ carry_in word = cond (ltb word 4) (eqb (word % 2) 1) (open_after (touched base_r
 abbrev pub overflow_in : ℕ → Bool
 overflow_in word = cond (ltb word 4) (eqb (word / 2 % 2) 1) (open_after (touched base_rule (word % 32)).overflow false)
 
--- a watch as two words: what is open, and the mark
-abbrev pub watch_of : ℕ → ℕ → Watch
-watch_of word mark = watch (carry_in word) (overflow_in word) (mark_of mark)
+-- a watch, of the word that says what is open, and the mark
+abbrev pub watch_of : ℕ → Mark → Watch
+watch_of word mark = watch (carry_in word) (overflow_in word) mark
 
--- what is counted, in a lent array of words: at place 0 the steps made, at 1 what is open, at 2 the mark
-abbrev pub tally : List ℕ → Counted
-tally words = counted (get_or words 0 0) (watch_of (get_or words 1 0) (get_or words 2 0))
+-- what is counted: the steps made, and the watch
+abbrev pub tally : Counter → Counted
+tally k = counted k.steps (watch_of k.opened k.mark)
 
--- at place 3 the least fuel with which a loop was tested; where none was, one more than the fuel of the run
-unfoldable pub least_tested : List ℕ → ℕ
-least_tested words = get_or words 3 0
-
--- it is left as it was given
-abbrev pub TestedNone : LentMut (List ℕ) → Type 0
-TestedNone counted = least_tested counted.exit.now ≡ least_tested counted.entry.now
+-- the least fuel with which a loop was tested; where none was, one more than the fuel of the run
+abbrev pub least_tested : Counter → ℕ
+least_tested k = k.tested
 
 -- the least tested fuel where a round has begun with so much left: a While tests it, and an IfElse, which chooses, does not
 abbrev pub tested_with : Bool → ℕ → ℕ → ℕ
@@ -184,7 +176,7 @@ KeepsFlags k = (rule : FlagRule) (at : ℕ) (w : Watch) → watched rule k at w 
 
 -- a kind of which the watch behind it is told by the kind alone
 abbrev pub SetsFlags : ℕ → Type 0
-SetsFlags k = (rule : FlagRule) (at word mark : ℕ) → watched rule k at (watch_of word mark) ≡ watch_of k mark
+SetsFlags k = (rule : FlagRule) (at word : ℕ) (mark : Mark) → watched rule k at (watch_of word mark) ≡ watch_of k mark
 
 -- what is open behind a kind that opens nothing, as two bits, of what was
 pub record Kept (rule : FlagRule) (k was r : ℕ) : Type 0 where
@@ -285,48 +277,57 @@ way_from bs at chooses x =
     cond (eqb x.how 1) (record { part = x.next; behind = second; end = end }) (record { part = second; behind = end; end = end })
 
 -- ---- the cycle, of what it is lent
-module _
-    (code : Lent (List ℕ)) (fill : ℕ) (rule : FlagRule) (regs xmms : LentMut (List ℕ)) (flags : LentMut ℕ) (addresses tags : Lent (List ℕ))
-    (values : LentMut (List ℕ)) where
-  -- the environment that is lent
+module _ (lent : Shared Lent) (state : Changed State) (values : Changed (List ℕ)) where
+  -- the code's bytes, the environment and the limit
+  abbrev bytes : List ℕ
+  bytes = lent.entry.now.code.now
+
   abbrev env : Env
-  env = environment addresses.entry.now tags.entry.now fill rule
+  env = env_of lent.entry.now
+
+  abbrev limit : Option ℕ
+  limit = some lent.entry.now.limit
 
   -- the configuration that is given
   abbrev given : Config
-  given = held regs.entry.now xmms.entry.now flags.entry.now values.entry.now
+  given = config state.entry.now values.entry.now
 
   -- the configuration that is left
   abbrev left : Config
-  left = held regs.exit.now xmms.exit.now flags.exit.now values.exit.now
+  left = config state.exit.now values.exit.now
 
   -- what is left, and the exit, are those of the instruction at a place
   abbrev pub EvaluatesIns : ℕ → Exit → Type 0
-  EvaluatesIns at r = RunsIns env code.entry.now at given r left
+  EvaluatesIns at r = RunsIns env bytes at given r left
 
-  module _ (counted : LentMut (List ℕ)) (limit : ℕ) where
+  module _ (counter : Changed Counter) where
+    -- what was counted before, and what then is
+    abbrev before : Counted
+    before = tally counter.entry.now
+
+    abbrev after : Counted
+    after = tally counter.exit.now
+
     -- the same of that instruction as a step
     abbrev pub EvaluatesStep : ℕ → Exit → Type 0
-    EvaluatesStep at r = StepsIns env (some limit) code.entry.now at given (tally counted.entry.now) r left (tally counted.exit.now)
+    EvaluatesStep at r = StepsIns env limit bytes at given before r left after
 
     -- what is left, and the exit, are those of the code at a place, with fuel
     abbrev pub Evaluates : ℕ → ℕ → Exit → Type 0
-    Evaluates at fuel r = Runs env (some limit) code.entry.now at fuel given (tally counted.entry.now) r left (tally counted.exit.now)
+    Evaluates at fuel r = Runs env limit bytes at fuel given before r left after
 
     -- what less fuel would have done with it
     abbrev pub WithLess : ℕ → ℕ → Exit → Type 0
     WithLess at fuel r =
-        LessFuel (λ e. Evaluates at (fuel - e) r) (λ e. Spends env (some limit) code.entry.now at (fuel - e) given (tally counted.entry.now))
-        (least_tested counted.entry.now) (least_tested counted.exit.now)
+        LessFuel (λ e. Evaluates at (fuel - e) r) (λ e. Spends env limit bytes at (fuel - e) given before)
+        (least_tested counter.entry.now) (least_tested counter.exit.now)
 
     -- what is left, and the exit, are those of the list of codes between two places, with fuel
     abbrev pub EvaluatesAll : ℕ → ℕ → ℕ → Exit → Type 0
-    EvaluatesAll from end fuel r =
-        RunsAll env (some limit) code.entry.now from end fuel given (tally counted.entry.now) r left (tally counted.exit.now)
+    EvaluatesAll from end fuel r = RunsAll env limit bytes from end fuel given before r left after
 
     -- what less fuel would have done with them
     abbrev pub WithLessAll : ℕ → ℕ → ℕ → Exit → Type 0
     WithLessAll from end fuel r =
-        LessFuel (λ e. EvaluatesAll from end (fuel - e) r)
-        (λ e. SpendsAll env (some limit) code.entry.now from end (fuel - e) given (tally counted.entry.now))
-        (least_tested counted.entry.now) (least_tested counted.exit.now)
+        LessFuel (λ e. EvaluatesAll from end (fuel - e) r) (λ e. SpendsAll env limit bytes from end (fuel - e) given before)
+        (least_tested counter.entry.now) (least_tested counter.exit.now)

@@ -1,10 +1,12 @@
 // Comparisons: whether both operands can be read, and what then holds.
-ghost use Rattle.std.specs.Prelude.{◌≡◌, true, List, ℕ};
+ghost use Rattle.std.specs.Prelude.{◌≡◌, true, length};
 ghost use Rattle.code.specs.Records.{is_ocmp};
-ghost use Rattle.eval.specs.FlagRule.{FlagRule};
-ghost use Rattle.eval.specs.Promises.{environment, held, Cells, comparison, OcmpAt, ComparesAt};
+ghost use Rattle.eval.specs.Config.{config};
+ghost use Rattle.eval.specs.Promises.{env_of, comparison, OcmpAt, ComparesAt};
 
+use crate::lent::Lent;
 use crate::operand::load;
+use machine::State;
 
 // 0 where it does not hold, 1 where it holds, or the number with which the run ends there; and, where both
 // operands were read, the place behind.
@@ -31,21 +33,12 @@ fn holds(kind: u8, a: u64, b: u64) -> bool
 }
 
 // The comparison of an IfElse or a While.
-pub fn compare(
-    code: &[u8],
-    at: usize,
-    regs: &[u64; 16],
-    addresses: &[u64],
-    tags: &[u8],
-    values: &[u64],
-) -> Compared
-    requires ocmp_at { OcmpAt code.now at }
-    requires cells { Cells addresses.now tags.now values.now }
-    ensures { (fill : ℕ) (rule : FlagRule) (flags : ℕ) (xmms : List ℕ) →
-        ComparesAt (environment addresses.now tags.now fill rule) code.now at
-        (held regs.now xmms flags values.now) result }
+pub fn compare(lent: &Lent, at: usize, state: &State, values: &[u64]) -> Compared
+    requires ocmp_at { OcmpAt lent.now.code.now at }
+    requires long { length values.now ≡ length lent.now.addresses.now }
+    ensures { ComparesAt (env_of lent.now) lent.now.code.now at (config state.now values.now) result }
 {
-    let a = load(code, at + 1, regs, addresses, tags, values);
+    let a = load(lent, at + 1, state, values);
     let second = a.next;
     if a.number != 0 {
         return Compared {
@@ -53,7 +46,7 @@ pub fn compare(
             next: second,
         };
     }
-    let b = load(code, second, regs, addresses, tags, values);
+    let b = load(lent, second, state, values);
     let next = b.next;
     if b.number != 0 {
         return Compared {
@@ -61,7 +54,7 @@ pub fn compare(
             next,
         };
     }
-    if holds(code[at], a.word, b.word) {
+    if holds(lent.code[at], a.word, b.word) {
         return Compared { how: 1, next };
     }
     Compared { how: 0, next }

@@ -1,29 +1,29 @@
-// What is counted in a run, in one lent array of words, and the watch over the flags that the fill word sets. What a kind does
+// What is counted in a run, and the watch over the flags that the fill word sets. What a kind does
 // to them stands in words of bits, one or two for a kind, carry below overflow, so that no table in memory is read.
-ghost use Rattle.std.specs.Prelude.{◌≡◌, true, false, ℕ, ◌+◌, ◌/◌, ◌%◌, ◌^◌, ◌<◌, eqb, get_or, length};
+ghost use Rattle.std.specs.Prelude.{◌≡◌, true, false, ℕ, ◌+◌, ◌/◌, ◌%◌, ◌^◌, ◌<◌, eqb};
+ghost use Rattle.std.proofs.Math.Option.{some};
 ghost use Rattle.code.specs.Records.{is_ocmp};
 ghost use Rattle.eval.specs.FlagRule.{FlagRule, flag_rule};
 ghost use Rattle.eval.specs.Config.{done};
 ghost use Rattle.eval.specs.Watch.{watch, nothing_open, reads_open, first_mark, watched};
-ghost use Rattle.eval.specs.Counted.{count};
+ghost use Rattle.eval.specs.Counted.{count, nothing_counted, used_up};
 ghost use Rattle.eval.specs.Counted as Counted;
-ghost use Rattle.eval.specs.Promises.{carry_in, overflow_in, mark_of, tally, least_tested, TestedNone, tested_with, Kept, KeepsFlags, SetsFlags};
+ghost use Rattle.eval.specs.Promises.{carry_in, overflow_in, tally, least_tested, tested_with, Kept, KeepsFlags, SetsFlags};
 ghost use Rattle.eval.specs.declared.answer.Mark.{Mark};
 
 use crate::answer::{Evaluation, Mark, Watch};
 
-pub const COUNTED: usize = 4;
-
-pub const STEPS: usize = 0;
-
-// What is open: below 4, carry in bit 0 and overflow in bit 1; else the kind of the instruction that set both flags last.
-pub const OPEN: usize = 1;
-
-// 0, or the place of the mark and one more.
-pub const MARK: usize = 2;
-
-// The least fuel with which a loop was tested; where none was, one more than the run's.
-pub const TESTED: usize = 3;
+#[derive(Clone, Copy)]
+pub struct Counter {
+    // The steps made.
+    pub steps: u64,
+    // What is open: below 4, carry in bit 0 and overflow in bit 1; else the kind of the instruction that set both flags last.
+    pub opened: u64,
+    // The place of the first instruction that has read an open flag.
+    pub mark: Mark,
+    // The least fuel with which a loop was tested; where none was, one more than the run's.
+    pub tested: u64,
+}
 
 // Bit k is set where kind k sets or reads one of the two.
 const TOUCHES: u64 = 0b1110_0000_0000_1111_1101_1111_0100;
@@ -78,106 +78,105 @@ fn reads_open(kind: u8, was: u64) -> bool
     was & (READS >> (2 * kind)) != 0
 }
 
-// An open flag was read: the mark stays at the first.
-fn mark(at: usize, counted: &mut [u64; COUNTED])
-    requires in_bounds { 2 < length counted.old }
-    requires at_bound { at + 1 < 2 ^ 64 }
-    ensures counted_after { let before = tally counted.old in let w = before.watch in
-        tally counted.new ≡ Counted.counted before.steps (watch w.carry w.overflow (first_mark true at w.mark)) }
-    ensures tested_none { TestedNone counted }
-{
-    if counted[MARK] != 0 {
-        return;
+impl Counter {
+    // As a run with so much fuel begins.
+    pub fn new(fuel: u32) -> Counter
+        ensures counted { tally result ≡ nothing_counted }
+        ensures tested { least_tested result ≡ fuel + 1 }
+    {
+        Counter {
+            steps: 0,
+            opened: 0,
+            mark: Mark::Unmarked,
+            tested: fuel as u64 + 1,
+        }
     }
-    counted[MARK] = (at + 1) as u64;
-}
 
-// One of the first six kinds: some of them keep one flag, and some read one.
-fn watch_sum(kind: u8, at: usize, evaluation: Evaluation, counted: &mut [u64; COUNTED])
-    requires in_bounds { 2 < length counted.old }
-    requires kind_bound { kind < 7 }
-    requires at_bound { at + 1 < 2 ^ 64 }
-    ensures counted_after { let before = tally counted.old in
-        tally counted.new ≡ Counted.counted before.steps (watched (flag_rule evaluation) kind at before.watch) }
-    ensures tested_none { TestedNone counted }
-{
-    let was = open_bits(counted[OPEN]);
-    let left = kept(kind, evaluation, was);
-    // What reads a flag closes it: where all that was open is kept, none was read.
-    if left == was {
-        return;
+    pub fn used_up(&self, limit: u64) -> bool
+        ensures { result ≡ used_up (some limit) (tally self.now) }
+    {
+        limit <= self.steps
     }
-    counted[OPEN] = left;
-    if reads_open(kind, was) {
-        mark(at, counted);
-        return;
-    }
-}
 
-pub fn count_instruction(kind: u8, at: usize, evaluation: Evaluation, counted: &mut [u64; COUNTED])
-    requires in_bounds { 2 < length counted.old }
-    requires kind_bound { kind < 32 }
-    requires at_bound { at + 1 < 2 ^ 64 }
-    requires counted_bound { get_or counted.old 0 0 + 1 < 2 ^ 64 }
-    ensures counted_after { tally counted.new ≡ count done (watched (flag_rule evaluation) kind at) (tally counted.old) }
-    ensures tested_none { TestedNone counted }
-{
-    counted[STEPS] += 1;
-    if !touches(kind) {
-        return;
+    // An open flag was read: the mark stays at the first.
+    fn mark_first(&mut self, at: usize)
+        ensures counted_after { let before = tally self.old in let w = before.watch in
+            tally self.new ≡ Counted.counted before.steps (watch w.carry w.overflow (first_mark true at w.mark)) }
+        ensures tested_none { least_tested self.new ≡ least_tested self.old }
+    {
+        if let Mark::Unmarked = self.mark {
+            self.mark = Mark::Marked(at);
+        }
     }
-    if 6 < kind {
-        counted[OPEN] = kind as u64;
-        return;
-    }
-    watch_sum(kind, at, evaluation, counted);
-}
 
-// A comparison opens both.
-pub fn count_comparison(counted: &mut [u64; COUNTED])
-    requires in_bounds { 2 < length counted.old }
-    requires counted_bound { get_or counted.old 0 0 + 1 < 2 ^ 64 }
-    ensures counted_after { (rule : FlagRule) (kind at : ℕ) → is_ocmp kind ≡ true →
-        tally counted.new ≡ count done (watched rule kind at) (tally counted.old) }
-    ensures tested_none { TestedNone counted }
-{
-    counted[STEPS] += 1;
-    counted[OPEN] = 3;
-}
-
-// Where a round begins: a While tests its fuel. Read as a slice, whose length a contract knows.
-pub fn count_test(chooses: bool, left: u32, counted: &mut [u64; COUNTED])
-    ensures counted_unchanged { tally counted.new ≡ tally counted.old }
-    ensures counted_after { least_tested counted.new ≡ tested_with chooses left (least_tested counted.old) }
-{
-    if chooses {
-        return;
+    // One of the first six kinds: some of them keep one flag, and some read one.
+    fn watch_sum(&mut self, kind: u8, at: usize, evaluation: Evaluation)
+        requires { kind < 7 }
+        ensures counted_after { let before = tally self.old in
+            tally self.new ≡ Counted.counted before.steps (watched (flag_rule evaluation) kind at before.watch) }
+        ensures tested_none { least_tested self.new ≡ least_tested self.old }
+    {
+        let was = open_bits(self.opened);
+        let left = kept(kind, evaluation, was);
+        // What reads a flag closes it: where all that was open is kept, none was read.
+        if left == was {
+            return;
+        }
+        self.opened = left;
+        if reads_open(kind, was) {
+            self.mark_first(at);
+        }
     }
-    let words: &mut [u64] = counted;
-    let fuel = left as u64;
-    if fuel < words[TESTED] {
-        words[TESTED] = fuel;
-    }
-}
 
-fn told_mark(mark: u64) -> Mark
-    ensures { result ≡ mark_of mark }
-{
-    if mark == 0 {
-        return Mark::Unmarked;
+    pub fn count_instruction(&mut self, kind: u8, at: usize, evaluation: Evaluation)
+        requires kind_bound { kind < 32 }
+        requires counted_bound { self.old.steps + 1 < 2 ^ 64 }
+        ensures counted_after { tally self.new ≡ count done (watched (flag_rule evaluation) kind at) (tally self.old) }
+        ensures tested_none { least_tested self.new ≡ least_tested self.old }
+    {
+        self.steps += 1;
+        if !touches(kind) {
+            return;
+        }
+        if 6 < kind {
+            self.opened = kind as u64;
+            return;
+        }
+        self.watch_sum(kind, at, evaluation);
     }
-    Mark::Marked((mark - 1) as usize)
-}
 
-// The watch as a run hands it back.
-pub fn told_watch(counted: &[u64; COUNTED]) -> Watch
-    ensures { result ≡ (tally counted.now).watch }
-{
-    let open = open_bits(counted[OPEN]);
-    Watch {
-        mark: told_mark(counted[MARK]),
-        carry: open % 2 == 1,
-        overflow: open / 2 % 2 == 1,
+    // A comparison opens both.
+    pub fn count_comparison(&mut self)
+        requires { self.old.steps + 1 < 2 ^ 64 }
+        ensures counted_after { (rule : FlagRule) (kind at : ℕ) → is_ocmp kind ≡ true →
+            tally self.new ≡ count done (watched rule kind at) (tally self.old) }
+        ensures tested_none { least_tested self.new ≡ least_tested self.old }
+    {
+        self.steps += 1;
+        self.opened = 3;
+    }
+
+    // Where a round begins: a While tests its fuel.
+    pub fn count_test(&mut self, chooses: bool, left: u32)
+        ensures counted_unchanged { tally self.new ≡ tally self.old }
+        ensures counted_after { least_tested self.new ≡ tested_with chooses left (least_tested self.old) }
+    {
+        let fuel = left as u64;
+        if !chooses && fuel < self.tested {
+            self.tested = fuel;
+        }
+    }
+
+    // The watch as a run hands it back.
+    pub fn watch(&self) -> Watch
+        ensures { result ≡ (tally self.now).watch }
+    {
+        let open = open_bits(self.opened);
+        Watch {
+            mark: self.mark,
+            carry: open % 2 == 1,
+            overflow: open / 2 % 2 == 1,
+        }
     }
 }
 

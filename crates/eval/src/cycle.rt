@@ -1,18 +1,17 @@
 // The evaluator's cycle: a list of codes runs its instructions, enters its Blocks, and calls `eval_code` for an IfElse or a
 // While, whose parts are lists again. The codes of a list and the rounds of a While are loops, so that native depth is the
-// nesting of IfElses and Whiles. Among the parameters values and registers stand right behind the places, and what is seldom looked
-// at stands last: what other orders cost is in docs/DECISIONS.md.
-ghost use Rattle.std.specs.Prelude.{◌≡◌, false, ◌+◌, ◌^◌, ◌≤◌, ◌<◌};
+// nesting of IfElses and Whiles.
+ghost use Rattle.std.specs.Prelude.{◌≡◌, false, ◌+◌, ◌^◌, ◌≤◌, ◌<◌, length};
 ghost use Rattle.code.specs.Records.{byte_at};
-ghost use Rattle.eval.specs.FlagRule.{flag_rule};
-ghost use Rattle.eval.specs.Promises.{Cells, CodeAt, CodesAt, codes_from, TestedAt, test_at, BehindTest, way_from, part_fuel, Evaluates, WithLess, EvaluatesAll, WithLessAll};
+ghost use Rattle.eval.specs.Promises.{CodeAt, CodesAt, codes_from, TestedAt, test_at, BehindTest, way_from, part_fuel, Evaluates, WithLess, EvaluatesAll, WithLessAll};
 
-use crate::answer::Evaluation;
 use crate::comparison::Compared;
-use crate::counted::{COUNTED, count_test};
+use crate::counted::Counter;
 use crate::exit::Exit;
+use crate::lent::Lent;
 use crate::step::{step_comparison, step_instruction};
 use code::number4;
+use machine::State;
 
 // Where the codes of a part begin. Its list would enter a Block too, a turn of the loop later.
 fn first_code(code: &[u8], part: usize) -> usize
@@ -77,34 +76,24 @@ fn part_fuel(chooses: bool, left: u32) -> u32
 // end where it does.
 #[cycle(evaluating)]
 pub fn eval_codes(
-    code: &[u8],
+    lent: &Lent,
     from: usize,
     end: usize,
-    values: &mut [u64],
-    regs: &mut [u64; 16],
     fuel: u32,
-    xmms: &mut [u32; 64],
-    flags: &mut u64,
-    addresses: &[u64],
-    tags: &[u8],
-    counted: &mut [u64; COUNTED],
-    limit: u64,
-    fill: u64,
-    evaluation: Evaluation,
+    state: &mut State,
+    values: &mut [u64],
+    counter: &mut Counter,
 ) -> Exit
-    requires codes_at { CodesAt code.now from end }
-    requires cells { Cells addresses.now tags.now values.old }
-    ensures evaluates_all { EvaluatesAll code fill (flag_rule evaluation) regs xmms flags addresses tags values counted limit from end fuel result }
-    ensures with_less_all { WithLessAll code fill (flag_rule evaluation) regs xmms flags addresses tags values counted limit from end fuel result }
+    requires codes_at { CodesAt lent.now.code.now from end }
+    requires long { length values.old ≡ length lent.now.addresses.now }
+    ensures evaluates_all { EvaluatesAll lent state values counter from end fuel result }
+    ensures with_less_all { WithLessAll lent state values counter from end fuel result }
 {
     let mut next = from;
     while next < end {
-        let kind = code[next];
+        let kind = lent.code[next];
         if kind < 0x20 {
-            let ran = step_instruction(
-                code, next, fill, evaluation, regs, xmms, flags, addresses, tags, values, counted,
-                limit,
-            );
+            let ran = step_instruction(lent, next, state, values, counter);
             if ran.number != 0 {
                 return ran;
             }
@@ -112,10 +101,7 @@ pub fn eval_codes(
         } else if kind == 0x20 {
             next += 5;
         } else {
-            let went = eval_code(
-                code, next, values, regs, fuel, xmms, flags, addresses, tags, counted, limit, fill,
-                evaluation,
-            );
+            let went = eval_code(lent, next, fuel, state, values, counter);
             if went.number != 0 {
                 return went;
             }
@@ -132,40 +118,33 @@ pub fn eval_codes(
 // comparison holds. As one function they call `step_comparison` in one place, where it is inlined.
 #[cycle(evaluating)]
 fn eval_code(
-    code: &[u8],
+    lent: &Lent,
     at: usize,
-    values: &mut [u64],
-    regs: &mut [u64; 16],
     fuel: u32,
-    xmms: &mut [u32; 64],
-    flags: &mut u64,
-    addresses: &[u64],
-    tags: &[u8],
-    counted: &mut [u64; COUNTED],
-    limit: u64,
-    fill: u64,
-    evaluation: Evaluation,
+    state: &mut State,
+    values: &mut [u64],
+    counter: &mut Counter,
 ) -> Exit
-    requires code_at { CodeAt code.now at }
-    requires bound { 0x21 ≤ byte_at code.now at }
-    requires cells { Cells addresses.now tags.now values.old }
-    ensures evaluates { Evaluates code fill (flag_rule evaluation) regs xmms flags addresses tags values counted limit at fuel result }
-    ensures with_less { WithLess code fill (flag_rule evaluation) regs xmms flags addresses tags values counted limit at fuel result }
+    requires code_at { CodeAt lent.now.code.now at }
+    requires bound { 0x21 ≤ byte_at lent.now.code.now at }
+    requires long { length values.old ≡ length lent.now.addresses.now }
+    ensures evaluates { Evaluates lent state values counter at fuel result }
+    ensures with_less { WithLess lent state values counter at fuel result }
 {
-    let chooses = code[at] == 0x21;
+    let chooses = lent.code[at] == 0x21;
     let test = test_at(at, chooses);
     let mut left = fuel;
     while chooses || left != 0 {
-        count_test(chooses, left, counted);
-        let compared = step_comparison(code, test, regs, addresses, tags, values, counted, limit);
+        counter.count_test(chooses, left);
+        let compared = step_comparison(lent, test, state, values, counter);
         if 1 < compared.how {
             return Exit {
                 number: compared.how,
                 place: test,
             };
         }
-        *flags = fill;
-        let way = way_from(code, at, chooses, compared);
+        state.flags = lent.fill;
+        let way = way_from(lent.code, at, chooses, compared);
         if compared.how == 0 && !chooses {
             return Exit {
                 number: 0,
@@ -174,20 +153,13 @@ fn eval_code(
         }
         let given = part_fuel(chooses, left);
         let ran = eval_codes(
-            code,
-            first_code(code, way.part),
+            lent,
+            first_code(lent.code, way.part),
             way.behind,
-            values,
-            regs,
             given,
-            xmms,
-            flags,
-            addresses,
-            tags,
-            counted,
-            limit,
-            fill,
-            evaluation,
+            state,
+            values,
+            counter,
         );
         if ran.number != 0 {
             // Made anew, since a copy of the struct would copy the bytes between its fields too.

@@ -5,14 +5,14 @@ ghost use Rattle.code.specs.declared.tree.Instruction.TheVariants.{Pshufd, VPSLL
 ghost use Rattle.code.specs.Records.{operand_at, behind};
 ghost use Rattle.code.specs.Spells.{OperandsFrom};
 ghost use Rattle.code.specs.Families.{is_quads, is_shifts, is_inserts, quads_ins, shifts_ins, inserts_ins};
-ghost use Rattle.eval.specs.FlagRule.{FlagRule};
-ghost use Rattle.eval.specs.Config.{Env};
+ghost use Rattle.eval.specs.Config.{config};
 ghost use Rattle.eval.specs.Instructions.{quads_word, quads_flags, shifts_word, inserts_word, run_ins};
-ghost use Rattle.eval.specs.Promises.{environment, held, Cells, Ran};
+ghost use Rattle.eval.specs.Promises.{env_of, Ran};
 
 use crate::exit::Exit;
+use crate::lent::Lent;
 use crate::operand::{load, put, resolve};
-use machine::{set_xmm, xmm_at};
+use machine::{State, set_xmm, xmm_at};
 use words::{
     Quad32, add_lanes, equal_lanes, extract_nat64, insert_nat32, insert_nat64, quad32_xor,
     shift_quad, shl_lanes, shr_lanes, shuffle_lanes,
@@ -39,22 +39,25 @@ fn quads_flags(kind: u8, fill: u64, flags: u64) -> u64
 }
 
 // Paddd, Pxor and Pcmpeqd.
-pub fn two_quads(code: &[u8], at: usize, fill: u64, xmms: &mut [u32; 64], flags: &mut u64) -> Exit
-    requires at_in_bounds { at + 3 ≤ length code.now }
-    requires at_bound { get_or code.now (at + 1) 0 < 16 }
-    requires at_bound_2 { get_or code.now (at + 2) 0 < 16 }
-    requires at_value { is_quads (get_or code.now at 0) ≡ true }
-    ensures { (rule : FlagRule) (addresses tags regs values : List ℕ) →
-        Ran (run_ins (environment addresses tags fill rule) at
-        (quads_ins (get_or code.now at 0) (get_or code.now (at + 1) 0) (get_or code.now (at + 2) 0))
-        (held regs xmms.old flags.old values)) (at + 3) result
-        (held regs xmms.new flags.new values) }
+pub fn two_quads(lent: &Lent, at: usize, state: &mut State) -> Exit
+    requires at_in_bounds { at + 3 ≤ length lent.now.code.now }
+    requires at_bound { get_or lent.now.code.now (at + 1) 0 < 16 }
+    requires at_bound_2 { get_or lent.now.code.now (at + 2) 0 < 16 }
+    requires at_value { is_quads (get_or lent.now.code.now at 0) ≡ true }
+    ensures { let bs = lent.now.code.now in (values : List ℕ) → Ran (run_ins (env_of lent.now) at
+        (quads_ins (get_or bs at 0) (get_or bs (at + 1) 0) (get_or bs (at + 2) 0))
+        (config state.old values)) (at + 3) result
+        (config state.new values) }
 {
-    let kind = code[at];
-    let dst = code[at + 1];
-    let q = combined(kind, xmm_at(xmms, dst), xmm_at(xmms, code[at + 2]));
-    set_xmm(xmms, dst, q);
-    *flags = quads_flags(kind, fill, *flags);
+    let kind = lent.code[at];
+    let dst = lent.code[at + 1];
+    let q = combined(
+        kind,
+        xmm_at(&state.xmms, dst),
+        xmm_at(&state.xmms, lent.code[at + 2]),
+    );
+    set_xmm(&mut state.xmms, dst, q);
+    state.flags = quads_flags(kind, lent.fill, state.flags);
     Exit {
         number: 0,
         place: at + 3,
@@ -74,25 +77,25 @@ fn shifted(kind: u8, q: Quad32, amount: u8) -> Quad32
 }
 
 // Pslld and Psrld.
-pub fn shift_words(code: &[u8], at: usize, xmms: &mut [u32; 64]) -> Exit
-    requires at_in_bounds { at + 3 ≤ length code.now }
-    requires at_bound { get_or code.now (at + 1) 0 < 16 }
-    requires at_value { is_shifts (get_or code.now at 0) ≡ true }
-    ensures { (env : Env) (regs values : List ℕ) (flags : ℕ) →
-        Ran (run_ins env at
-        (shifts_ins (get_or code.now at 0) (get_or code.now (at + 1) 0) (get_or code.now (at + 2) 0))
-        (held regs xmms.old flags values)) (at + 3) result
-        (held regs xmms.new flags values) }
+pub fn shift_words(lent: &Lent, at: usize, state: &mut State) -> Exit
+    requires at_in_bounds { at + 3 ≤ length lent.now.code.now }
+    requires at_bound { get_or lent.now.code.now (at + 1) 0 < 16 }
+    requires at_value { is_shifts (get_or lent.now.code.now at 0) ≡ true }
+    ensures { let bs = lent.now.code.now in (values : List ℕ) → Ran (run_ins (env_of lent.now) at
+        (shifts_ins (get_or bs at 0) (get_or bs (at + 1) 0) (get_or bs (at + 2) 0))
+        (config state.old values)) (at + 3) result
+        (config state.new values) }
 {
-    let dst = code[at + 1];
-    let amount = code[at + 2];
+    let dst = lent.code[at + 1];
+    let amount = lent.code[at + 2];
     if 31 < amount {
         return Exit {
             number: 34,
             place: at,
         };
     }
-    set_xmm(xmms, dst, shifted(code[at], xmm_at(xmms, dst), amount));
+    let q = shifted(lent.code[at], xmm_at(&state.xmms, dst), amount);
+    set_xmm(&mut state.xmms, dst, q);
     Exit {
         number: 0,
         place: at + 3,
@@ -100,18 +103,21 @@ pub fn shift_words(code: &[u8], at: usize, xmms: &mut [u32; 64]) -> Exit
 }
 
 // Pshufd.
-pub fn shuffle(code: &[u8], at: usize, xmms: &mut [u32; 64]) -> Exit
-    requires at_in_bounds { at + 4 ≤ length code.now }
-    requires at_bound { get_or code.now (at + 1) 0 < 16 }
-    requires at_bound_2 { get_or code.now (at + 2) 0 < 16 }
-    ensures { (env : Env) (regs values : List ℕ) (flags : ℕ) →
-        Ran (run_ins env at
-        (Pshufd (get_or code.now (at + 1) 0) (get_or code.now (at + 2) 0) (get_or code.now (at + 3) 0))
-        (held regs xmms.old flags values)) (at + 4) result
-        (held regs xmms.new flags values) }
+pub fn shuffle(lent: &Lent, at: usize, state: &mut State) -> Exit
+    requires at_in_bounds { at + 4 ≤ length lent.now.code.now }
+    requires at_bound { get_or lent.now.code.now (at + 1) 0 < 16 }
+    requires at_bound_2 { get_or lent.now.code.now (at + 2) 0 < 16 }
+    ensures { let bs = lent.now.code.now in (values : List ℕ) → Ran (run_ins (env_of lent.now) at
+        (Pshufd (get_or bs (at + 1) 0) (get_or bs (at + 2) 0) (get_or bs (at + 3) 0))
+        (config state.old values)) (at + 4) result
+        (config state.new values) }
 {
-    let q = xmm_at(xmms, code[at + 2]);
-    set_xmm(xmms, code[at + 1], shuffle_lanes(q, code[at + 3]));
+    let q = xmm_at(&state.xmms, lent.code[at + 2]);
+    set_xmm(
+        &mut state.xmms,
+        lent.code[at + 1],
+        shuffle_lanes(q, lent.code[at + 3]),
+    );
     Exit {
         number: 0,
         place: at + 4,
@@ -119,24 +125,23 @@ pub fn shuffle(code: &[u8], at: usize, xmms: &mut [u32; 64]) -> Exit
 }
 
 // VPSLLDQ.
-pub fn shift_by_word(code: &[u8], at: usize, xmms: &mut [u32; 64]) -> Exit
-    requires at_in_bounds { at + 4 ≤ length code.now }
-    requires at_bound { get_or code.now (at + 1) 0 < 16 }
-    requires at_bound_2 { get_or code.now (at + 2) 0 < 16 }
-    ensures { (env : Env) (regs values : List ℕ) (flags : ℕ) →
-        Ran (run_ins env at
-        (VPSLLDQ (get_or code.now (at + 1) 0) (get_or code.now (at + 2) 0) (get_or code.now (at + 3) 0))
-        (held regs xmms.old flags values)) (at + 4) result
-        (held regs xmms.new flags values) }
+pub fn shift_by_word(lent: &Lent, at: usize, state: &mut State) -> Exit
+    requires at_in_bounds { at + 4 ≤ length lent.now.code.now }
+    requires at_bound { get_or lent.now.code.now (at + 1) 0 < 16 }
+    requires at_bound_2 { get_or lent.now.code.now (at + 2) 0 < 16 }
+    ensures { let bs = lent.now.code.now in (values : List ℕ) → Ran (run_ins (env_of lent.now) at
+        (VPSLLDQ (get_or bs (at + 1) 0) (get_or bs (at + 2) 0) (get_or bs (at + 3) 0))
+        (config state.old values)) (at + 4) result
+        (config state.new values) }
 {
-    if code[at + 3] != 4 {
+    if lent.code[at + 3] != 4 {
         return Exit {
             number: 35,
             place: at,
         };
     }
-    let q = xmm_at(xmms, code[at + 2]);
-    set_xmm(xmms, code[at + 1], shift_quad(q));
+    let q = xmm_at(&state.xmms, lent.code[at + 2]);
+    set_xmm(&mut state.xmms, lent.code[at + 1], shift_quad(q));
     Exit {
         number: 0,
         place: at + 4,
@@ -144,35 +149,26 @@ pub fn shift_by_word(code: &[u8], at: usize, xmms: &mut [u32; 64]) -> Exit
 }
 
 // Pextrq.
-pub fn extract(
-    code: &[u8],
-    at: usize,
-    regs: &mut [u64; 16],
-    xmms: &[u32; 64],
-    addresses: &[u64],
-    tags: &[u8],
-    values: &mut [u64],
-) -> Exit
-    requires operands_from { OperandsFrom 1 code.now (at + 3) }
-    requires at_bound { get_or code.now (at + 1) 0 < 16 }
-    requires cells { Cells addresses.now tags.now values.old }
-    ensures { (fill : ℕ) (rule : FlagRule) (flags : ℕ) →
-        Ran (run_ins (environment addresses.now tags.now fill rule) at
-        (Pextrq (operand_at code.now (at + 3)) (get_or code.now (at + 1) 0)
-        (get_or code.now (at + 2) 0))
-        (held regs.old xmms.now flags values.old))
-        (behind code.now (at + 3)) result
-        (held regs.new xmms.now flags values.new) }
+pub fn extract(lent: &Lent, at: usize, state: &mut State, values: &mut [u64]) -> Exit
+    requires operands_from { OperandsFrom 1 lent.now.code.now (at + 3) }
+    requires at_bound { get_or lent.now.code.now (at + 1) 0 < 16 }
+    requires long { length values.old ≡ length lent.now.addresses.now }
+    ensures { let bs = lent.now.code.now in Ran (run_ins (env_of lent.now) at
+        (Pextrq (operand_at bs (at + 3)) (get_or bs (at + 1) 0)
+        (get_or bs (at + 2) 0))
+        (config state.old values.old))
+        (behind bs (at + 3)) result
+        (config state.new values.new) }
 {
-    let dst = resolve(code, at + 3, regs, addresses, tags, values);
+    let dst = resolve(lent, at + 3, &state.regs, values);
     if 1 < dst.how {
         return Exit {
             number: dst.how,
             place: at,
         };
     }
-    let word = extract_nat64(xmm_at(xmms, code[at + 1]), code[at + 2]);
-    put(dst, word, regs, values);
+    let word = extract_nat64(xmm_at(&state.xmms, lent.code[at + 1]), lent.code[at + 2]);
+    put(dst, word, &mut state.regs, values);
     Exit {
         number: 0,
         place: dst.next,
@@ -192,37 +188,33 @@ fn inserted(kind: u8, q: Quad32, word: u64, index: u8) -> Quad32
 }
 
 // Pinsrd and Pinsrq.
-pub fn insert(
-    code: &[u8],
-    at: usize,
-    regs: &[u64; 16],
-    xmms: &mut [u32; 64],
-    addresses: &[u64],
-    tags: &[u8],
-    values: &[u64],
-) -> Exit
-    requires operands_from { OperandsFrom 1 code.now (at + 3) }
-    requires at_bound { get_or code.now (at + 1) 0 < 16 }
-    requires cells { Cells addresses.now tags.now values.now }
-    requires at_value { is_inserts (get_or code.now at 0) ≡ true }
-    ensures { (fill : ℕ) (rule : FlagRule) (flags : ℕ) →
-        Ran (run_ins (environment addresses.now tags.now fill rule) at
-        (inserts_ins (get_or code.now at 0) (get_or code.now (at + 1) 0)
-        (operand_at code.now (at + 3)) (get_or code.now (at + 2) 0))
-        (held regs.now xmms.old flags values.now))
-        (behind code.now (at + 3)) result
-        (held regs.now xmms.new flags values.now) }
+pub fn insert(lent: &Lent, at: usize, state: &mut State, values: &[u64]) -> Exit
+    requires operands_from { OperandsFrom 1 lent.now.code.now (at + 3) }
+    requires at_bound { get_or lent.now.code.now (at + 1) 0 < 16 }
+    requires long { length values.now ≡ length lent.now.addresses.now }
+    requires at_value { is_inserts (get_or lent.now.code.now at 0) ≡ true }
+    ensures { let bs = lent.now.code.now in Ran (run_ins (env_of lent.now) at
+        (inserts_ins (get_or bs at 0) (get_or bs (at + 1) 0)
+        (operand_at bs (at + 3)) (get_or bs (at + 2) 0))
+        (config state.old values.now))
+        (behind bs (at + 3)) result
+        (config state.new values.now) }
 {
-    let src = load(code, at + 3, regs, addresses, tags, values);
+    let src = load(lent, at + 3, state, values);
     if src.number != 0 {
         return Exit {
             number: src.number,
             place: at,
         };
     }
-    let dst = code[at + 1];
-    let q = inserted(code[at], xmm_at(xmms, dst), src.word, code[at + 2]);
-    set_xmm(xmms, dst, q);
+    let dst = lent.code[at + 1];
+    let q = inserted(
+        lent.code[at],
+        xmm_at(&state.xmms, dst),
+        src.word,
+        lent.code[at + 2],
+    );
+    set_xmm(&mut state.xmms, dst, q);
     Exit {
         number: 0,
         place: src.next,

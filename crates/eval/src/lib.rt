@@ -9,6 +9,7 @@ mod cycle;
 mod exit;
 mod instruction;
 mod lanes;
+mod lent;
 mod operand;
 mod products;
 mod running;

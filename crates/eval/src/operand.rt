@@ -2,16 +2,16 @@
 ghost use Rattle.std.specs.Prelude.{◌≡◌, List, ℕ, ◌<◌, length};
 ghost use Rattle.machine.specs.declared.Maddr.{Maddr};
 ghost use Rattle.machine.specs.declared.Operand.TheVariants.{OMem};
-ghost use Rattle.machine.specs.Cells.{Searchable};
 ghost use Rattle.code.specs.Records.{operand_at, behind};
 ghost use Rattle.code.specs.Spells.{OperandBytes};
 ghost use Rattle.code.specs.Forms.{form_of};
 ghost use Rattle.code.specs.declared.records.Form.TheVariants.{Memory};
-ghost use Rattle.eval.specs.FlagRule.{FlagRule};
-ghost use Rattle.eval.specs.Promises.{environment, held, Cells, Seeks, Loads, Resolves, InBounds, no_slot, put_regs, put_values};
+ghost use Rattle.eval.specs.Config.{config};
+ghost use Rattle.eval.specs.Promises.{env_of, held, Seeks, Loads, Resolves, InBounds, no_slot, put_regs, put_values};
 
+use crate::lent::Lent;
 use code::{Form, form_at, memory_at, operand_behind};
-use machine::{Target, cell_of};
+use machine::{State, Target, cell_of};
 
 // A source: 0 or the number of the check that fails, its word, and the place behind its record.
 #[derive(Clone, Copy)]
@@ -39,25 +39,16 @@ pub struct Sought {
 }
 
 // The cell of the memory operand at a place, where `absent` is the number of its check if no 64-bit cell is there. It stands apart, so that operands
-// that are no memory are read in place. Its callers lend the slices anew right before the call: a slice is passed as a pointer to a pair, and a pair that
-// is the caller's own parameter would be stored for every operand.
-fn cell_at(
-    code: &[u8],
-    at: usize,
-    regs: &[u64; 16],
-    addresses: &[u64],
-    tags: &[u8],
-    absent: u8,
-) -> Sought
-    requires operand_bytes { OperandBytes code.now at }
-    requires at_value { form_of (operand_at code.now at) ≡ Memory }
-    requires searchable { Searchable addresses.now tags.now }
+// that are no memory are read in place.
+fn cell_at(lent: &Lent, at: usize, regs: &[u64; 16], absent: u8) -> Sought
+    requires operand_bytes { OperandBytes lent.now.code.now at }
+    requires at_value { form_of (operand_at lent.now.code.now at) ≡ Memory }
     ensures { (m : Maddr) →
-        operand_at code.now at ≡ OMem m →
-        Seeks addresses.now tags.now regs.now m absent result }
+        operand_at lent.now.code.now at ≡ OMem m →
+        Seeks lent.now.addresses.now lent.now.tags.now regs.now m absent result }
 {
-    let m = memory_at(code, at);
-    match cell_of(m, regs, addresses, tags) {
+    let m = memory_at(lent.code, at);
+    match cell_of(m, regs, lent.addresses, lent.tags) {
         Target::Cell(index) => Sought { number: 0, index },
         Target::Absent => Sought {
             number: absent,
@@ -70,23 +61,14 @@ fn cell_at(
     }
 }
 
-pub fn load(
-    code: &[u8],
-    at: usize,
-    regs: &[u64; 16],
-    addresses: &[u64],
-    tags: &[u8],
-    values: &[u64],
-) -> Loaded
-    requires operand_bytes { OperandBytes code.now at }
-    requires cells { Cells addresses.now tags.now values.now }
-    ensures { (fill : ℕ) (rule : FlagRule) (flags : ℕ) (xmms : List ℕ) →
-        Loads (environment addresses.now tags.now fill rule)
-        (held regs.now xmms flags values.now)
-        (operand_at code.now at) (behind code.now at) result }
+pub fn load(lent: &Lent, at: usize, state: &State, values: &[u64]) -> Loaded
+    requires operand_bytes { OperandBytes lent.now.code.now at }
+    requires long { length values.now ≡ length lent.now.addresses.now }
+    ensures { let bs = lent.now.code.now in
+        Loads (env_of lent.now) (config state.now values.now) (operand_at bs at) (behind bs at) result }
 {
-    let next = operand_behind(code, at);
-    let form = form_at(code, at);
+    let next = operand_behind(lent.code, at);
+    let form = form_at(lent.code, at);
     match form {
         Form::Const(word) => Loaded {
             number: 0,
@@ -97,16 +79,12 @@ pub fn load(
             let index = register.number as usize;
             Loaded {
                 number: 0,
-                word: regs[index],
+                word: state.regs[index],
                 next,
             }
         }
         Form::Memory => {
-            // Lent anew: see `cell_at`.
-            let code: &[u8] = code;
-            let addresses: &[u64] = addresses;
-            let tags: &[u8] = tags;
-            let cell = cell_at(code, at, regs, addresses, tags, 31);
+            let cell = cell_at(lent, at, &state.regs, 31);
             if cell.number != 0 {
                 return Loaded {
                     number: cell.number,
@@ -136,23 +114,14 @@ fn nowhere(number: u8, next: usize) -> Slot
     }
 }
 
-pub fn resolve(
-    code: &[u8],
-    at: usize,
-    regs: &[u64; 16],
-    addresses: &[u64],
-    tags: &[u8],
-    values: &[u64],
-) -> Slot
-    requires operand_bytes { OperandBytes code.now at }
-    requires cells { Cells addresses.now tags.now values.now }
-    ensures { (fill : ℕ) (rule : FlagRule) (flags : ℕ) (xmms : List ℕ) →
-        Resolves (environment addresses.now tags.now fill rule)
-        (held regs.now xmms flags values.now)
-        (operand_at code.now at) (behind code.now at) result }
+pub fn resolve(lent: &Lent, at: usize, regs: &[u64; 16], values: &[u64]) -> Slot
+    requires operand_bytes { OperandBytes lent.now.code.now at }
+    requires long { length values.now ≡ length lent.now.addresses.now }
+    ensures { (flags : ℕ) (xmms : List ℕ) → let bs = lent.now.code.now in
+        Resolves (env_of lent.now) (held regs.now xmms flags values.now) (operand_at bs at) (behind bs at) result }
 {
-    let next = operand_behind(code, at);
-    let form = form_at(code, at);
+    let next = operand_behind(lent.code, at);
+    let form = form_at(lent.code, at);
     match form {
         Form::Const(_) => nowhere(32, next),
         Form::Register(register) => {
@@ -168,11 +137,7 @@ pub fn resolve(
             }
         }
         Form::Memory => {
-            // Lent anew: see `cell_at`.
-            let code: &[u8] = code;
-            let addresses: &[u64] = addresses;
-            let tags: &[u8] = tags;
-            let cell = cell_at(code, at, regs, addresses, tags, 32);
+            let cell = cell_at(lent, at, regs, 32);
             if cell.number != 0 {
                 return nowhere(cell.number, next);
             }

@@ -1,38 +1,29 @@
 // Products of two words, in two words: Rax and Rdx, or two destinations.
-ghost use Rattle.std.specs.Prelude.{List, ℕ, ◌+◌};
+ghost use Rattle.std.specs.Prelude.{ℕ, ◌+◌, ◌≡◌, length};
 ghost use Rattle.code.specs.declared.tree.Instruction.TheVariants.{Mul64, Mulx64};
 ghost use Rattle.code.specs.Records.{operand_at, behind};
 ghost use Rattle.code.specs.Spells.{OperandsFrom};
-ghost use Rattle.eval.specs.FlagRule.{FlagRule};
 ghost use Rattle.eval.specs.Instructions.{run_ins};
-ghost use Rattle.eval.specs.Promises.{environment, held, Cells, Ran};
+ghost use Rattle.eval.specs.Config.{config};
+ghost use Rattle.eval.specs.Promises.{env_of, Ran};
 
 use crate::exit::Exit;
+use crate::lent::Lent;
 use crate::operand::{load, put, registers_with, resolve};
 use code::operand_behind;
-use machine::Reg;
+use machine::{Reg, State};
 use words::mul_wide;
 
-pub fn multiply(
-    code: &[u8],
-    at: usize,
-    fill: u64,
-    regs: &mut [u64; 16],
-    flags: &mut u64,
-    addresses: &[u64],
-    tags: &[u8],
-    values: &[u64],
-) -> Exit
-    requires operands_from { OperandsFrom 1 code.now (at + 1) }
-    requires cells { Cells addresses.now tags.now values.now }
-    ensures { (rule : FlagRule) (xmms : List ℕ) →
-        Ran (run_ins (environment addresses.now tags.now fill rule) at
-        (Mul64 (operand_at code.now (at + 1)))
-        (held regs.old xmms flags.old values.now))
-        (behind code.now (at + 1)) result
-        (held regs.new xmms flags.new values.now) }
+pub fn multiply(lent: &Lent, at: usize, state: &mut State, values: &[u64]) -> Exit
+    requires operands_from { OperandsFrom 1 lent.now.code.now (at + 1) }
+    requires long { length values.now ≡ length lent.now.addresses.now }
+    ensures { let bs = lent.now.code.now in Ran (run_ins (env_of lent.now) at
+        (Mul64 (operand_at bs (at + 1)))
+        (config state.old values.now))
+        (behind bs (at + 1)) result
+        (config state.new values.now) }
 {
-    let src = load(code, at + 1, regs, addresses, tags, values);
+    let src = load(lent, at + 1, state, values);
     if src.number != 0 {
         return Exit {
             number: src.number,
@@ -43,10 +34,10 @@ pub fn multiply(
     let rdx = Reg::RDX;
     let low = rax.number as usize;
     let high = rdx.number as usize;
-    let product = mul_wide(regs[low], src.word);
-    regs[low] = product.low;
-    regs[high] = product.high;
-    *flags = fill;
+    let product = mul_wide(state.regs[low], src.word);
+    state.regs[low] = product.low;
+    state.regs[high] = product.high;
+    state.flags = lent.fill;
     Exit {
         number: 0,
         place: src.next,
@@ -56,28 +47,20 @@ pub fn multiply(
 // The high destination is resolved in the state after the low half is written, which it depends on only where
 // that is a register: so it is looked for with the registers as they will be, and nothing is written until it is
 // found.
-pub fn multiply_into(
-    code: &[u8],
-    at: usize,
-    regs: &mut [u64; 16],
-    addresses: &[u64],
-    tags: &[u8],
-    values: &mut [u64],
-) -> Exit
-    requires operands_from { OperandsFrom 3 code.now (at + 1) }
-    requires cells { Cells addresses.now tags.now values.old }
-    ensures { (fill : ℕ) (rule : FlagRule) (flags : ℕ) (xmms : List ℕ) →
-        Ran (run_ins (environment addresses.now tags.now fill rule) at
-        (Mulx64 (operand_at code.now (at + 1))
-        (operand_at code.now (behind code.now (at + 1)))
-        (operand_at code.now (behind code.now (behind code.now (at + 1)))))
-        (held regs.old xmms flags values.old))
-        (behind code.now (behind code.now (behind code.now (at + 1)))) result
-        (held regs.new xmms flags values.new) }
+pub fn multiply_into(lent: &Lent, at: usize, state: &mut State, values: &mut [u64]) -> Exit
+    requires operands_from { OperandsFrom 3 lent.now.code.now (at + 1) }
+    requires long { length values.old ≡ length lent.now.addresses.now }
+    ensures { let bs = lent.now.code.now in Ran (run_ins (env_of lent.now) at
+        (Mulx64 (operand_at bs (at + 1))
+        (operand_at bs (behind bs (at + 1)))
+        (operand_at bs (behind bs (behind bs (at + 1)))))
+        (config state.old values.old))
+        (behind bs (behind bs (behind bs (at + 1)))) result
+        (config state.new values.new) }
 {
-    let second = operand_behind(code, at + 1);
-    let low = resolve(code, second, regs, addresses, tags, values);
-    let src = load(code, low.next, regs, addresses, tags, values);
+    let second = operand_behind(lent.code, at + 1);
+    let low = resolve(lent, second, &state.regs, values);
+    let src = load(lent, low.next, state, values);
     if src.number != 0 {
         return Exit {
             number: src.number,
@@ -92,17 +75,17 @@ pub fn multiply_into(
     }
     let rdx = Reg::RDX;
     let from = rdx.number as usize;
-    let product = mul_wide(regs[from], src.word);
-    let after = registers_with(low, product.low, regs);
-    let high = resolve(code, at + 1, &after, addresses, tags, values);
+    let product = mul_wide(state.regs[from], src.word);
+    let after = registers_with(low, product.low, &state.regs);
+    let high = resolve(lent, at + 1, &after, values);
     if 1 < high.how {
         return Exit {
             number: high.how,
             place: at,
         };
     }
-    put(low, product.low, regs, values);
-    put(high, product.high, regs, values);
+    put(low, product.low, &mut state.regs, values);
+    put(high, product.high, &mut state.regs, values);
     Exit {
         number: 0,
         place: src.next,

@@ -12,9 +12,10 @@ ghost use Rattle.eval.specs.Promises.{environment, how};
 ghost use Rattle.eval.specs.Inputs.{IsInput};
 
 use crate::answer::{Answer, Run, Setting};
-use crate::counted::{COUNTED, STEPS, TESTED, nothing_open, told_watch};
+use crate::counted::{Counter, nothing_open};
 use crate::cycle::eval_codes;
 use crate::exit::Exit;
+use crate::lent::Lent;
 use code::check_code;
 use machine::{Checked, State, check_cells};
 
@@ -67,36 +68,22 @@ pub fn evaluate(
         (environment addresses.now tags.now setting.fill (flag_rule setting.evaluation))
         fuel (some setting.limit) (config start values.old)) setting.fuel }
 {
-    let mut regs = start.regs;
-    let mut xmms = start.xmms;
-    let mut flags = start.flags;
-    let fuel = setting.fuel;
-    let fill = setting.fill;
-    let evaluation = setting.evaluation;
-    let limit = setting.limit;
-    let mut counted = [0u64; COUNTED];
-    counted[TESTED] = fuel as u64 + 1;
-    let exit = eval_codes(
+    let lent = Lent {
         code,
-        0,
-        code.len(),
-        values,
-        &mut regs,
-        fuel,
-        &mut xmms,
-        &mut flags,
         addresses,
         tags,
-        &mut counted,
-        limit,
-        fill,
-        evaluation,
-    );
+        fill: setting.fill,
+        limit: setting.limit,
+        evaluation: setting.evaluation,
+    };
+    let fuel = setting.fuel;
+    let mut state = start;
+    let mut counter = Counter::new(fuel);
+    let exit = eval_codes(&lent, 0, code.len(), fuel, &mut state, values, &mut counter);
     let answer = answer_of(exit);
-    let state = State { regs, xmms, flags };
-    let steps = counted[STEPS];
-    let watch = told_watch(&counted);
-    let needed = needed_fuel(exit, fuel, counted[TESTED]);
+    let steps = counter.steps;
+    let watch = counter.watch();
+    let needed = needed_fuel(exit, fuel, counter.tested);
     Run {
         answer,
         state,

@@ -1,87 +1,65 @@
 // Instructions and comparisons as steps of a run: each is tried only where the limit leaves a step, and counted where it
 // completes. They know nothing of that themselves.
-ghost use Rattle.std.specs.Prelude.{◌≡◌, List, ℕ, ◌<◌, length};
+ghost use Rattle.std.specs.Prelude.{◌≡◌, length};
 ghost use Rattle.std.proofs.Math.Option.{some};
-ghost use Rattle.eval.specs.FlagRule.{FlagRule, flag_rule};
-ghost use Rattle.eval.specs.Counted.{used_up};
-ghost use Rattle.eval.specs.Promises.{environment, held, tally, TestedNone, Cells, InsAt, OcmpAt, EvaluatesStep, DecidesAt};
+ghost use Rattle.eval.specs.Config.{config};
+ghost use Rattle.eval.specs.Promises.{env_of, tally, least_tested, InsAt, OcmpAt, EvaluatesStep, DecidesAt};
 
-use crate::answer::Evaluation;
 use crate::comparison::{Compared, compare};
-use crate::counted::{COUNTED, STEPS, count_comparison, count_instruction};
+use crate::counted::Counter;
 use crate::exit::Exit;
 use crate::instruction::instruction;
-
-// Read as a slice: a contract knows the length of a slice, and not that of an array.
-fn used_up(counted: &[u64; COUNTED], limit: u64) -> bool
-    ensures value { result ≡ used_up (some limit) (tally counted.now) }
-    ensures in_bounds { 3 < length counted.now }
-{
-    let words: &[u64] = counted;
-    limit <= words[STEPS]
-}
+use crate::lent::Lent;
+use machine::State;
 
 pub fn step_instruction(
-    code: &[u8],
+    lent: &Lent,
     at: usize,
-    fill: u64,
-    evaluation: Evaluation,
-    regs: &mut [u64; 16],
-    xmms: &mut [u32; 64],
-    flags: &mut u64,
-    addresses: &[u64],
-    tags: &[u8],
+    state: &mut State,
     values: &mut [u64],
-    counted: &mut [u64; COUNTED],
-    limit: u64,
+    counter: &mut Counter,
 ) -> Exit
-    requires ins_at { InsAt code.now at }
-    requires cells { Cells addresses.now tags.now values.old }
-    ensures evaluates_step { EvaluatesStep code fill (flag_rule evaluation) regs xmms flags addresses tags values counted limit at result }
-    ensures tested_none { TestedNone counted }
+    requires ins_at { InsAt lent.now.code.now at }
+    requires long { length values.old ≡ length lent.now.addresses.now }
+    ensures evaluates_step { EvaluatesStep lent state values counter at result }
+    ensures tested_none { least_tested counter.new ≡ least_tested counter.old }
 {
-    if used_up(counted, limit) {
+    if counter.used_up(lent.limit) {
         return Exit {
             number: 37,
             place: at,
         };
     }
-    let ran = instruction(
-        code, at, fill, evaluation, regs, xmms, flags, addresses, tags, values,
-    );
+    let ran = instruction(lent, at, state, values);
     if ran.number != 0 {
         return ran;
     }
-    count_instruction(code[at], at, evaluation, counted);
+    counter.count_instruction(lent.code[at], at, lent.evaluation);
     ran
 }
 
 // The comparison of an IfElse or a While. It changes the count alone: where it completes, its caller sets flags to the fill
 // word.
 pub fn step_comparison(
-    code: &[u8],
+    lent: &Lent,
     at: usize,
-    regs: &[u64; 16],
-    addresses: &[u64],
-    tags: &[u8],
+    state: &State,
     values: &[u64],
-    counted: &mut [u64; COUNTED],
-    limit: u64,
+    counter: &mut Counter,
 ) -> Compared
-    requires ocmp_at { OcmpAt code.now at }
-    requires cells { Cells addresses.now tags.now values.now }
-    ensures by_index { (fill : ℕ) (rule : FlagRule) (flags : ℕ) (xmms : List ℕ) →
-        DecidesAt (environment addresses.now tags.now fill rule) (some limit) code.now at
-        (held regs.now xmms flags values.now) (tally counted.old) result (tally counted.new) }
-    ensures tested_none { TestedNone counted }
+    requires ocmp_at { OcmpAt lent.now.code.now at }
+    requires long { length values.now ≡ length lent.now.addresses.now }
+    ensures decides { DecidesAt (env_of lent.now) (some lent.now.limit) lent.now.code.now at
+        (config state.now values.now) (tally counter.old) result (tally counter.new) }
+    ensures tested_none { least_tested counter.new ≡ least_tested counter.old }
 {
-    if used_up(counted, limit) {
+    if counter.used_up(lent.limit) {
         return Compared { how: 37, next: at };
     }
-    let compared = compare(code, at, regs, addresses, tags, values);
+    let compared = compare(lent, at, state, values);
     if 1 < compared.how {
         return compared;
     }
-    count_comparison(counted);
+    counter.count_comparison();
     compared
 }

@@ -1,17 +1,18 @@
 // Instructions that write one destination of one or two sources: moves, additions, logic, shifts and counts.
-ghost use Rattle.std.specs.Prelude.{◌≡◌, true, ◌&&◌, List, ℕ, ◌+◌, leb, get_or};
+ghost use Rattle.std.specs.Prelude.{◌≡◌, true, ◌&&◌, ℕ, ◌+◌, leb, get_or, length};
 ghost use Rattle.code.specs.declared.tree.Instruction.TheVariants.{AddLea64};
 ghost use Rattle.code.specs.Records.{operand_at, behind};
 ghost use Rattle.code.specs.Spells.{OperandsFrom};
 ghost use Rattle.code.specs.Families.{is_two, two_ins};
-ghost use Rattle.eval.specs.FlagRule.{FlagRule, flag_rule};
 ghost use Rattle.eval.specs.Instructions.{checks_amount, run_ins};
-ghost use Rattle.eval.specs.Promises.{environment, held, Cells, Ran};
+ghost use Rattle.eval.specs.Config.{config};
+ghost use Rattle.eval.specs.Promises.{env_of, Ran};
 
-use crate::answer::Evaluation;
 use crate::arithmetic::effect_of;
 use crate::exit::Exit;
+use crate::lent::Lent;
 use crate::operand::{load, put, resolve};
+use machine::State;
 use words::Word;
 
 // Whether this is a shift by 64 or more.
@@ -26,31 +27,20 @@ fn too_far(kind: u8, amount: u64) -> bool
 
 // The destination is resolved first and judged last, as the source does: an invalid one does no harm
 // before the checks of what is read.
-pub fn two_operands(
-    code: &[u8],
-    at: usize,
-    fill: u64,
-    evaluation: Evaluation,
-    regs: &mut [u64; 16],
-    flags: &mut u64,
-    addresses: &[u64],
-    tags: &[u8],
-    values: &mut [u64],
-) -> Exit
-    requires operands_from { OperandsFrom 2 code.now (at + 1) }
-    requires at_value { is_two (get_or code.now at 0) ≡ true }
-    requires cells { Cells addresses.now tags.now values.old }
-    ensures { (xmms : List ℕ) →
-        Ran (run_ins (environment addresses.now tags.now fill (flag_rule evaluation)) at
-        (two_ins (get_or code.now at 0) (operand_at code.now (at + 1))
-        (operand_at code.now (behind code.now (at + 1))))
-        (held regs.old xmms flags.old values.old))
-        (behind code.now (behind code.now (at + 1))) result
-        (held regs.new xmms flags.new values.new) }
+pub fn two_operands(lent: &Lent, at: usize, state: &mut State, values: &mut [u64]) -> Exit
+    requires operands_from { OperandsFrom 2 lent.now.code.now (at + 1) }
+    requires at_value { is_two (get_or lent.now.code.now at 0) ≡ true }
+    requires long { length values.old ≡ length lent.now.addresses.now }
+    ensures { let bs = lent.now.code.now in Ran (run_ins (env_of lent.now) at
+        (two_ins (get_or bs at 0) (operand_at bs (at + 1))
+        (operand_at bs (behind bs (at + 1))))
+        (config state.old values.old))
+        (behind bs (behind bs (at + 1))) result
+        (config state.new values.new) }
 {
-    let kind = code[at];
-    let dst = resolve(code, at + 1, regs, addresses, tags, values);
-    let src = load(code, dst.next, regs, addresses, tags, values);
+    let kind = lent.code[at];
+    let dst = resolve(lent, at + 1, &state.regs, values);
+    let src = load(lent, dst.next, state, values);
     if src.number != 0 {
         return Exit {
             number: src.number,
@@ -69,37 +59,36 @@ pub fn two_operands(
             place: at,
         };
     }
-    let effect = effect_of(kind, evaluation, fill, *flags, dst.word, src.word);
-    put(dst, effect.word, regs, values);
-    *flags = effect.flags;
+    let effect = effect_of(
+        kind,
+        lent.evaluation,
+        lent.fill,
+        state.flags,
+        dst.word,
+        src.word,
+    );
+    put(dst, effect.word, &mut state.regs, values);
+    state.flags = effect.flags;
     Exit {
         number: 0,
         place: src.next,
     }
 }
 
-pub fn add_lea(
-    code: &[u8],
-    at: usize,
-    regs: &mut [u64; 16],
-    addresses: &[u64],
-    tags: &[u8],
-    values: &mut [u64],
-) -> Exit
-    requires operands_from { OperandsFrom 3 code.now (at + 1) }
-    requires cells { Cells addresses.now tags.now values.old }
-    ensures { (fill : ℕ) (rule : FlagRule) (flags : ℕ) (xmms : List ℕ) →
-        Ran (run_ins (environment addresses.now tags.now fill rule) at
-        (AddLea64 (operand_at code.now (at + 1))
-        (operand_at code.now (behind code.now (at + 1)))
-        (operand_at code.now (behind code.now (behind code.now (at + 1)))))
-        (held regs.old xmms flags values.old))
-        (behind code.now (behind code.now (behind code.now (at + 1)))) result
-        (held regs.new xmms flags values.new) }
+pub fn add_lea(lent: &Lent, at: usize, state: &mut State, values: &mut [u64]) -> Exit
+    requires operands_from { OperandsFrom 3 lent.now.code.now (at + 1) }
+    requires long { length values.old ≡ length lent.now.addresses.now }
+    ensures { let bs = lent.now.code.now in Ran (run_ins (env_of lent.now) at
+        (AddLea64 (operand_at bs (at + 1))
+        (operand_at bs (behind bs (at + 1)))
+        (operand_at bs (behind bs (behind bs (at + 1)))))
+        (config state.old values.old))
+        (behind bs (behind bs (behind bs (at + 1)))) result
+        (config state.new values.new) }
 {
-    let dst = resolve(code, at + 1, regs, addresses, tags, values);
-    let one = load(code, dst.next, regs, addresses, tags, values);
-    let two = load(code, one.next, regs, addresses, tags, values);
+    let dst = resolve(lent, at + 1, &state.regs, values);
+    let one = load(lent, dst.next, state, values);
+    let two = load(lent, one.next, state, values);
     if one.number != 0 {
         return Exit {
             number: one.number,
@@ -118,7 +107,8 @@ pub fn add_lea(
             place: at,
         };
     }
-    put(dst, one.word.plus(two.word).word, regs, values);
+    let sum = one.word.plus(two.word);
+    put(dst, sum.word, &mut state.regs, values);
     Exit {
         number: 0,
         place: two.next,

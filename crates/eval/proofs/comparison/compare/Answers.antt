@@ -1,6 +1,4 @@
 -- `compare` meets its contract: both operands are read where their records lie, and `holds` compares their words.
-use mathlib.Core.List.{[]}
-use Rattle.eval.specs.FlagRule.{base_rule}
 use Rattle.eval.proofs.Asked.{ocmp_starts, ocmp_fits, first_operand, second_operand, says_unread, says_unread_second, says_holds, says_fails}
 use Rattle.eval.proofs.comparison.compare.Goals as goal
 
@@ -14,13 +12,13 @@ pub returns-then-a-ne0 : goal.returns-then-a-ne0
 returns-then-a-ne0 c = search says_unread
 
 pub load-b-requires : goal.load-b-requires
-load-b-requires c = let next = (c.load-a.ensures 0 base_rule 0 []).next in search second_operand
+load-b-requires c = let next = c.load-a.ensures.next in search second_operand
 
 pub returns-then-b-ne0 : goal.returns-then-b-ne0
 returns-then-b-ne0 c = search says_unread_second
 
-pub bounds-code-at : goal.bounds-code-at
-bounds-code-at c = search ocmp_starts
+pub bounds-lent-at : goal.bounds-lent-at
+bounds-lent-at c = search ocmp_starts
 
 pub returns-then-holds : goal.returns-then-holds
 returns-then-holds c = search says_holds

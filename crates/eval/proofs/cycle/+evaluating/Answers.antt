@@ -3,10 +3,10 @@
 use Rattle.std.proofs.Common.{◌≡◌, ℕ, ◌∙◌, false, eqb, eq-eqb, ne_eqb, inl, inr}
 use mathlib.Core.Option.{some}
 use Rattle.code.specs.Records.{byte_at}
-use Rattle.eval.specs.FlagRule.{flag_rule}
-use Rattle.eval.specs.Promises.{environment, held, tally, least_tested, DecidesAt}
+use Rattle.eval.specs.Config.{config}
+use Rattle.eval.specs.Promises.{env_of, tally, least_tested, DecidesAt}
 use Rattle.eval.proofs.CycleLaws.{ins_ran, going_starts, block_goes, codes_go, codes_stop, codes_done}
-use Rattle.eval.proofs.Asked.{next_code, next_ins, next_less, rest_less, rest_less_ins, past_block, test_stands, testing_starts, some_fuel, goes_round, turn_stopped, behind_test, turns_over, turns_spent, Turn, turn_code, taking, taken_codes, taken_cells, taken_less, taken_falls, taken_stops, taken_done, taken_goes}
+use Rattle.eval.proofs.Asked.{next_code, next_ins, next_less, rest_less, rest_less_ins, past_block, test_stands, testing_starts, some_fuel, goes_round, turn_stopped, behind_test, turns_over, turns_spent, Turn, turn_code, taking, taken_codes, taken_long, taken_less, taken_falls, taken_stops, taken_done, taken_goes}
 use Rattle.eval.proofs.LessLaws.{going_starts_less, ins_goes_less, ins_stops_less, block_goes_less, codes_go_less, codes_stop_less, codes_done_less, testing_starts_less, turns_spent_less, BegunLess, begins_less, turn_stopped_less, turns_over_less, taken_stops_less, taken_done_less, taken_goes_less}
 use Rattle.eval.proofs.cycle.+evaluating.Goals as goal
 use Rattle.eval.proofs.cycle.+evaluating.Goals.{eval_code-After-step_comparison-compared, eval_code-Joined-else-compared-eq0, eval_code-then-chooses, eval_code-else-chooses+then-left-ne0, eval_code-else-compared-eq0-via-then-compared-eq0+else-not-chooses, eval_code-else-compared-eq0-via-else-compared-eq0}
@@ -75,7 +75,7 @@ eval_codes-returns t c =
 -- ---- a code
 -- there is fuel for the round
 fuelled :
-    (t : ℕ) (c : eval_code-After-step_comparison-compared t) → eqb (byte_at c.args.code.now c.args.at) 0x21 ≡ false → c.loop-evaluation.left ≡ 0 → ⊥
+    (t : ℕ) (c : eval_code-After-step_comparison-compared t) → eqb (byte_at c.args.lent.now.code.now c.args.at) 0x21 ≡ false → c.loop-counter.left ≡ 0 → ⊥
 fuelled t c =
     some_fuel _ _ (elim c.if-chooses.branch [
       | eval_code-then-chooses w ↦ inl (eq-eqb _ _ w.if-chooses.true)
@@ -86,41 +86,41 @@ fuelled t c =
 compared :
     (t : ℕ) (c : eval_code-After-step_comparison-compared t) →
     let a = c.args in
-    let l = c.loop-evaluation in
+    let l = c.loop-counter in
     let x = c.step_comparison-compared in
-    DecidesAt (environment a.addresses.now a.tags.now a.fill (flag_rule a.evaluation)) (some a.limit) a.code.now c.test_at-test.result
-    (held l.regs l.xmms l.flags l.values) (tally l.counted) x.result (tally x.new.counted)
+    DecidesAt (env_of a.lent.now) (some a.lent.now.limit) a.lent.now.code.now c.test_at-test.result
+    (config l.state l.values) (tally l.counter) x.result (tally x.new.counter)
 compared t c =
     let a = c.args in
-    let l = c.loop-evaluation in
-    rw c.count_test.ensures.counted_unchanged at (c.step_comparison-compared.ensures.by_index a.fill (flag_rule a.evaluation) l.flags l.xmms)
+    let l = c.loop-counter in
+    rw c.count_test.ensures.counted_unchanged at c.step_comparison-compared.ensures.decides
 
 -- what less fuel would have done up to there
 begun :
     (t : ℕ) (c : eval_code-After-step_comparison-compared t) →
     let a = c.args in
-    let l = c.loop-evaluation in
-    BegunLess (environment a.addresses.now a.tags.now a.fill (flag_rule a.evaluation)) (some a.limit) a.code.now a.at a.fuel
-    (held a.regs.now a.xmms.now a.flags.now a.values.now) (tally a.counted.now) (least_tested a.counted.now)
-    (eqb (byte_at a.code.now a.at) 0x21) c.test_at-test.result l.left (held l.regs l.xmms l.flags l.values)
-    (tally l.counted) (least_tested c.step_comparison-compared.new.counted)
+    let l = c.loop-counter in
+    BegunLess (env_of a.lent.now) (some a.lent.now.limit) a.lent.now.code.now a.at a.fuel
+    (config a.state.now a.values.now) (tally a.counter.now) (least_tested a.counter.now)
+    (eqb (byte_at a.lent.now.code.now a.at) 0x21) c.test_at-test.result l.left (config l.state l.values)
+    (tally l.counter) (least_tested c.step_comparison-compared.new.counter)
 begun t c =
-    begins_less c.loop-evaluation.invariant.less (fuelled t c)
+    begins_less c.loop-counter.invariant.less (fuelled t c)
     (c.step_comparison-compared.ensures.tested_none ∙ c.count_test.ensures.counted_after)
 
 -- the round that the comparison began
 turn :
     (t : ℕ) (c : eval_code-Joined-else-compared-eq0 t) →
     let a = c.args in
-    let l = c.loop-evaluation in
+    let l = c.loop-counter in
     let x = c.step_comparison-compared in
-    Turn (environment a.addresses.now a.tags.now a.fill (flag_rule a.evaluation)) (some a.limit) a.code.now a.at a.fuel t
-    (held a.regs.now a.xmms.now a.flags.now a.values.now) (tally a.counted.now) c.test_at-test.result l.left
-    (held l.regs l.xmms l.flags l.values) (tally l.counted) x.result (tally x.new.counted) c.way_from-way.result
-    (eqb (byte_at a.code.now a.at) 0x21)
+    Turn (env_of a.lent.now) (some a.lent.now.limit) a.lent.now.code.now a.at a.fuel t
+    (config a.state.now a.values.now) (tally a.counter.now) c.test_at-test.result l.left
+    (config l.state l.values) (tally l.counter) x.result (tally x.new.counter) c.way_from-way.result
+    (eqb (byte_at a.lent.now.code.now a.at) 0x21)
 turn t c =
     let a = c.args in
-    let l = c.loop-evaluation in
+    let l = c.loop-counter in
     record {
       head = l.invariant.runs;
       some_fuel =
@@ -129,7 +129,7 @@ turn t c =
             | eval_code-else-chooses+then-left-ne0 w ↦ inr (ne_eqb _ _ w.if-chooses.false, w.if-left-ne0.true)
           ]);
       compared =
-          rw c.count_test.ensures.counted_unchanged at (c.step_comparison-compared.ensures.by_index a.fill (flag_rule a.evaluation) l.flags l.xmms);
+          rw c.count_test.ensures.counted_unchanged at c.step_comparison-compared.ensures.decides;
       read = c.if-compared-gt1.false;
       holds =
           goes_round _ _ (elim c.else-compared-eq0.branch [
@@ -137,28 +137,28 @@ turn t c =
             | eval_code-else-compared-eq0-via-else-compared-eq0 w ↦ inr w.if-compared-eq0.false
           ]);
       way_is = c.way_from-way.ensures;
-      cells = c.requires.cells;
+      long = c.requires.long;
       measured = c.decreases;
     }
 
-pub eval_code-loop-evaluation-init : goal.eval_code-loop-evaluation-init
-eval_code-loop-evaluation-init t c = record { runs = search testing_starts; less = search testing_starts_less }
+pub eval_code-loop-counter-init : goal.eval_code-loop-counter-init
+eval_code-loop-counter-init t c = record { runs = search testing_starts; less = search testing_starts_less }
 
 pub eval_code-step_comparison-compared-requires-clause-ocmp_at : goal.eval_code-step_comparison-compared-requires-clause-ocmp_at
-eval_code-step_comparison-compared-requires-clause-ocmp_at t c = let head = c.loop-evaluation.invariant.runs in search test_stands
+eval_code-step_comparison-compared-requires-clause-ocmp_at t c = let head = c.loop-counter.invariant.runs in search test_stands
 
 pub eval_code-returns-then-compared-gt1 : goal.eval_code-returns-then-compared-gt1
 eval_code-returns-then-compared-gt1 t c =
     let x = (goal.at.eval_code-returns-then-compared-gt1 t c).After-step_comparison-compared in
     let answer = compared t x in
     let f = fuelled t x in
-    let head = c.loop-evaluation.invariant.runs in
+    let head = c.loop-counter.invariant.runs in
     record { evaluates = search turn_stopped; with_less = turn_stopped_less (begun t x) _ _ answer c.if-compared-gt1.true }
 
 pub eval_code-way_from-way-requires-clause-behind_test : goal.eval_code-way_from-way-requires-clause-behind_test
 eval_code-way_from-way-requires-clause-behind_test t c =
     let x = (goal.at.eval_code-way_from-way-requires-clause-behind_test t c).After-step_comparison-compared in
-    behind_test _ _ _ _ _ _ _ _ _ _ _ _ _ _ c.loop-evaluation.invariant.runs (compared t x) c.if-compared-gt1.false
+    behind_test _ _ _ _ _ _ _ _ _ _ _ _ _ _ c.loop-counter.invariant.runs (compared t x) c.if-compared-gt1.false
 
 pub eval_code-returns-then-not-chooses : goal.eval_code-returns-then-not-chooses
 eval_code-returns-then-not-chooses t c =
@@ -166,7 +166,7 @@ eval_code-returns-then-not-chooses t c =
     let way_is = c.way_from-way.ensures in
     record {
       evaluates =
-          turns_over _ _ _ _ _ _ _ _ _ _ _ _ _ _ c.loop-evaluation.invariant.runs (fuelled t x) (compared t x) _ way_is
+          turns_over _ _ _ _ _ _ _ _ _ _ _ _ _ _ c.loop-counter.invariant.runs (fuelled t x) (compared t x) _ way_is
           c.if-compared-eq0.true (ne_eqb _ _ c.if-not-chooses.true);
       with_less = turns_over_less (begun t x) _ _ (compared t x) _ way_is c.if-compared-eq0.true (ne_eqb _ _ c.if-not-chooses.true);
     }
@@ -177,7 +177,7 @@ eval_code-first_code-requires t c = let w = turn t (goal.at.eval_code-first_code
 pub eval_code-eval_codes-ran-requires : goal.eval_code-eval_codes-ran-requires
 eval_code-eval_codes-ran-requires t c =
     let w = taking (turn t (goal.at.eval_code-eval_codes-ran-requires t c).Joined-else-compared-eq0) c.first_code.ensures c.part_fuel-given.ensures in
-    (search taken_less, (search taken_codes, search taken_cells))
+    (search taken_less, (search taken_codes, search taken_long))
 
 pub eval_code-returns-then-ran-ne0 : goal.eval_code-returns-then-ran-ne0
 eval_code-returns-then-ran-ne0 t c =
@@ -197,14 +197,14 @@ eval_code-returns-then-chooses-2 t c =
       with_less = taken_done_less b w ran.with_less_all (eq-eqb _ _ c.if-chooses-2.true) c.if-ran-ne0.false;
     }
 
-pub eval_code-loop-evaluation-smaller : goal.eval_code-loop-evaluation-smaller
-eval_code-loop-evaluation-smaller t c =
-    let w = taking (turn t (goal.at.eval_code-loop-evaluation-smaller t c).Joined-else-compared-eq0) c.first_code.ensures c.part_fuel-given.ensures in
+pub eval_code-loop-counter-smaller : goal.eval_code-loop-counter-smaller
+eval_code-loop-counter-smaller t c =
+    let w = taking (turn t (goal.at.eval_code-loop-counter-smaller t c).Joined-else-compared-eq0) c.first_code.ensures c.part_fuel-given.ensures in
     search taken_falls
 
-pub eval_code-loop-evaluation-preserved : goal.eval_code-loop-evaluation-preserved
-eval_code-loop-evaluation-preserved t c =
-    let at = goal.at.eval_code-loop-evaluation-preserved t c in
+pub eval_code-loop-counter-preserved : goal.eval_code-loop-counter-preserved
+eval_code-loop-counter-preserved t c =
+    let at = goal.at.eval_code-loop-counter-preserved t c in
     let w = taking (turn t at.Joined-else-compared-eq0) c.first_code.ensures c.part_fuel-given.ensures in
     let b = begun t at.After-step_comparison-compared in
     let ran = c.eval_codes-ran.ensures in
@@ -216,6 +216,6 @@ eval_code-loop-evaluation-preserved t c =
 
 pub eval_code-returns : goal.eval_code-returns
 eval_code-returns t c =
-    let inv = c.loop-evaluation.invariant in
+    let inv = c.loop-counter.invariant in
     let looped = ne_eqb _ _ c.if-chooses.false in
     record { evaluates = search turns_spent; with_less = turns_spent_less inv.less looped c.if-left-ne0.false }

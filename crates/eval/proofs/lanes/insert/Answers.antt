@@ -12,17 +12,17 @@ returns-then-src-ne0 c = search inserts_nothing
 pub overflow_add-dst : goal.overflow_add-dst
 overflow_add-dst c = omega (arith, operand_starts)
 
-pub bounds-code-at : goal.bounds-code-at
-bounds-code-at c = omega (arith, operand_starts)
+pub bounds-lent-at : goal.bounds-lent-at
+bounds-lent-at c = omega (arith, operand_starts)
 
-pub bounds-code-at-2 : goal.bounds-code-at-2
-bounds-code-at-2 c = omega (arith, operand_starts)
+pub bounds-lent-at-2 : goal.bounds-lent-at-2
+bounds-lent-at-2 c = omega (arith, operand_starts)
 
 pub overflow_add-at-2 : goal.overflow_add-at-2
 overflow_add-at-2 c = omega (arith, operand_starts)
 
-pub bounds-code-at-3 : goal.bounds-code-at-3
-bounds-code-at-3 c = omega (arith, operand_starts)
+pub bounds-lent-at-3 : goal.bounds-lent-at-3
+bounds-lent-at-3 c = omega (arith, operand_starts)
 
 pub returns : goal.returns
 returns c = let kind = c.requires.at_value in search inserts

@@ -1,9 +1,9 @@
 -- What is decoded says which operand it is: its word is the constant, the register's or the cell's. Assumes nothing.
-use Rattle.eval.proofs.Asked.{register_inside, is_memory, found_source, found_inside, found_fits, loads_constant, loads_register, loads_cell, loads_none}
+use Rattle.eval.proofs.Asked.{register_inside, is_memory, source_inside, source_fits, loads_constant, loads_register, loads_cell, loads_none}
 use Rattle.eval.proofs.operand.load.Goals as goal
 
-pub bounds-regs-index : goal.bounds-regs-index
-bounds-regs-index c = search register_inside
+pub bounds-state-index : goal.bounds-state-index
+bounds-state-index c = search register_inside
 
 pub cell_at-cell-requires : goal.cell_at-cell-requires
 cell_at-cell-requires c = search is_memory
@@ -12,10 +12,12 @@ pub returns-then-cell-ne0 : goal.returns-then-cell-ne0
 returns-then-cell-ne0 c = search loads_none
 
 pub offset_bounds-values-index : goal.offset_bounds-values-index
-offset_bounds-values-index c = let cell = c.cell_at-cell in let found = found_source _ _ _ _ _ cell.result cell.ensures in search found_fits
+offset_bounds-values-index c =
+    source_fits _ _ _ c.form_at-form.ensures _ _ _ _ c.requires.long c.in-Memory.is _ c.if-cell-ne0.false c.cell_at-cell.ensures (search)
 
 pub bounds-values-index : goal.bounds-values-index
-bounds-values-index c = let cell = c.cell_at-cell in let found = found_source _ _ _ _ _ cell.result cell.ensures in search found_inside
+bounds-values-index c =
+    source_inside _ _ _ c.form_at-form.ensures _ _ _ _ c.requires.long c.in-Memory.is _ c.if-cell-ne0.false c.cell_at-cell.ensures
 
 pub returns-in-Const : goal.returns-in-Const
 returns-in-Const c = search loads_constant

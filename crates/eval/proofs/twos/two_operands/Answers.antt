@@ -2,7 +2,8 @@
 -- Assumes nothing.
 use mathlib.Core.List.{[]}
 use native.Mathlib.Omega.{arith}
-use Rattle.eval.specs.FlagRule.{base_rule}
+use Rattle.eval.specs.Config.{config}
+use Rattle.eval.specs.Promises.{env_of}
 use Rattle.eval.proofs.Asked.{operand_starts, second_there, Operands2, reads_nothing, shifts_too_far, writes_nowhere, writes}
 use Rattle.eval.proofs.twos.two_operands.Goals as goal
 use Rattle.eval.proofs.twos.two_operands.Goals.{After-load-src}
@@ -11,18 +12,18 @@ use Rattle.eval.proofs.twos.two_operands.Goals.{After-load-src}
 operands :
     (c : After-load-src) →
     let a = c.args in
-    Operands2 a.addresses.now a.tags.now a.regs.now a.values.now a.code.now a.at c.resolve-dst.result c.load-src.result
+    Operands2 (env_of a.lent.now) (config a.state.now a.values.now) a.lent.now.code.now a.at c.resolve-dst.result c.load-src.result
 operands c =
-    record { dst = c.resolve-dst.ensures; src = c.load-src.ensures; kind = c.requires.at_value }
+    let s = c.args.state.now in record { dst = c.resolve-dst.ensures s.flags s.xmms; src = c.load-src.ensures; kind = c.requires.at_value }
 
-pub bounds-code-at : goal.bounds-code-at
-bounds-code-at c = omega (arith, operand_starts)
+pub bounds-lent-at : goal.bounds-lent-at
+bounds-lent-at c = omega (arith, operand_starts)
 
 pub overflow_add-at : goal.overflow_add-at
 overflow_add-at c = omega (arith, operand_starts)
 
 pub load-src-requires : goal.load-src-requires
-load-src-requires c = let next = (c.resolve-dst.ensures 0 base_rule 0 []).next in search second_there
+load-src-requires c = let next = (c.resolve-dst.ensures 0 []).next in search second_there
 
 pub returns-then-src-ne0 : goal.returns-then-src-ne0
 returns-then-src-ne0 c = let w = operands (goal.at.returns-then-src-ne0 c).After-load-src in search reads_nothing
@@ -37,7 +38,7 @@ pub effect_of-effect-requires : goal.effect_of-effect-requires
 effect_of-effect-requires c = let w = operands (goal.at.effect_of-effect-requires c).After-load-src in search
 
 pub put-requires : goal.put-requires
-put-requires c = search ((operands (goal.at.put-requires c).After-load-src).dst 0 base_rule 0 []).bounds
+put-requires c = search (operands (goal.at.put-requires c).After-load-src).dst.bounds
 
 pub returns : goal.returns
 returns c = let w = operands (goal.at.returns c).After-load-src in search writes
