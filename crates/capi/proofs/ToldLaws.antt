@@ -9,7 +9,7 @@ use Rattle.eval.specs.declared.answer.Watch.{Watch}
 use Rattle.eval.specs.declared.answer.Setting.{Setting}
 use Rattle.eval.specs.declared.answer.Evaluation.{Evaluation}
 use Rattle.least.specs.Report.{Report, Reported}
-use Rattle.capi.specs.declared.GivenEvaluation.{GivenEvaluation}
+use Rattle.std.proofs.Common.{Option}
 use Rattle.capi.specs.Told.{Told, told, told_of, told_report, told_fuel, ToldWatch, watch_numbers, told_watch, Ending, ending, ending_of, LeastEnding, least_ending, least_ending_of, none_given, run_given, least_given, InputGiven}
 
 -- an end in numbers, of what was told and handed back
@@ -44,7 +44,7 @@ told_search {h = h} {t = t} {u = u} {lent = lent} {values = values} {n = n} z p 
     ∙ ap least_ending_of is
 
 -- an evaluation was named, or none
-module _ {g v w : GivenEvaluation} (given : v ≡ g) (is : v ≡ w) where
+module _ {g v w : Option Evaluation} (given : v ≡ g) (is : v ≡ w) where
   pub run_as_given : (run : Evaluation → Ended) (s : Config) {x : Ending} → x ≡ run_given w run s → x ≡ run_given g run s
   run_as_given run s e = e ∙ ap (λ y. run_given y run s) (sym is ∙ given)
 

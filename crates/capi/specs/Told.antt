@@ -1,5 +1,5 @@
 -- What the C interface says of an answer, a report and a watch, and how it is told an evaluation, in numbers.
-use Rattle.std.specs.Prelude.{ℕ, Bool, true, false, cond, List, eqb}
+use Rattle.std.specs.Prelude.{ℕ, Bool, true, false, cond, List, eqb, Option, Some, None}
 use Rattle.machine.specs.declared.State.{State}
 use Rattle.machine.specs.Cells.{Verdict}
 use Rattle.machine.specs.Cells.{accepted as check_accepted, refused as check_refused}
@@ -13,8 +13,6 @@ use Rattle.eval.specs.declared.answer.Setting.{Setting}
 use Rattle.eval.specs.declared.answer.Evaluation.{Evaluation}
 use Rattle.eval.specs.declared.answer.Evaluation.TheVariants.{Base, Board}
 use Rattle.least.specs.Report.{Report, least, cap_spent, not_run, Reported}
-use Rattle.capi.specs.declared.GivenEvaluation.{GivenEvaluation}
-use Rattle.capi.specs.declared.GivenEvaluation.TheVariants.{Value, Nothing}
 
 -- a number with a place or an index
 pub record Refusal : Type 0 where
@@ -116,8 +114,8 @@ least_ending_of r =
     least_ending (told_fuel r.how) (ending (told_report r.how) r.config r.counted.steps (told_watch r.counted.watch))
 
 -- the evaluation that a number names: 0 is the base's and 1 the board's; no other names one
-abbrev pub evaluation_given : ℕ → GivenEvaluation
-evaluation_given n = cond (eqb n 0) (Value Base) (cond (eqb n 1) (Value Board) Nothing)
+abbrev pub evaluation_given : ℕ → Option Evaluation
+evaluation_given n = cond (eqb n 0) (Some Base) (cond (eqb n 1) (Some Board) None)
 
 -- the end that leaves s where no evaluation is given: refused, number and place are 0, no step was made, and its watch is unmarked with nothing open
 abbrev pub none_given : Config → Ending
@@ -125,14 +123,14 @@ none_given s = ending (told 3 0 0) s 0 (watch_numbers 0 0 0)
 
 -- the numbers of a run from s by the evaluation that is given. Where that is none, it is refused: number and place are 0, no step was made, and its
 -- watch is unmarked with nothing open
-abbrev pub run_given : GivenEvaluation → (Evaluation → Ended) → Config → Ending
-run_given (Value e) run s = ending_of (run e)
-run_given Nothing run s = ending (told 3 0 0) s 0 (watch_numbers 0 0 0)
+abbrev pub run_given : Option Evaluation → (Evaluation → Ended) → Config → Ending
+run_given (Some e) run s = ending_of (run e)
+run_given None run s = ending (told 3 0 0) s 0 (watch_numbers 0 0 0)
 
 -- the numbers of the least fuel by the evaluation that is given
-abbrev pub least_given : GivenEvaluation → (Evaluation → Reported) → Config → LeastEnding
-least_given (Value e) search s = least_ending_of (search e)
-least_given Nothing search s = least_ending 0 (none_given s)
+abbrev pub least_given : Option Evaluation → (Evaluation → Reported) → Config → LeastEnding
+least_given (Some e) search s = least_ending_of (search e)
+least_given None search s = least_ending 0 (none_given s)
 
 -- the state that is lent in parts
 abbrev pub lent_state : List ℕ → List ℕ → ℕ → State
@@ -143,6 +141,6 @@ abbrev pub lent_setting : ℕ → ℕ → ℕ → Evaluation → Setting
 lent_setting fill fuel limit evaluation = record { fill = fill; fuel = fuel; limit = limit; evaluation = evaluation }
 
 -- what is run with the setting of the evaluation that is given is an input
-abbrev pub InputGiven : GivenEvaluation → List ℕ → State → (Evaluation → Setting) → Type 0
-InputGiven (Value e) code start setting = IsInput code start (setting e)
-InputGiven Nothing code start setting = Unit {0}
+abbrev pub InputGiven : Option Evaluation → List ℕ → State → (Evaluation → Setting) → Type 0
+InputGiven (Some e) code start setting = IsInput code start (setting e)
+InputGiven None code start setting = Unit {0}

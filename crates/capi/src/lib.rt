@@ -41,7 +41,8 @@ const OPEN_CARRY: u8 = 1;
 
 const OPEN_OVERFLOW: u8 = 2;
 
-// Numbers of an answer. A place is written through a reference, C's way to return a second result.
+// Numbers of an answer. A place is written through a reference, C's way to return a second result: the functions of include/pokchrei.h
+// have their results in parameters, and so have those that tell them.
 fn tell_checked(checked: Checked, place: &mut usize) -> u8
     ensures { refusal result place.new ≡ refusal_of (verdict checked) }
 {
@@ -60,48 +61,22 @@ fn tell_checked(checked: Checked, place: &mut usize) -> u8
 fn tell(answer: Answer, number: &mut u8, place: &mut usize) -> u8
     ensures { told result number.new place.new ≡ told_of (outcome answer) }
 {
-    match answer {
-        Answer::Done => {
-            *number = 0;
-            *place = 0;
-            DONE
-        }
-        Answer::Fault(n, at) => {
-            *number = n;
-            *place = at;
-            FAULT
-        }
-        Answer::Stopped(n, at) => {
-            *number = n;
-            *place = at;
-            STOPPED
-        }
-        Answer::Spent(at) => {
-            *number = 0;
-            *place = at;
-            SPENT
-        }
-        Answer::Refused(n, at) => {
-            *number = n;
-            *place = at;
-            REFUSED
-        }
-    }
+    let (kind, n, at) = match answer {
+        Answer::Done => (DONE, 0, 0),
+        Answer::Fault(n, at) => (FAULT, n, at),
+        Answer::Stopped(n, at) => (STOPPED, n, at),
+        Answer::Spent(at) => (SPENT, 0, at),
+        Answer::Refused(n, at) => (REFUSED, n, at),
+    };
+    *number = n;
+    *place = at;
+    kind
 }
 
 fn tell_open(carry: bool, overflow: bool) -> u8
     ensures { result ≡ told_open carry overflow }
 {
-    if carry {
-        if overflow {
-            return OPEN_CARRY + OPEN_OVERFLOW;
-        }
-        return OPEN_CARRY;
-    }
-    if overflow {
-        return OPEN_OVERFLOW;
-    }
-    0
+    u8::from(carry) * OPEN_CARRY + u8::from(overflow) * OPEN_OVERFLOW
 }
 
 fn tell_watch(watch: Watch, mark: &mut usize, opened: &mut u8) -> u8
@@ -122,19 +97,13 @@ fn tell_watch(watch: Watch, mark: &mut usize, opened: &mut u8) -> u8
 }
 
 // C names an evaluation by a number.
-#[derive(Clone, Copy)]
-pub enum GivenEvaluation {
-    Value(Evaluation),
-    Nothing,
-}
-
-fn evaluation_of(number: u8) -> GivenEvaluation
+fn evaluation_of(number: u8) -> Option<Evaluation>
     ensures { result ≡ evaluation_given number }
 {
     match number {
-        0 => GivenEvaluation::Value(Evaluation::Base),
-        1 => GivenEvaluation::Value(Evaluation::Board),
-        _ => GivenEvaluation::Nothing,
+        0 => Some(Evaluation::Base),
+        1 => Some(Evaluation::Board),
+        _ => None,
     }
 }
 
@@ -163,19 +132,24 @@ pub extern "C" fn pokchrei_check_cells(
 fn lent_state(regs: &[u64; 16], xmms: &[u32; 64], flags: u64) -> State
     ensures { result ≡ lent_state regs.now xmms.now flags }
 {
-    let regs = *regs;
-    let xmms = *xmms;
-    State { regs, xmms, flags }
+    State {
+        regs: *regs,
+        xmms: *xmms,
+        flags,
+    }
 }
 
 fn hand_back(state: State, regs: &mut [u64; 16], xmms: &mut [u32; 64], flags: &mut u64)
     ensures { lent_state regs.new xmms.new flags.new ≡ state }
 {
-    let last_regs = state.regs;
-    let last_xmms = state.xmms;
+    let State {
+        regs: last_regs,
+        xmms: last_xmms,
+        flags: last_flags,
+    } = state;
     *regs = last_regs;
     *xmms = last_xmms;
-    *flags = state.flags;
+    *flags = last_flags;
 }
 
 // No evaluation was named, and so nothing was run.
@@ -230,8 +204,7 @@ pub extern "C" fn pokchrei_run(
     ensures input_given { InputGiven (evaluation_given evaluation) code.now
         (lent_state regs.old xmms.old flags.old) (lent_setting fill fuel limit) }
 {
-    let given = evaluation_of(evaluation);
-    let GivenEvaluation::Value(evaluation) = given else {
+    let Some(evaluation) = evaluation_of(evaluation) else {
         return tell_none(number, place, steps, marked, mark, opened);
     };
     let start = lent_state(regs, xmms, *flags);
@@ -245,48 +218,25 @@ pub extern "C" fn pokchrei_run(
     let state = end.state;
     hand_back(state, regs, xmms, flags);
     *steps = end.steps;
-    let watch = end.watch;
-    *marked = tell_watch(watch, mark, opened);
-    let answer = end.answer;
-    tell(answer, number, place)
+    *marked = tell_watch(end.watch, mark, opened);
+    tell(end.answer, number, place)
 }
 
 fn tell_least(least: Least, fuel: &mut u32, number: &mut u8, place: &mut usize) -> u8
     ensures place_after { told result number.new place.new ≡ told_report (report least) }
     ensures fuel_after { fuel.new ≡ told_fuel (report least) }
 {
-    match least {
-        Least::Done(needed) => {
-            *fuel = needed;
-            *number = 0;
-            *place = 0;
-            DONE
-        }
-        Least::Fault(needed, n, at) => {
-            *fuel = needed;
-            *number = n;
-            *place = at;
-            FAULT
-        }
-        Least::Stopped(needed, n, at) => {
-            *fuel = needed;
-            *number = n;
-            *place = at;
-            STOPPED
-        }
-        Least::CapSpent(n, at) => {
-            *fuel = 0;
-            *number = n;
-            *place = at;
-            CAP_SPENT
-        }
-        Least::Refused(n, at) => {
-            *fuel = 0;
-            *number = n;
-            *place = at;
-            REFUSED
-        }
-    }
+    let (kind, needed, n, at) = match least {
+        Least::Done(needed) => (DONE, needed, 0, 0),
+        Least::Fault(needed, n, at) => (FAULT, needed, n, at),
+        Least::Stopped(needed, n, at) => (STOPPED, needed, n, at),
+        Least::CapSpent(n, at) => (CAP_SPENT, 0, n, at),
+        Least::Refused(n, at) => (REFUSED, 0, n, at),
+    };
+    *fuel = needed;
+    *number = n;
+    *place = at;
+    kind
 }
 
 // As `pokchrei_run` with a cap in place of fuel, and the least fuel beside what that tells. What is found is told before the state is
@@ -323,8 +273,7 @@ pub extern "C" fn pokchrei_least_fuel(
     ensures input_given { InputGiven (evaluation_given evaluation) code.now
         (lent_state regs.old xmms.old flags.old) (lent_setting fill cap limit) }
 {
-    let given = evaluation_of(evaluation);
-    let GivenEvaluation::Value(evaluation) = given else {
+    let Some(evaluation) = evaluation_of(evaluation) else {
         *fuel = 0;
         return tell_none(number, place, steps, marked, mark, opened);
     };
@@ -336,13 +285,10 @@ pub extern "C" fn pokchrei_least_fuel(
         evaluation,
     };
     let found = least_fuel(code, addresses, tags, values, start, setting);
-    let least = found.least;
-    let kind = tell_least(least, fuel, number, place);
-    let state = found.state;
-    hand_back(state, regs, xmms, flags);
+    let kind = tell_least(found.least, fuel, number, place);
+    hand_back(found.state, regs, xmms, flags);
     *steps = found.steps;
-    let watch = found.watch;
-    *marked = tell_watch(watch, mark, opened);
+    *marked = tell_watch(found.watch, mark, opened);
     kind
 }
 

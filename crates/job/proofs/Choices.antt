@@ -1,10 +1,13 @@
 -- What the tests of the code choose is what the lines' definitions choose.
-use Prim.Native.Nat.{ℕ, ◌≤◌, ◌<◌}
+use Prim.Native.Nat.{ℕ, zero, suc, ◌≤◌, ◌<◌}
 use mathlib.Core.Path.{◌≡◌, refl, sym, ap, ◌∙◌}
-use mathlib.Core.Bool.{Bool, true, false, cond}
+use mathlib.Core.Bool.{Bool, true, false, ◌&&◌, cond}
 use mathlib.Core.List.{List, [], ◌∷◌, ◌++◌, append-nil}
-use lib.ListN.{get_or}
-use borrow.Author.Tests.{lt-ltb, le-ltb}
+use native.Mathlib.Omega.{arith}
+use lib.Dec.{eqb}
+use lib.ListN.{length, get_or}
+use Rattle.std.specs.Cmp.Lexicographic.{pointwise}
+use borrow.Author.Tests.{le-ltb}
 use Rattle.eval.specs.Config.{outcome, config}
 use Rattle.eval.specs.Counted.{ended_of}
 use Rattle.eval.specs.declared.answer.Answer.{Answer}
@@ -18,21 +21,48 @@ when_true x y e = sym (ap (λ (t : Bool). cond t x y) e)
 pub when_false : {b : Bool} (x y : List ℕ) → b ≡ false → y ≡ cond b x y
 when_false x y e = sym (ap (λ (t : Bool). cond t x y) e)
 
+-- the code's table of letters
+abbrev letters : List (List ℕ)
+letters =
+    (97 ∷ 120 ∷ []) ∷ (98 ∷ 120 ∷ []) ∷ (99 ∷ 120 ∷ []) ∷ (100 ∷ 120 ∷ [])
+    ∷ (115 ∷ 105 ∷ []) ∷ (100 ∷ 105 ∷ []) ∷ (98 ∷ 112 ∷ []) ∷ (115 ∷ 112 ∷ []) ∷ []
+
 -- the names by letters
-pub name_short :
-    (i : ℕ) → i < 8
-    → 82
-    ∷ get_or (97 ∷ 98 ∷ 99 ∷ 100 ∷ 115 ∷ 100 ∷ 98 ∷ 115 ∷ []) i 0
-    ∷ get_or (120 ∷ 120 ∷ 120 ∷ 120 ∷ 105 ∷ 105 ∷ 112 ∷ 112 ∷ []) i 0
-    ∷ []
-    ≡ name_of i
+pub name_short : (i : ℕ) → i < 8 → 82 ∷ get_or letters i [] ≡ name_of i
 unfolding name_of
-name_short i h = when_true _ _ (lt-ltb i 8 h)
+name_short zero h = refl
+name_short (suc zero) h = refl
+name_short (suc (suc zero)) h = refl
+name_short (suc (suc (suc zero))) h = refl
+name_short (suc (suc (suc (suc zero)))) h = refl
+name_short (suc (suc (suc (suc (suc zero))))) h = refl
+name_short (suc (suc (suc (suc (suc (suc zero)))))) h = refl
+name_short (suc (suc (suc (suc (suc (suc (suc zero))))))) h = refl
+name_short (suc (suc (suc (suc (suc (suc (suc (suc i)))))))) h = absurd (omega arith)
 
 -- the names by numbers
 pub name_long : (i : ℕ) → 8 ≤ i → 82 ∷ decimal i ≡ name_of i
 unfolding name_of
 name_long i h = when_false _ _ (le-ltb i 8 h)
+
+all_four : (p q r s : Bool) → (p && (q && (r && (s && true)))) ≡ (p && q && r && s)
+all_four false q r s = refl
+all_four true false r s = refl
+all_four true true false s = refl
+all_four true true true false = refl
+all_four true true true true = refl
+
+-- the code's test of an xmm is that of its line
+pub zeros :
+    (ws : List ℕ) → length ws ≡ 4
+    → pointwise eqb ws (0 ∷ 0 ∷ 0 ∷ 0 ∷ [])
+    ≡ (eqb (get_or ws 0 0) 0 && eqb (get_or ws 1 0) 0 && eqb (get_or ws 2 0) 0 && eqb (get_or ws 3 0) 0)
+zeros [] h = absurd (omega arith)
+zeros (a ∷ []) h = absurd (omega arith)
+zeros (a ∷ b ∷ []) h = absurd (omega arith)
+zeros (a ∷ b ∷ c ∷ []) h = absurd (omega arith)
+zeros (a ∷ b ∷ c ∷ d ∷ []) h = all_four (eqb a 0) (eqb b 0) (eqb c 0) (eqb d 0)
+zeros (a ∷ b ∷ c ∷ d ∷ e ∷ ws) h = absurd (omega arith)
 
 -- the first lines, of an answer whose variant is known
 pub line_done : {a : Answer} → a ≡ Done → word_done ++ newline ≡ first_line (outcome a)

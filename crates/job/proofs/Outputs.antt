@@ -5,7 +5,7 @@ use mathlib.Core.List.{List, ◌++◌, append-nil}
 use mathlib.Core.Option.{some}
 use native.Mathlib.Omega.{arith}
 use lib.ListN.{length, take, drop, length-drop}
-use lib.Seq.{sets-eq, length-sets, take_at, drop_at, take_all}
+use lib.Seq.{sets, sets-eq, length-sets, take_at, drop_at, take_all}
 use Rattle.machine.specs.Cells.{accepted}
 use Rattle.machine.specs.Cells.{refused as turned_away}
 use Rattle.machine.specs.declared.State.{State}
@@ -17,6 +17,7 @@ use Rattle.eval.specs.Counted.{Ended}
 use Rattle.eval.specs.Running.{run_of}
 use Rattle.job.specs.Text.{first_line, render}
 use Rattle.job.specs.Job.{numbers, fuel_of, fill_of, largest_limit, env_of, start_of, Holding, code_at, check_job, end_checked, run_of_job, printed, output, lent_list}
+use Rattle.job.specs.declared.text.Page.{Page}
 use Rattle.job.specs.Written.{Wrote, Printed}
 
 pub length_numbers : (size stride n : ℕ) (bs : List ℕ) (at : ℕ) → length (numbers size stride n bs at) ≡ n
@@ -34,15 +35,19 @@ pub behind_cells :
 behind_cells bs {at} e =
     take_all (length bs - at) (drop at bs) (omega (arith, length-drop at bs)) ∙ ap (λ (k : ℕ). drop k bs) e
 
--- the text at the start of a buffer of its length
+-- the text of a page that was blank, in a buffer of its length
 pub printed_whole :
-    {m n : ℕ} {before text after : List ℕ}
-    → Wrote m before 0 text after n → m ≤ 65536 → length before ≡ 65536 → Printed text before after n
-printed_whole {m} {n} {before} {text} {after} w h l =
+    {m : ℕ} {blank page : Page} {text : List ℕ}
+    → Wrote m blank text page → blank.at ≡ 0 → m ≤ 65536 → length blank.out.now ≡ 65536
+    → Printed text blank.out.now page.out.now page.at
+printed_whole {m} {blank} {page} {text} w z h l =
+    let n = page.at in
+    let before = blank.out.now in
     let count : n ≡ length text = let p = w.place in omega arith in
     let few : n ≤ 65536 = let p = w.within in omega arith in
-    let all : after ≡ text ++ drop n before =
+    let all : page.out.now ≡ text ++ drop n before =
     w.bytes
+    ∙ ap (λ (k : ℕ). sets before k text) z
     ∙ sets-eq text before 0 (omega arith)
     ∙ ap (λ (k : ℕ). text ++ drop k before) (let z : 0 + length text ≡ n = omega arith in z)
     in
@@ -50,7 +55,7 @@ printed_whole {m} {n} {before} {text} {after} w h l =
       bytes = ap (take n) all ∙ take_at text (drop n before) n (sym count);
       rest = ap (drop n) all ∙ drop_at text (drop n before) n (sym count);
       count = count;
-      within = omega (arith, ap length w.bytes, length-sets before 0 text);
+      within = omega (arith, ap length w.bytes, length-sets before blank.at text);
     }
 
 -- a job that is turned away

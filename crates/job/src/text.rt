@@ -1,52 +1,73 @@
-// Bytes, words and decimal numbers into the output buffer. Each writer answers the next place.
-ghost use Rattle.std.specs.Prelude.{[], ◌∷◌, ◌+◌, ◌≤◌, length};
+// The page that is printed on: bytes, words and decimal numbers behind what stands there.
+ghost use Rattle.std.specs.Prelude.{◌≡◌, [], ◌∷◌, length};
 ghost use Rattle.job.specs.Text.{decimal, field};
-ghost use Rattle.job.specs.Written.{Wrote};
+ghost use Rattle.job.specs.Written.{HasRoom, Wrote};
 
-pub fn put_byte(out: &mut [u8; 65536], at: usize, byte: u8) -> usize
-    requires { at + 1 ≤ 65536 }
-    ensures { Wrote 1 out.old at (byte ∷ []) out.new result }
-{
-    out[at] = byte;
-    at + 1
+/// A lent buffer, and where the next byte goes: the text so far stands before it.
+#[derive(Drop)]
+pub struct Page<'a> {
+    out: &'a mut [u8; 65536],
+    at: usize,
 }
 
-pub fn put_word(out: &mut [u8; 65536], at: usize, word: &[u8]) -> usize
-    requires { at + length word.now ≤ 65536 }
-    ensures { Wrote (length word.now) out.old at word.now out.new result }
-{
-    let mut i = 0;
-    while i < word.len() {
-        out[at + i] = word[i];
-        i += 1;
+impl<'a> Page<'a> {
+    pub fn new(out: &'a mut [u8; 65536]) -> Page<'a>
+        ensures same_reference { result.out.ghost_name ≡ out.entry.ghost_name }
+        ensures bytes { result.out.now ≡ out.old }
+        ensures size { length result.out.now ≡ 65536 }
+        ensures empty { result.at ≡ 0 }
+    {
+        Page { out, at: 0 }
     }
-    at + i
-}
 
-// The digits before the last are those of a tenth of n.
-pub fn put_decimal(out: &mut [u8; 65536], at: usize, n: u64) -> usize
-    requires { at + 20 ≤ 65536 }
-    ensures { Wrote 20 out.old at (decimal n) out.new result }
-{
-    if n < 10 {
-        return put_byte(out, at, 48 + n as u8);
+    pub fn len(&self) -> usize
+        ensures { result ≡ self.now.at }
+    {
+        self.at
     }
-    let last = put_decimal(out, at, n / 10);
-    put_byte(out, last, 48 + (n % 10) as u8)
-}
 
-pub fn put_field(out: &mut [u8; 65536], at: usize, n: u64) -> usize
-    requires { at + 21 ≤ 65536 }
-    ensures { Wrote 21 out.old at (field n) out.new result }
-{
-    let next = put_byte(out, at, b' ');
-    put_decimal(out, next, n)
-}
+    pub fn put_byte(&mut self, byte: u8)
+        requires { HasRoom 1 self.old }
+        ensures { Wrote 1 self.old (byte ∷ []) self.new }
+    {
+        self.out[self.at] = byte;
+        self.at += 1;
+    }
 
-// A cell's tag takes three digits at most, which keeps 1,024 cells within the buffer.
-pub fn put_tag(out: &mut [u8; 65536], at: usize, tag: u8) -> usize
-    requires { at + 21 ≤ 65536 }
-    ensures { Wrote 4 out.old at (field tag) out.new result }
-{
-    put_field(out, at, tag as u64)
+    pub fn put_word(&mut self, word: &[u8])
+        requires { HasRoom (length word.now) self.old }
+        ensures { Wrote (length word.now) self.old word.now self.new }
+    {
+        let out = &mut *self.out;
+        let end = self.at + word.len();
+        out[self.at..end].copy_from_slice(word);
+        self.at = end;
+    }
+
+    // The digits before the last are those of a tenth of n.
+    pub fn put_decimal(&mut self, n: u64)
+        requires { HasRoom 20 self.old }
+        ensures { Wrote 20 self.old (decimal n) self.new }
+    {
+        if n >= 10 {
+            self.put_decimal(n / 10);
+        }
+        self.put_byte(b'0' + (n % 10) as u8);
+    }
+
+    pub fn put_field(&mut self, n: u64)
+        requires { HasRoom 21 self.old }
+        ensures { Wrote 21 self.old (field n) self.new }
+    {
+        self.put_byte(b' ');
+        self.put_decimal(n);
+    }
+
+    // A cell's tag takes three digits at most, which keeps 1,024 cells within the buffer.
+    pub fn put_tag(&mut self, tag: u8)
+        requires { HasRoom 21 self.old }
+        ensures { Wrote 4 self.old (field tag) self.new }
+    {
+        self.put_field(u64::from(tag));
+    }
 }

@@ -3,12 +3,11 @@ ghost use Rattle.std.specs.Prelude.{◌≡◌, ◌≤◌, length};
 ghost use Rattle.machine.specs.Cells.{accepted};
 ghost use Rattle.job.specs.Job.{Complete, Room, Holding, code_of, state_of, setting_of, start_of, check_job, output, printed, run_of_job, Lists};
 ghost use Rattle.eval.specs.Inputs.{IsInput};
-ghost use Rattle.job.specs.Written.{Wrote, Printed};
+ghost use Rattle.job.specs.Written.{HasRoom, Wrote, Printed};
 
 use crate::cells::read_cells;
-use crate::lines::put_answer;
 use crate::read::{check_job, read_setting, read_state};
-use crate::render::render;
+use crate::text::Page;
 use code::number2;
 use eval::Answer;
 use machine::Checked;
@@ -19,18 +18,19 @@ fn finish(
     addresses: &[u64],
     tags: &[u8],
     values: &mut [u64],
-    out: &mut [u8; 65536],
-) -> usize
+    page: &mut Page,
+)
+    requires blank { HasRoom 65536 page.old }
     requires complete { Complete input.now }
     requires holding { Holding input.now (start_of input.now).values addresses.now tags.now values.old }
-    ensures wrote { Wrote 65536 out.old 0 (printed input.now (run_of_job input.now)) out.new result }
+    ensures wrote { Wrote 65536 page.old (printed input.now (run_of_job input.now)) page.new }
     ensures values_after { values.new ≡ (run_of_job input.now).end.config.values }
 {
     let start = read_state(input);
     let setting = read_setting(input);
     let at = 406 + 17 * number2(input, 404);
     let ended = eval::run(&input[at..], addresses, tags, values, start, setting);
-    render(out, ended, addresses, tags, values)
+    page.put_run(&ended, addresses, tags, values);
 }
 
 // The cells are read into the lists, and the code behind them is run.
@@ -39,16 +39,17 @@ fn run_job(
     addresses: &mut [u64],
     tags: &mut [u8],
     values: &mut [u64],
-    out: &mut [u8; 65536],
-) -> usize
+    page: &mut Page,
+)
+    requires blank { HasRoom 65536 page.old }
     requires complete { Complete input.now }
     requires room { Room input.now addresses.old tags.old values.old }
-    ensures wrote { Wrote 65536 out.old 0 (printed input.now (run_of_job input.now)) out.new result }
+    ensures wrote { Wrote 65536 page.old (printed input.now (run_of_job input.now)) page.new }
     ensures holding { Holding input.now (run_of_job input.now).end.config.values
         addresses.new tags.new values.new }
 {
     read_cells(input, addresses, tags, values);
-    finish(input, addresses, tags, values, out)
+    finish(input, addresses, tags, values, page);
 }
 
 // As many cells as the job has are lent.
@@ -57,11 +58,12 @@ fn run_cells(
     addresses: &mut [u64],
     tags: &mut [u8],
     values: &mut [u64],
-    out: &mut [u8; 65536],
-) -> usize
+    page: &mut Page,
+)
+    requires blank { HasRoom 65536 page.old }
     requires input_value { (check_job input.now ≡ accepted) × Complete input.now }
     requires in_bounds { (1024 ≤ length addresses.old) × (1024 ≤ length tags.old) × (1024 ≤ length values.old) }
-    ensures wrote { Wrote 65536 out.old 0 (printed input.now (run_of_job input.now)) out.new result }
+    ensures wrote { Wrote 65536 page.old (printed input.now (run_of_job input.now)) page.new }
     ensures lists { Lists input.now addresses.old tags.old values.old
         addresses.new tags.new values.new }
 {
@@ -71,16 +73,28 @@ fn run_cells(
         &mut addresses[..count],
         &mut tags[..count],
         &mut values[..count],
-        out,
-    )
+        page,
+    );
 }
 
-// The array's length is its type's to say, and a contract learns it of a slice.
-fn size(out: &[u8; 65536]) -> usize
-    ensures { (result ≡ 65536) × (length out.now ≡ 65536) }
+// A job is checked, and then run.
+fn print(
+    input: &[u8],
+    addresses: &mut [u64; 1024],
+    tags: &mut [u8; 1024],
+    values: &mut [u64; 1024],
+    page: &mut Page,
+)
+    requires blank { HasRoom 65536 page.old }
+    ensures wrote { Wrote 65536 page.old (output input.now) page.new }
+    ensures lists { Lists input.now addresses.old tags.old values.old
+        addresses.new tags.new values.new }
+    ensures input { IsInput (code_of input.now) (state_of input.now) (setting_of input.now) }
 {
-    let page: &[u8] = out;
-    page.len()
+    match check_job(input) {
+        Checked::Refused(number, place) => page.put_answer(Answer::Refused(number, place)),
+        Checked::Accepted => run_cells(input, addresses, tags, values, page),
+    }
 }
 
 // Prints a job's outcome at the start of `out`, and answers how many bytes that takes.
@@ -96,10 +110,7 @@ pub fn job(
         addresses.new tags.new values.new }
     ensures input { IsInput (code_of input.now) (state_of input.now) (setting_of input.now) }
 {
-    size(out);
-    let checked = check_job(input);
-    match checked {
-        Checked::Refused(number, place) => put_answer(out, Answer::Refused(number, place)),
-        Checked::Accepted => run_cells(input, addresses, tags, values, out),
-    }
+    let mut page = Page::new(out);
+    print(input, addresses, tags, values, &mut page);
+    page.len()
 }

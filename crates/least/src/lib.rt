@@ -9,7 +9,7 @@ ghost use Rattle.eval.specs.Inputs.{IsInput};
 ghost use Rattle.eval.specs.Promises.{environment};
 ghost use Rattle.least.specs.Report.{report_of, least_fuel_of, report, reported_of};
 
-use eval::{Answer, Setting, Watch, run};
+use eval::{Answer, Run, Setting, Watch, run};
 use machine::State;
 
 // The least fuel, with how the run with it ended; or 61, where the run at the cap is Spent, with that place; or code or cells were not
@@ -60,15 +60,17 @@ pub fn least_fuel(
         setting.fuel (some setting.limit) (config start values.old) }
     ensures input { IsInput code.now start setting }
 {
-    let end = run(code, addresses, tags, values, start, setting);
-    let answer = end.answer;
-    let least = least_of(end.needed, answer);
-    let state = end.state;
-    let watch = end.watch;
-    LeastRun {
-        least,
+    let Run {
+        answer,
         state,
-        steps: end.steps,
+        steps,
+        watch,
+        needed,
+    } = run(code, addresses, tags, values, start, setting);
+    LeastRun {
+        least: least_of(needed, answer),
+        state,
+        steps,
         watch,
     }
 }

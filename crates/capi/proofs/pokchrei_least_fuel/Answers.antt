@@ -8,7 +8,7 @@ use Rattle.capi.proofs.pokchrei_least_fuel.Goals as goal
 pub returns-in_default : goal.returns-in_default
 returns-in_default c =
     let none = c.tell_none.ensures in
-    let given = c.evaluation_of-given.ensures in
+    let given = c.evaluation_of.ensures in
     let is = c.in_default.is in
     record {
       opened_after =
@@ -18,8 +18,8 @@ returns-in_default c =
 
 pub returns : goal.returns
 returns c =
-    let given = c.evaluation_of-given.ensures in
-    let is = c.in-Value.is in
+    let given = c.evaluation_of.ensures in
+    let is = c.in-Some.is in
     let lent = c.lent_state-start.ensures in
     let least = c.tell_least-kind.ensures in
     record {

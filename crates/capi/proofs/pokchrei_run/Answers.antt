@@ -6,7 +6,7 @@ use Rattle.capi.proofs.pokchrei_run.Goals as goal
 pub returns-in_default : goal.returns-in_default
 returns-in_default c =
     let none = c.tell_none.ensures in
-    let given = c.evaluation_of-given.ensures in
+    let given = c.evaluation_of.ensures in
     let is = c.in_default.is in
     record {
       opened_after = run_as_given given is _ _ (told_nothing none.place_after none.steps_after none.opened_after);
@@ -15,8 +15,8 @@ returns-in_default c =
 
 pub returns : goal.returns
 returns c =
-    let given = c.evaluation_of-given.ensures in
-    let is = c.in-Value.is in
+    let given = c.evaluation_of.ensures in
+    let is = c.in-Some.is in
     let lent = c.lent_state-start.ensures in
     record {
       opened_after =

@@ -8,14 +8,14 @@ use Rattle.job.proofs.Writing.{spelled}
 use Rattle.job.proofs.Outputs.{length_read, behind_cells, ran, render_run}
 use Rattle.job.proofs.whole.finish.Goals as goal
 
-pub render-requires : goal.render-requires
-render-requires c =
+pub put_run-requires : goal.put_run-requires
+put_run-requires c =
     let bs = c.args.input.now in
     let xs = length_read 8 17 (count_of bs) bs 406 c.requires.holding.0 in
     let ts = length_read 1 17 (count_of bs) bs 414 c.requires.holding.1 in
     let vs = length_read 8 17 (count_of bs) bs 415 c.requires.holding.2 in
     let kept = c.run-ended.auto.values in
-    record { tags_len = (ts ∙ sym xs, kept ∙ vs ∙ sym xs); addresses_len_bound = omega arith }
+    record { tags_len = (ts ∙ sym xs, kept ∙ vs ∙ sym xs); room = (c.requires.blank, omega arith) }
 
 pub returns : goal.returns
 returns c =
@@ -26,6 +26,6 @@ returns c =
     let set = c.read_setting-setting.ensures in
     let ended = ran bs _ _ _ _ _ _ _ (behind_cells bs place) c.requires.holding started set c.run-ended.ensures.values_after in
     record {
-      wrote = spelled (render_run bs _ _ _ (c.requires.holding.0, c.requires.holding.1) ended) c.render.ensures;
+      wrote = spelled (render_run bs _ _ _ (c.requires.holding.0, c.requires.holding.1) ended) c.put_run.ensures;
       values_after = ap (λ (e : Ended). e.end.config.values) ended;
     }

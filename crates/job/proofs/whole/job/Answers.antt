@@ -1,44 +1,13 @@
--- A refusal is printed as it is, and an accepted job's run.
-use mathlib.Core.Path.{◌≡◌, sym, ap, ◌∙◌}
+-- The page was blank, and its text is what stands in the buffer.
 use native.Mathlib.Omega.{arith}
-use Rattle.machine.specs.Cells.{accepted, verdict}
-use Rattle.job.specs.Job.{check_job}
-use Rattle.job.proofs.Writing.{spelled}
-use Rattle.job.proofs.Checking.{complete}
-use Rattle.job.proofs.Outputs.{printed_whole, output_refused, output_run, lent_none}
-use Rattle.job.proofs.Inputs.{job_input}
+use Rattle.std.proofs.Common.{◌≡◌, sym, ◌∙◌}
+use Rattle.job.proofs.Outputs.{printed_whole}
 use Rattle.job.proofs.whole.job.Goals as goal
 
-pub run_cells-requires : goal.run_cells-requires
-run_cells-requires c =
-    let bs = c.args.input.now in
-    let passed : check_job bs ≡ accepted = sym c.check_job-checked.ensures ∙ ap verdict c.in-Accepted.is in
-    record { input_value = (passed, complete bs passed); in_bounds = (omega arith, omega arith, omega arith) }
-
-pub returns-in-Refused : goal.returns-in-Refused
-returns-in-Refused c =
-    let known = c.shared_slice_known-1 in
-    let bs = c.args.input.now in
-    let refused = sym c.check_job-checked.ensures ∙ ap verdict c.in-Refused.is in
-    record {
-      printed = printed_whole (spelled (output_refused bs refused) c.put_answer.ensures) (omega arith) c.size.ensures.1;
-      lists =
-          record {
-            of_addresses = lent_none bs _ c.args.addresses.now refused;
-            of_tags = lent_none bs _ c.args.tags.now refused;
-            of_values = lent_none bs _ c.args.values.now refused;
-          };
-      input = job_input bs (λ i. omega (arith, known.given i));
-    }
-
-pub returns-in-Accepted : goal.returns-in-Accepted
-returns-in-Accepted c =
-    let known = c.shared_slice_known-1 in
-    let bs = c.args.input.now in
-    let passed = sym c.check_job-checked.ensures ∙ ap verdict c.in-Accepted.is in
-    let text = spelled (output_run bs passed) c.run_cells.ensures.wrote in
-    record {
-      printed = printed_whole text (omega arith) c.size.ensures.1;
-      lists = c.run_cells.ensures.lists;
-      input = job_input bs (λ i. omega (arith, known.given i));
-    }
+pub returns-clause-printed : goal.returns-clause-printed
+returns-clause-printed c =
+    let blank = c.new-page.ensures in
+    let wrote = c.print.ensures.wrote in
+    let back : c.out-1.given.0 ≡ c.print.new.page.out.now = c.out-1.given.1 (sym (wrote.same_reference ∙ blank.same_reference)) in
+    let text = printed_whole wrote blank.empty (omega arith) blank.size in
+    rw (back, c.len.ensures) (rw blank.bytes at text)

@@ -23,6 +23,7 @@ run_job-requires c =
     let n = c.number2-count.result in
     let told : n ≡ count_of c.args.input.now = c.number2-count.ensures.0 in
     record {
+      blank = c.requires.blank;
       complete = c.requires.input_value.1;
       room = (
         length-take-le n c.args.addresses.now (omega arith) ∙ told,
