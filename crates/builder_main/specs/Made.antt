@@ -1,31 +1,29 @@
 -- The call that a stored step gives, and what it leaves by the builder's definition.
-use Rattle.std.specs.Prelude.{ℕ, List, [], ◌∷◌, slice_index_or}
+use Rattle.std.specs.Prelude.{ℕ, Option, Some, None, List, [], ◌∷◌, slice_index_or}
+use Rattle.code.specs.declared.tree.Instruction.{Instruction}
+use Rattle.code.specs.declared.tree.Ocmp.{Ocmp}
 use Rattle.builder.specs.declared.build.Build.{Build}
 use Rattle.builder.specs.Calls.{open_block, open_if_else, open_while, add, close}
 use Rattle.builder.specs.Building.{empty, Outcome, outcome, call}
 use Rattle.numbered.specs.declared.operands.Numbers.{Numbers}
-use Rattle.numbered.specs.declared.values.GivenInstruction.{GivenInstruction}
-use Rattle.numbered.specs.declared.values.GivenInstruction.TheVariants.{Value, Nothing}
-use Rattle.numbered.specs.declared.values.GivenComparison.{GivenComparison}
-use Rattle.numbered.specs.declared.values.GivenComparison.TheVariants.{Value as Compares, Nothing as NoComparison}
 use Rattle.numbered.specs.Values.{instruction_given, comparison_given}
 use Rattle.builder_main.specs.declared.given.Given.{Given}
 use Rattle.builder_main.specs.declared.given.Given.TheVariants.{Begin, OpenBlock, OpenIfElse, OpenWhile, Add, Close, NoValue}
 
 -- a comparison opens an IfElse
-abbrev pub if_else_of : GivenComparison → Given
-if_else_of (Compares c) = OpenIfElse c
-if_else_of NoComparison = NoValue
+abbrev pub if_else_of : Option Ocmp → Given
+if_else_of (Some c) = OpenIfElse c
+if_else_of None = NoValue
 
 -- or a While
-abbrev pub while_of : GivenComparison → Given
-while_of (Compares c) = OpenWhile c
-while_of NoComparison = NoValue
+abbrev pub while_of : Option Ocmp → Given
+while_of (Some c) = OpenWhile c
+while_of None = NoValue
 
 -- an instruction is added
-abbrev pub add_of : GivenInstruction → Given
-add_of (Value i) = Add i
-add_of Nothing = NoValue
+abbrev pub add_of : Option Instruction → Given
+add_of (Some i) = Add i
+add_of None = NoValue
 
 -- the calls with these numbers, in the order of the kinds
 abbrev pub calls_of : Numbers → List Given

@@ -5,7 +5,7 @@ ghost use Rattle.builder_main.specs.Made.{made, if_else_of, while_of, add_of, gi
 
 use builder::{Build, Built};
 use code::{Instruction, Ocmp};
-use numbered::{GivenComparison, GivenInstruction, Numbers, comparison_of, instruction_of};
+use numbered::{Numbers, comparison_of, instruction_of};
 
 // The kinds of calls in a stored file, of which close is the last.
 pub const BEGIN: u8 = 0;
@@ -32,30 +32,30 @@ pub enum Given {
     NoValue,
 }
 
-fn if_else_of(comparison: GivenComparison) -> Given
+fn if_else_of(comparison: Option<Ocmp>) -> Given
     ensures { result ≡ if_else_of comparison }
 {
     match comparison {
-        GivenComparison::Value(condition) => Given::OpenIfElse(condition),
-        GivenComparison::Nothing => Given::NoValue,
+        Some(condition) => Given::OpenIfElse(condition),
+        None => Given::NoValue,
     }
 }
 
-fn while_of(comparison: GivenComparison) -> Given
+fn while_of(comparison: Option<Ocmp>) -> Given
     ensures { result ≡ while_of comparison }
 {
     match comparison {
-        GivenComparison::Value(condition) => Given::OpenWhile(condition),
-        GivenComparison::Nothing => Given::NoValue,
+        Some(condition) => Given::OpenWhile(condition),
+        None => Given::NoValue,
     }
 }
 
-fn add_of(instruction: GivenInstruction) -> Given
+fn add_of(instruction: Option<Instruction>) -> Given
     ensures { result ≡ add_of instruction }
 {
     match instruction {
-        GivenInstruction::Value(instruction) => Given::Add(instruction),
-        GivenInstruction::Nothing => Given::NoValue,
+        Some(instruction) => Given::Add(instruction),
+        None => Given::NoValue,
     }
 }
 

@@ -6,7 +6,7 @@ ghost use Rattle.numbered.specs.Values.{instruction_given, comparison_given};
 ghost use Rattle.capi.specs.Lent.{lent_build, given_build, left_build, given_numbers, add_given, if_else_given, while_given, InstructionTyped, ComparisonTyped};
 
 use builder::{Build, Built, add, begin, close, open_block, open_if_else, open_while};
-use numbered::{GivenComparison, GivenInstruction, Numbers, comparison_of, instruction_of};
+use numbered::{Numbers, comparison_of, instruction_of};
 
 // What is given is no value: a kind is none of those allowed there.
 const NO_VALUE: u8 = 2;
@@ -161,8 +161,7 @@ pub extern "C" fn pokchrei_open_if_else(
     let given = lent_numbers(
         kind, body, operands, bases, indexes, scales, numbers, offsets,
     );
-    let value = comparison_of(given);
-    let GivenComparison::Value(value) = value else {
+    let Some(value) = comparison_of(given) else {
         return NO_VALUE;
     };
     let build = lent_build(*length, *depth, parts, fields, starts);
@@ -197,8 +196,7 @@ pub extern "C" fn pokchrei_open_while(
     let given = lent_numbers(
         kind, body, operands, bases, indexes, scales, numbers, offsets,
     );
-    let value = comparison_of(given);
-    let GivenComparison::Value(value) = value else {
+    let Some(value) = comparison_of(given) else {
         return NO_VALUE;
     };
     let build = lent_build(*length, *depth, parts, fields, starts);
@@ -233,8 +231,7 @@ pub extern "C" fn pokchrei_add(
     let given = lent_numbers(
         kind, body, operands, bases, indexes, scales, numbers, offsets,
     );
-    let value = instruction_of(given);
-    let GivenInstruction::Value(value) = value else {
+    let Some(value) = instruction_of(given) else {
         return NO_VALUE;
     };
     let build = lent_build(*length, *depth, parts, fields, starts);

@@ -7,13 +7,13 @@ use Rattle.capi.proofs.build.pokchrei_open_if_else.Goals as goal
 
 pub returns-in_default : goal.returns-in_default
 returns-in_default c =
-    let given = c.comparison_of-value.ensures ∙ ap comparison_given c.lent_numbers-given.ensures in
+    let given = c.comparison_of.ensures ∙ ap comparison_given c.lent_numbers-given.ensures in
     record { buffer_after = if_not_opened _ _ given c.in_default.is; comparison_typed = no_comparison_fits given c.in_default.is }
 
 pub returns : goal.returns
 returns c =
-    let given = c.comparison_of-value.ensures ∙ ap comparison_given c.lent_numbers-given.ensures in
-    let is = c.in-Value.is in
+    let given = c.comparison_of.ensures ∙ ap comparison_given c.lent_numbers-given.ensures in
+    let is = c.in-Some.is in
     record {
       buffer_after =
           if_opened _ _ given is (from (open_if_else _) _ c.lent_build-build.ensures
