@@ -15,13 +15,6 @@ pub struct Build {
     pub starts: [u16; 32],
 }
 
-// What a call answers: 0 or the number of a refusal, and the build.
-#[derive(Clone, Copy)]
-pub struct Built {
-    pub answer: u8,
-    pub build: Build,
-}
-
 // The kinds of parts: a Block's codes; an IfElse's true part; and a part whose close completes its structure, an IfElse's
 // false part or a While's.
 pub const CODES: u8 = 0;
