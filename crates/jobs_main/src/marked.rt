@@ -1,15 +1,15 @@
 // The stored jobs with a scale that only last year's rule accepted. Behind a line that says so, each job has two texts: the one that
 // rule printed, which is no more this program's to give, and today's, which refuses the job for its scale.
 
-ghost use Rattle.std.specs.Prelude.{◌≡◌, true, take};
+ghost use Rattle.std.specs.Prelude.{◌≡◌, ◌↔◌, IsTrue, take};
 ghost use Rattle.jobs_main.specs.Marked.{refused_7};
 
-use crate::part::read_full;
 use std::io;
 use std::io::Read;
+use stored::read_full;
 
 // Whether a file begins with the line that marks it.
-pub fn is_marked(file: &mut impl Read) -> io::Result<bool> {
+pub fn is_marked<R: Read>(file: &mut R) -> io::Result<bool> {
     let mut line = [0u8; 142];
     let n = read_full(file, &mut line)?;
     let mark =
@@ -19,11 +19,7 @@ pub fn is_marked(file: &mut impl Read) -> io::Result<bool> {
 
 // Whether a text refuses a job for a scale.
 pub fn refuses_scale(text: &[u8]) -> bool
-    ensures { (result ≡ true → take 10 text.now ≡ refused_7)
-        × (take 10 text.now ≡ refused_7 → result ≡ true) }
+    ensures { IsTrue result ↔ (take 10 text.now ≡ refused_7) }
 {
-    if text.len() < 10 {
-        return false;
-    }
-    &text[..10] == b"refused 7 ".as_slice()
+    text.starts_with(b"refused 7 ")
 }

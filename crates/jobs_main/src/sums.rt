@@ -1,7 +1,7 @@
 // A stored sum: the kind of its instruction and its evaluation, a byte each, and six words, low byte first: Rax, Rbx, flags and the
 // fill word before, and Rax and flags behind.
 
-ghost use Rattle.std.specs.Prelude.{◌≡◌, ◌≤◌, true, length};
+ghost use Rattle.std.specs.Prelude.{◌≡◌, ◌↔◌, IsTrue};
 ghost use Rattle.jobs_main.specs.Sums.{evaluation_at, Says, IsStored};
 
 use code::number8;
@@ -10,61 +10,43 @@ use machine::State;
 
 pub const ROW: usize = 50;
 
-fn evaluation_at(row: &[u8]) -> Evaluation
-    requires { 50 ≤ length row.now }
+fn evaluation_at(row: &[u8; ROW]) -> Evaluation
     ensures { result ≡ evaluation_at row.now }
 {
-    if row[1] == 0 {
-        Evaluation::Base
-    } else {
-        Evaluation::Board
+    match row[1] {
+        0 => Evaluation::Base,
+        _ => Evaluation::Board,
     }
 }
 
 // The instruction alone, from Rbx to Rax.
-fn run_sum(row: &[u8]) -> Run
-    requires { 50 ≤ length row.now }
+fn run_sum(row: &[u8; ROW]) -> Run
     ensures { Says row.now result }
 {
     let code = [row[0], 0x41, 0, 0x41, 1];
-    let mut regs = [0u64; 16];
+    let mut regs = [0; 16];
     regs[0] = number8(row, 2);
     regs[1] = number8(row, 10);
-    let xmms = [0u32; 64];
-    let flags = number8(row, 18);
-    let start = State { regs, xmms, flags };
-    let fill = number8(row, 26);
-    let evaluation = evaluation_at(row);
+    let start = State {
+        regs,
+        xmms: [0; 64],
+        flags: number8(row, 18),
+    };
     let setting = Setting {
-        fill,
+        fill: number8(row, 26),
         fuel: 0,
         limit: 1,
-        evaluation,
+        evaluation: evaluation_at(row),
     };
-    let addresses = [0u64; 1];
-    let tags = [0u8; 1];
-    let mut values = [0u64; 1];
-    run(
-        &code,
-        &addresses[..0],
-        &tags[..0],
-        &mut values[..0],
-        start,
-        setting,
-    )
+    run(&code, &[], &[], &mut [], start, setting)
 }
 
 // Whether a sum ends as it is stored.
-pub fn agrees(row: &[u8]) -> bool
-    requires { 50 ≤ length row.now }
-    ensures { (result ≡ true → IsStored row.now) × (IsStored row.now → result ≡ true) }
+pub fn agrees(row: &[u8; ROW]) -> bool
+    ensures { IsTrue result ↔ IsStored row.now }
 {
-    let end = run_sum(row);
-    let answer = end.answer;
-    let Answer::Done = answer else {
-        return false;
-    };
-    let state = end.state;
-    let regs = state.regs;
-    regs[0] == number8(row, 34) && state.flags == number8(row, 42)
+    let Run { answer, state, .. } = run_sum(row);
+    matches!(answer, Answer::Done)
+        && state.regs[0] == number8(row, 34)
+        && state.flags == number8(row, 42)
 }
