@@ -1,7 +1,7 @@
 -- What the code of a call leaves is what the definition of the call says, for each kind of call.
 use Prim.Native.Nat.{ℕ, ◌+◌, ◌-◌, ◌≤◌}
 use mathlib.Core.Path.{◌≡◌, refl, sym, ap, ◌∙◌, subst}
-use mathlib.Core.Bool.{Bool, ◌&&◌, ◌||◌, cond}
+use mathlib.Core.Bool.{Bool, ◌&&◌, ◌||◌}
 use mathlib.Core.List.{List, [], ◌∷◌, ◌++◌}
 use native.Mathlib.Omega.{arith}
 use borrow.Author.Tests.{ltb-true, leb-true, eq-eqb, ne_eqb}
@@ -13,10 +13,9 @@ use Rattle.code.specs.declared.tree.Ocmp.{Ocmp}
 use Rattle.code.specs.Layout.{Layout, layout, ocmp_layout}
 use Rattle.code.specs.Writer.{bytes_of, bytes_of_record, bytes_of_ins, bytes_of_ocmp}
 use Rattle.builder.specs.declared.build.Build.{Build}
-use Rattle.builder.specs.declared.record.Record.{Record}
 use Rattle.builder.specs.Calls.{open_block, open_if_else, open_while, add, close, bytes_of_call, record_trouble, call_trouble, RecordTyped, CallTyped}
-use Rattle.builder.specs.Building.{kind_of, field_of, start_of, is_part, takes_code, takes_close, call_fits, depth_of, judge, refusal, longer, opened, turned, shut, build_after, buffer_after, Outcome, outcome, answered, call}
-use Rattle.builder.specs.Rendered.{layout_of, Wrote, Closable}
+use Rattle.builder.specs.Building.{kind_of, field_of, start_of, is_part, takes_code, takes_close, call_fits, depth_of, judge, refusal, longer, opened, turned, shut, build_after, buffer_after, Outcome, answered, call}
+use Rattle.builder.specs.Rendered.{Wrote, Closable}
 use Rattle.std.proofs.lemmas.Bool.{and_parts}
 use Rattle.builder.proofs.Judged.{was_taken, same_judge}
 
@@ -173,4 +172,3 @@ close_turned b k n = n ∙ rw (eq-eqb (kind_of b) 1 k) refl
 pub close_shut : (b : Build) {r : Build} → (kind_of b ≡ 1 → ⊥) → r ≡ shut b → r ≡ build_after close b
 unfolding build_after
 close_shut b k n = n ∙ rw (ne_eqb (kind_of b) 1 k) refl
-

@@ -96,11 +96,7 @@ pub fn open_block(build: Build, buffer: &mut [u8]) -> Result<Build, BuildRefusal
     open_part(build, buffer, &[0x20, 0, 0, 0, 0], Ok(()), CODES)
 }
 
-pub fn open_if_else(
-    build: Build,
-    buffer: &mut [u8],
-    condition: Ocmp,
-) -> Result<Build, BuildRefusal>
+pub fn open_if_else(build: Build, buffer: &mut [u8], condition: Ocmp) -> Result<Build, BuildRefusal>
     ensures buffer_after { left build result buffer.new ≡ call (open_if_else condition) build buffer.old }
     ensures call_typed { CallTyped (open_if_else condition) }
 {
@@ -112,11 +108,7 @@ pub fn open_if_else(
     open_part(build, buffer, &bytes[..n], fields, TRUE_PART)
 }
 
-pub fn open_while(
-    build: Build,
-    buffer: &mut [u8],
-    condition: Ocmp,
-) -> Result<Build, BuildRefusal>
+pub fn open_while(build: Build, buffer: &mut [u8], condition: Ocmp) -> Result<Build, BuildRefusal>
     ensures buffer_after { left build result buffer.new ≡ call (open_while condition) build buffer.old }
     ensures call_typed { CallTyped (open_while condition) }
 {
@@ -128,11 +120,7 @@ pub fn open_while(
     open_part(build, buffer, &bytes[..n], fields, LAST_PART)
 }
 
-pub fn add(
-    build: Build,
-    buffer: &mut [u8],
-    instruction: Instruction,
-) -> Result<Build, BuildRefusal>
+pub fn add(build: Build, buffer: &mut [u8], instruction: Instruction) -> Result<Build, BuildRefusal>
     ensures buffer_after { left build result buffer.new ≡ call (add instruction) build buffer.old }
     ensures call_typed { CallTyped (add instruction) }
 {

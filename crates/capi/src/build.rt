@@ -5,9 +5,7 @@ ghost use Rattle.builder.specs.Building.{empty, outcome, left, call};
 ghost use Rattle.numbered.specs.Values.{instruction_given, comparison_given};
 ghost use Rattle.capi.specs.Lent.{lent_build, given_build, left_build, given_numbers, add_given, if_else_given, while_given, InstructionTyped, ComparisonTyped};
 
-use builder::{
-    Build, BuildRefusal, add, begin, close, open_block, open_if_else, open_while,
-};
+use builder::{Build, BuildRefusal, add, begin, close, open_block, open_if_else, open_while};
 use numbered::{Numbers, comparison_of, instruction_of};
 
 // What is given is no value: a kind is none of those allowed there.

@@ -1,5 +1,5 @@
 -- The tests in their order.
-use mathlib.Core.Path.{ap, sym, ◌∙◌}
+use mathlib.Core.Path.{ap, sym}
 use Rattle.std.proofs.lemmas.Result.{err_from_is_err_and}
 use Rattle.builder.specs.Building.{answer_of}
 use Rattle.builder.proofs.Judged.{is_51, is_trouble, is_53, is_52, is_taken}
