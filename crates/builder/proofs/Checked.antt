@@ -3,6 +3,7 @@ use Prim.Native.Nat.{ℕ, zero, suc, ◌+◌, ◌≤◌}
 use mathlib.Core.Path.{◌≡◌, refl, sym, ap, subst, subst⁻¹, ◌∙◌}
 use mathlib.Core.Bool.{Bool, true, false, not, ◌||◌}
 use mathlib.Core.List.{List, [], ◌∷◌, ◌++◌, map, append_assoc}
+use mathlib.Core.Logic.{inl, inr}
 use native.Mathlib.Omega.{arith}
 use borrow.Author.Tests.{leb-true, leb-false, le-ltb, lt-ltb, lt-leb}
 use lib.Dec.{ltb, leb}
@@ -26,7 +27,8 @@ use Rattle.code.proofs.Complete.{behind_structure}
 use Rattle.code.proofs.Held.{Holds, holds_from, holds_behind, split, length_bytes, length_signed, signed_held}
 use Rattle.code.proofs.ReadBack.{kind_is, count_is, parts, ends_at}
 use Rattle.builder.specs.Calls.{first_of, number_trouble, scale_trouble, byte_trouble, maddr_trouble, operand_trouble, body_trouble, operands_trouble, record_trouble, MaddrTyped, OperandTyped, ByteTyped, RecordTyped}
-use Rattle.builder.specs.Rendered.{trouble_of, Wrote}
+use Rattle.builder.specs.Rendered.{trouble_of, OnlyFields, Wrote}
+use Rattle.builder.proofs.Known.{Known, record_known}
 use Rattle.builder.proofs.Calling.{same_room}
 
 -- ---- the first of some claims, and the others
@@ -43,9 +45,14 @@ operands_typed [] os h = h
 operands_typed (b ∷ bytes) os h = operands_typed bytes os (others (ByteTyped b) (map ByteTyped bytes ++ map OperandTyped os) h)
 
 -- ---- a reading has the trouble n, or, where that is 0, goes on at m
-abbrev Says : Read (Unit {0}) → ℕ → ℕ → Type 0
+abbrev pub Says : Read (Unit {0}) → ℕ → ℕ → Type 0
 Says r zero m = r ≡ got tt m
 Says r (suc n) m = (p : ℕ) × (r ≡ trouble (suc n) p)
+
+says_fields : (r : Read (Unit {0})) (n m : ℕ) → Says r n m → Known n → OnlyFields r
+says_fields r zero m h k = subst⁻¹ OnlyFields h tt
+says_fields r (suc n) m h (inl z) = absurd (omega (arith, z))
+says_fields r (suc n) m h (inr w) = subst⁻¹ OnlyFields h.1 w
 
 says_number : (r : Read (Unit {0})) (n m : ℕ) → Says r n m → trouble_of r ≡ n
 says_number r zero m h = ap trouble_of h
@@ -180,14 +187,17 @@ module _ (bs : List ℕ) where
         let says = body_says l.body 1 at (suc at) (got tt (behind bs at)) 0 (behind bs at) stood (omega arith) refl in
         rw (le-ltb e (behind bs at) inside, fields_are) (subst (λ (n : ℕ). Says read n (behind bs at)) (first_last (body_trouble l.body)) says)
 
-    pub record_says : trouble_of (rest_of_all bs e at) ≡ record_trouble l
+    pub record_reads : Says (rest_of_all bs e at) (record_trouble l) e
     unfolding rest_of_all record_trouble RecordTyped
-    record_says =
+    record_reads =
         let stood = (parts allowed l agrees bs at held).1 in
         let tail : Says (read_operands (operand_count (byte_at bs at)) bs e (behind bs at)) (operands_trouble l.operands) e =
         rw (count_is allowed l agrees bs at held)
         (operands_say l.operands (behind bs at) e stood (operands_typed l.body l.operands typed) (ends_at allowed l agrees bs at held ∙ ends)) in
-        says_number _ _ e (follows (rest_of_record bs e at) (body_trouble l.body) (behind bs at) (operands_trouble l.operands) e _ head_says tail)
+        follows (rest_of_record bs e at) (body_trouble l.body) (behind bs at) (operands_trouble l.operands) e _ head_says tail
+
+    pub record_says : trouble_of (rest_of_all bs e at) ≡ record_trouble l
+    record_says = says_number _ _ e record_reads
 
 -- ---- a record that was written into the array
 pub used_ins : (k : ℕ) → is_ins k ≡ true → is_used k ≡ true
@@ -229,6 +239,11 @@ module _ (allowed : ℕ → Bool) (used : (k : ℕ) → allowed k ≡ true → i
         inside = omega (arith, same_room w);
         kind = rw held.0 (used given.kind agrees.right);
       }
+
+  -- reading it finds nothing wrong but its fields
+  pub only_fields : RecordTyped given → OnlyFields (rest_of_all after n at)
+  only_fields typed =
+      says_fields _ _ n (record_reads after allowed given agrees typed at n held (sym w.place)) (record_known given)
 
   -- and has its trouble
   pub trouble_is : RecordTyped given → {r : ℕ} → r ≡ trouble_of (rest_of_all after n at) → r ≡ record_trouble given

@@ -3,12 +3,25 @@ use Prim.Native.Nat.{ℕ, zero, suc, ◌≤◌, ◌<◌}
 use mathlib.Core.Path.{◌≡◌, refl, sym, ap, ◌∙◌}
 use mathlib.Core.Bool.{Bool, true, false, ◌&&◌}
 use mathlib.Core.List.{List}
+use mathlib.Core.Logic.{◌⊎◌, inl, inr}
+use Rattle.std.specs.Prelude.{Result, Err}
+use Rattle.std.proofs.lemmas.Bool.{and_parts}
 use native.Mathlib.Omega.{arith}
 use borrow.Author.Tests.{leb-true, le-leb, lt-leb, ne_eqb}
 use lib.Dec.{leb}
 use Rattle.builder.specs.declared.build.Build.{Build}
 use Rattle.builder.specs.Calls.{first_of}
-use Rattle.builder.specs.Building.{unless, judge, outcome, answered}
+use Rattle.builder.specs.declared.refusal.BuildRefusal.{BuildRefusal}
+use Rattle.builder.specs.declared.refusal.BuildRefusal.TheVariants.{Misfit, NoRegister, NoScale, TooDeep, NoRoom}
+use Rattle.builder.specs.Building.{number_of, unless, judge, outcome, left, answered}
+
+-- no refusal has the number 0
+pub some_number : (r : BuildRefusal) → number_of r ≡ 0 → ⊥
+some_number Misfit e = omega (arith, e)
+some_number NoRegister e = omega (arith, e)
+some_number NoScale e = omega (arith, e)
+some_number TooDeep e = omega (arith, e)
+some_number NoRoom e = omega (arith, e)
 
 -- the first of two numbers
 pub first_is : (n m : ℕ) → (n ≡ 0 → ⊥) → first_of n m ≡ n
@@ -21,22 +34,20 @@ module _ (fits : Bool) (trouble depth bytes room : ℕ) where
   unfolding judge unless
   is_51 e = rw (e) refl
 
-  pub is_trouble : fits ≡ true → (trouble ≡ 0 → ⊥) → trouble ≡ judge fits trouble depth bytes room
+  pub is_trouble : (r : BuildRefusal) → fits ≡ true → number_of r ≡ trouble → number_of r ≡ judge fits trouble depth bytes room
   unfolding judge unless
-  is_trouble e f = rw e (sym (first_is trouble _ f))
+  is_trouble r e f = rw (e, sym f) (sym (first_is (number_of r) _ (some_number r)))
 
   pub is_53 : fits ≡ true → trouble ≡ 0 → 32 < depth → 53 ≡ judge fits trouble depth bytes room
   unfolding judge unless first_of
   is_53 e f h = rw (e, f, lt-leb depth 32 h) refl
 
-  pub is_52 : fits ≡ true → trouble ≡ 0 → depth ≤ 32 → room < bytes → 52 ≡ judge fits trouble depth bytes room
+  pub is_52 :
+      fits ≡ true → trouble ≡ 0 → depth ≤ 32 → (room < bytes) ⊎ ((bytes ≤ room) × (16384 < bytes))
+      → 52 ≡ judge fits trouble depth bytes room
   unfolding judge unless first_of
-  is_52 e f h k = rw (e, f, le-leb depth 32 h, lt-leb bytes room k) refl
-
-  pub is_52_too :
-      fits ≡ true → trouble ≡ 0 → depth ≤ 32 → bytes ≤ room → 16384 < bytes → 52 ≡ judge fits trouble depth bytes room
-  unfolding judge unless first_of
-  is_52_too e f h k l = rw (e, f, le-leb depth 32 h, le-leb bytes room k, lt-leb bytes 16384 l) refl
+  is_52 e f h (inl k) = rw (e, f, le-leb depth 32 h, lt-leb bytes room k) refl
+  is_52 e f h (inr k) = rw (e, f, le-leb depth 32 h, le-leb bytes room k.0, lt-leb bytes 16384 k.1) refl
 
   pub is_taken :
       fits ≡ true → trouble ≡ 0 → depth ≤ 32 → bytes ≤ room → bytes ≤ 16384 → 0 ≡ judge fits trouble depth bytes room
@@ -60,10 +71,6 @@ unfolding unless
 unless_zero true n next h e = (refl, e)
 unless_zero false n next h e = absurd (omega (arith, h, e))
 
-pub both : (s t : Bool) → (s && t) ≡ true → (s ≡ true) × (t ≡ true)
-both true t e = (refl, e)
-both false t e = absurd (let z : ◌≡◌ {A = ℕ} 0 1 = cc in omega (arith, z))
-
 pub was_taken :
     (fits : Bool) (trouble depth bytes room : ℕ) {r : ℕ} → r ≡ judge fits trouble depth bytes room → r ≡ 0 → Taken fits depth bytes room
 unfolding judge
@@ -72,7 +79,7 @@ was_taken fits trouble depth bytes room e z =
     let b = first_zero trouble _ a.1 in
     let c = unless_zero (leb depth 32) 53 _ (omega arith) b.1 in
     let d = unless_zero (leb bytes room && leb bytes 16384) 52 _ (omega arith) c.1 in
-    let h = both (leb bytes room) (leb bytes 16384) d.0 in
+    let h = and_parts (leb bytes room) (leb bytes 16384) d.0 in
     record {
       it_fits = a.0;
       shallow = leb-true depth 32 c.0;
@@ -91,9 +98,11 @@ same_judge fits its trouble depth d bytes n room e f g h =
     ∙ ap (λ (x : ℕ). judge its trouble d x room) g
 
 -- ---- what is answered
-module _ (b next : Build) (buffer written : List ℕ) {n r : ℕ} (e : r ≡ n) where
-  pub taken_is : r ≡ 0 → outcome r next written ≡ answered n b next buffer written
-  taken_is z = rw (sym e, z) refl
+module _ (b next : Build) (entry written : List ℕ) {n : ℕ} where
+  pub taken_as : {now : Build} {exit : List ℕ} → 0 ≡ n → exit ≡ written → now ≡ next → outcome 0 now exit ≡ answered n b next entry written
+  taken_as z e f = rw (sym z, e, f) refl
 
-  pub refused_is : (r ≡ 0 → ⊥) → outcome r b buffer ≡ answered n b next buffer written
-  refused_is z = rw (sym e, ne_eqb r 0 z) refl
+  pub refused_as :
+      {r : Result Build BuildRefusal} {e : BuildRefusal} {exit : List ℕ} → r ≡ Err e → number_of e ≡ n → exit ≡ entry
+      → left b r exit ≡ answered n b next entry written
+  refused_as {e} is z s = rw (is, s, sym z, ne_eqb (number_of e) 0 (some_number e)) refl

@@ -1,10 +1,11 @@
 -- What a call does: one definition for every call, build and buffer. A build that no call left is answered by it too. Where its depth is above 32, or its
 -- innermost part has a kind above 2 or does not begin behind its length and within the build, the part takes neither code nor close. Any other is taken
 -- at its word.
-use Rattle.std.specs.Prelude.{ℕ, ◌+◌, ◌-◌, Bool, true, false, ◌&&◌, ◌||◌, cond, List, eqb, ltb, leb, length, get_or, set, replicate}
+use Rattle.std.specs.Prelude.{ℕ, ◌+◌, ◌-◌, Bool, true, false, ◌&&◌, ◌||◌, cond, Result, Ok, Err, List, eqb, ltb, leb, length, get_or, set, replicate}
 use Rattle.std.proofs.lemmas.List.Edits.{sets}
 use Rattle.builder.specs.declared.build.Build.{Build}
-use Rattle.builder.specs.declared.build.Built.{Built}
+use Rattle.builder.specs.declared.refusal.BuildRefusal.{BuildRefusal}
+use Rattle.builder.specs.declared.refusal.BuildRefusal.TheVariants.{Misfit, NoRegister, NoScale, TooDeep, NoRoom}
 use Rattle.code.specs.Writer.{bytes_of}
 use Rattle.builder.specs.Calls.{Call, open_block, open_if_else, open_while, add, close, bytes_of_call, first_of, call_trouble}
 
@@ -142,9 +143,23 @@ pub record Outcome : Type 0 where
 abbrev pub outcome : ℕ → Build → List ℕ → Outcome
 outcome n b buffer = record { answer = n; build = b; buffer = buffer }
 
--- what a call answers, beside the buffer that it leaves
-abbrev pub left : Built → List ℕ → Outcome
-left r buffer = outcome r.answer r.build buffer
+-- the number of a refusal
+abbrev pub number_of : BuildRefusal → ℕ
+number_of Misfit = 51
+number_of NoRegister = 4
+number_of NoScale = 7
+number_of TooDeep = 53
+number_of NoRoom = 52
+
+-- 0, or the number of a refusal
+abbrev pub answer_of : {A : Type 0} → Result A BuildRefusal → ℕ
+answer_of (Ok x) = 0
+answer_of (Err r) = number_of r
+
+-- what a call on a build answers, beside the buffer that it leaves: a refused one leaves the build as it was
+abbrev pub left : Build → Result Build BuildRefusal → List ℕ → Outcome
+left b (Ok next) buffer = outcome 0 next buffer
+left b (Err r) buffer = outcome (number_of r) b buffer
 
 -- taken, with the build and the buffer that this leaves, or refused by a number other than 0 and nothing changed
 abbrev pub answered : ℕ → Build → Build → List ℕ → List ℕ → Outcome

@@ -1,5 +1,5 @@
 -- What the functions below the calls promise: how a record passes from value to bytes, what reading these finds, and which builds are closed.
-use Rattle.std.specs.Prelude.{ℕ, ◌+◌, ◌-◌, ◌≤◌, ◌<◌, ◌≡◌, List, [], ◌∷◌, ℤ, pos, negsuc, length}
+use Rattle.std.specs.Prelude.{ℕ, ◌+◌, ◌-◌, ◌≤◌, ◌<◌, ◌≡◌, ◌⊎◌, List, [], ◌∷◌, ℤ, pos, negsuc, length}
 use Rattle.std.proofs.lemmas.List.Edits.{sets}
 use Rattle.machine.specs.declared.Operand.{Operand}
 use Rattle.code.specs.Layout.{Byte, number, amount, Layout, laid}
@@ -46,6 +46,11 @@ pub record Wrote (most : ℕ) (before : List ℕ) (at : ℕ) (text after : List 
 abbrev pub trouble_of : Read (Unit {0}) → ℕ
 trouble_of (got a next) = 0
 trouble_of (trouble n p) = n
+
+-- a reading that finds nothing wrong but a field: a register or an xmm number (4), or a scale (7)
+abbrev pub OnlyFields : Read (Unit {0}) → Type 0
+OnlyFields (got a next) = Unit {0}
+OnlyFields (trouble n p) = (n ≡ 4) ⊎ (n ≡ 7)
 
 -- what is known of a build whose innermost part was found to take a close, in a buffer that holds it
 pub record Closable (b : Build) (room : ℕ) : Type 0 where

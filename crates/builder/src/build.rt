@@ -6,7 +6,7 @@ ghost use Rattle.builder.specs.Building.{empty, kind_of, field_of, start_of, tak
 
 // What a build holds besides its bytes, which stand at the front of the lent buffer: how many they are, and the open
 // parts, outermost first. A part has a kind, the place of the length that counts it, and the place where it begins.
-#[derive(Clone, Copy)]
+#[derive(Clone, Copy, PartialEq, Eq)]
 pub struct Build {
     pub length: u16,
     pub depth: u16,
@@ -15,15 +15,8 @@ pub struct Build {
     pub starts: [u16; 32],
 }
 
-// What a call answers: 0 or the number of a refusal, and the build.
-#[derive(Clone, Copy)]
-pub struct Built {
-    pub answer: u8,
-    pub build: Build,
-}
-
 // The kinds of parts: a Block's codes; an IfElse's true part; and a part whose close completes its structure, an IfElse's
-// false part or a While's.
+// false part or a While's. Bytes and no enum: the parts are an array that C lends (`pokchrei_build`), in which any may stand.
 pub const CODES: u8 = 0;
 
 pub const TRUE_PART: u8 = 1;

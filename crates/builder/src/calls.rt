@@ -1,76 +1,76 @@
 // The calls. Each is judged first, and a refused one writes nothing.
-ghost use Rattle.std.specs.Prelude.{◌≡◌, cond, ◌+◌, ◌≤◌, eqb, length, take};
+ghost use Rattle.std.specs.Prelude.{◌≡◌, ◌+◌, ◌≤◌, ◌-◌, length, OnOk, OnErr};
 ghost use Rattle.std.proofs.lemmas.List.Edits.{sets};
 ghost use Rattle.code.specs.Kinds.{is_used};
 ghost use Rattle.code.specs.Reached.{Begins, rest_of_all};
 ghost use Rattle.builder.specs.Calls.{open_block, open_if_else, open_while, add, close, CallTyped};
-ghost use Rattle.builder.specs.Rendered.{trouble_of, Closable};
-ghost use Rattle.builder.specs.Building.{takes_code, judge, refusal, opened, buffer_after, answered, left, call};
+ghost use Rattle.builder.specs.Rendered.{trouble_of, OnlyFields, Closable};
+ghost use Rattle.builder.specs.Building.{takes_code, judge, refusal, opened, buffer_after, answered, answer_of, left, call};
 
 use crate::build::{
-    Build, Built, CODES, LAST_PART, TRUE_PART, closed, innermost, longer, opened, takes_close,
-    takes_code, wide,
+    Build, CODES, LAST_PART, TRUE_PART, closed, innermost, longer, opened, takes_close, takes_code,
+    wide,
 };
 use crate::record::{record_of, record_of_ocmp};
+use crate::refusal::BuildRefusal;
 use crate::write::{copy, put_number, put_record};
 use code::{Instruction, Ocmp, Reach, read_rest};
 
-// The number of the first refusal whose condition holds.
-fn judge(fits: bool, trouble: u8, depth: usize, bytes: usize, room: usize) -> u8
-    ensures { result ≡ judge fits trouble depth bytes room }
+// The first refusal whose condition holds.
+fn judge(
+    fits: bool,
+    fields: Result<(), BuildRefusal>,
+    depth: usize,
+    bytes: usize,
+    room: usize,
+) -> Result<(), BuildRefusal>
+    ensures { answer_of result ≡ judge fits (answer_of fields) depth bytes room }
 {
     if !fits {
-        return 51;
+        return Err(BuildRefusal::Misfit);
     }
-    if trouble != 0 {
-        return trouble;
-    }
+    fields?;
     if depth > 32 {
-        return 53;
+        return Err(BuildRefusal::TooDeep);
     }
-    if bytes > room {
-        return 52;
+    if bytes > room || bytes > 16384 {
+        return Err(BuildRefusal::NoRoom);
     }
-    if bytes > 16384 {
-        return 52;
-    }
-    0
+    Ok(())
 }
 
-// The number of the first wrong field of the record from `at` to `end`, 0 where all are right: the record is judged as it stands in
-// the bytes, by the check of code.
-fn trouble_in(bytes: &[u8; 52], at: usize, end: usize) -> u8
-    requires { Begins is_used bytes.now end at }
-    ensures { result ≡ trouble_of (rest_of_all bytes.now end at) }
+// The first wrong field of the record from `at` to `end`: the record is judged as it stands in the bytes, by the check of code.
+fn check_fields(bytes: &[u8; 52], at: usize, end: usize) -> Result<(), BuildRefusal>
+    requires begins { Begins is_used bytes.now end at }
+    requires only_fields { OnlyFields (rest_of_all bytes.now end at) }
+    ensures { answer_of result ≡ trouble_of (rest_of_all bytes.now end at) }
 {
-    let read = read_rest(bytes, end, at);
-    match read {
-        Reach::Next(_) => 0,
-        Reach::Trouble(number, _) => number,
+    match read_rest(bytes, end, at) {
+        Reach::Next(_) => Ok(()),
+        Reach::Trouble(7, _) => Err(BuildRefusal::NoScale),
+        Reach::Trouble(_, _) => Err(BuildRefusal::NoRegister),
     }
 }
 
-// A refused call hands the build back as it was.
-fn refused(answer: u8, build: Build) -> Built
-    ensures { (result.answer ≡ answer) × (result.build ≡ build) }
-{
-    Built { answer, build }
-}
-
-// Judges a call that adds the first n of these bytes, and stores them where it is taken.
-fn append(build: Build, buffer: &mut [u8], bytes: &[u8], n: usize, trouble: u8) -> u8
-    requires { (n ≤ 52) × (n ≤ length bytes.now) }
-    ensures value { result ≡ judge (takes_code build) trouble (build.depth + 1) (build.length + n) (length buffer.old) }
-    ensures buffer_after { buffer.new ≡ cond (eqb result 0) (sets buffer.old build.length (take n bytes.now)) buffer.old }
+// Judges a call that adds these bytes, and stores them where it is taken.
+fn append(
+    build: Build,
+    buffer: &mut [u8],
+    bytes: &[u8],
+    fields: Result<(), BuildRefusal>,
+) -> Result<(), BuildRefusal>
+    requires { length bytes.now ≤ 52 }
+    ensures answer { answer_of result
+        ≡ judge (takes_code build) (answer_of fields) (build.depth + 1) (build.length + length bytes.now) (length buffer.old) }
+    ensures ok { OnOk result (buffer.new ≡ sets buffer.old build.length bytes.now) }
+    ensures err { OnErr result (buffer.new ≡ buffer.old) }
 {
     let fits = takes_code(build);
     let depth = wide(build.depth) + 1;
     let length = wide(build.length);
-    let answer = judge(fits, trouble, depth, length + n, buffer.len());
-    if answer == 0 {
-        copy(buffer, length, bytes, n);
-    }
-    answer
+    judge(fits, fields, depth, length + bytes.len(), buffer.len())?;
+    copy(buffer, length, bytes);
+    Ok(())
 }
 
 // Appends the first bytes of a structure, and opens its part of this kind.
@@ -78,81 +78,66 @@ fn open_part(
     build: Build,
     buffer: &mut [u8],
     bytes: &[u8],
-    n: usize,
-    trouble: u8,
+    fields: Result<(), BuildRefusal>,
     kind: u8,
-) -> Built
-    requires { (n ≤ 52) × (n ≤ length bytes.now) }
-    ensures { left result buffer.new
-        ≡ answered (judge (takes_code build) trouble (build.depth + 1) (build.length + n) (length buffer.old))
-        build (opened kind build n) buffer.old (sets buffer.old build.length (take n bytes.now)) }
+) -> Result<Build, BuildRefusal>
+    requires { length bytes.now ≤ 52 }
+    ensures { left build result buffer.new
+        ≡ answered (judge (takes_code build) (answer_of fields) (build.depth + 1) (build.length + length bytes.now) (length buffer.old))
+        build (opened kind build (length bytes.now)) buffer.old (sets buffer.old build.length bytes.now) }
 {
-    let answer = append(build, buffer, bytes, n, trouble);
-    if answer == 0 {
-        return Built {
-            answer,
-            build: opened(kind, build, n),
-        };
-    }
-    refused(answer, build)
+    append(build, buffer, bytes, fields)?;
+    Ok(opened(kind, build, bytes.len()))
 }
 
-pub fn open_block(build: Build, buffer: &mut [u8]) -> Built
-    ensures { left result buffer.new ≡ call open_block build buffer.old }
+pub fn open_block(build: Build, buffer: &mut [u8]) -> Result<Build, BuildRefusal>
+    ensures { left build result buffer.new ≡ call open_block build buffer.old }
 {
-    let mut bytes = [0u8; 52];
-    bytes[0] = 0x20;
-    open_part(build, buffer, &bytes, 5, 0, CODES)
+    open_part(build, buffer, &[0x20, 0, 0, 0, 0], Ok(()), CODES)
 }
 
-pub fn open_if_else(build: Build, buffer: &mut [u8], condition: Ocmp) -> Built
-    ensures buffer_after { left result buffer.new ≡ call (open_if_else condition) build buffer.old }
+pub fn open_if_else(build: Build, buffer: &mut [u8], condition: Ocmp) -> Result<Build, BuildRefusal>
+    ensures buffer_after { left build result buffer.new ≡ call (open_if_else condition) build buffer.old }
     ensures call_typed { CallTyped (open_if_else condition) }
 {
     let given = record_of_ocmp(condition);
     let mut bytes = [0u8; 52];
     bytes[0] = 0x21;
     let n = put_record(&mut bytes, 9, given);
-    let trouble = trouble_in(&bytes, 9, n);
-    open_part(build, buffer, &bytes, n, trouble, TRUE_PART)
+    let fields = check_fields(&bytes, 9, n);
+    open_part(build, buffer, &bytes[..n], fields, TRUE_PART)
 }
 
-pub fn open_while(build: Build, buffer: &mut [u8], condition: Ocmp) -> Built
-    ensures buffer_after { left result buffer.new ≡ call (open_while condition) build buffer.old }
+pub fn open_while(build: Build, buffer: &mut [u8], condition: Ocmp) -> Result<Build, BuildRefusal>
+    ensures buffer_after { left build result buffer.new ≡ call (open_while condition) build buffer.old }
     ensures call_typed { CallTyped (open_while condition) }
 {
     let given = record_of_ocmp(condition);
     let mut bytes = [0u8; 52];
     bytes[0] = 0x22;
     let n = put_record(&mut bytes, 5, given);
-    let trouble = trouble_in(&bytes, 5, n);
-    open_part(build, buffer, &bytes, n, trouble, LAST_PART)
+    let fields = check_fields(&bytes, 5, n);
+    open_part(build, buffer, &bytes[..n], fields, LAST_PART)
 }
 
-pub fn add(build: Build, buffer: &mut [u8], instruction: Instruction) -> Built
-    ensures buffer_after { left result buffer.new ≡ call (add instruction) build buffer.old }
+pub fn add(build: Build, buffer: &mut [u8], instruction: Instruction) -> Result<Build, BuildRefusal>
+    ensures buffer_after { left build result buffer.new ≡ call (add instruction) build buffer.old }
     ensures call_typed { CallTyped (add instruction) }
 {
     let given = record_of(instruction);
     let mut bytes = [0u8; 52];
     let n = put_record(&mut bytes, 0, given);
-    let trouble = trouble_in(&bytes, 0, n);
-    let answer = append(build, buffer, &bytes, n, trouble);
-    if answer == 0 {
-        return Built {
-            answer,
-            build: longer(build, n),
-        };
-    }
-    refused(answer, build)
+    let fields = check_fields(&bytes, 0, n);
+    append(build, buffer, &bytes[..n], fields)?;
+    Ok(longer(build, n))
 }
 
-// The number of a close's refusal. It adds no bytes.
-fn judge_close(build: Build, room: usize) -> u8
-    ensures { result ≡ refusal close build room }
+// Why a close is refused. It adds no bytes.
+fn judge_close(build: Build, room: usize) -> Result<(), BuildRefusal>
+    ensures { answer_of result ≡ refusal close build room }
 {
     let fits = takes_close(build);
-    judge(fits, 0, wide(build.depth), wide(build.length), room)
+    judge(fits, Ok(()), wide(build.depth), wide(build.length), room)
 }
 
 // Stores the length of the innermost part where it is counted.
@@ -164,19 +149,13 @@ fn store_length(build: Build, buffer: &mut [u8])
     let counted = wide(build.length) - wide(part.start);
     let mut bytes = [0u8; 52];
     put_number(&mut bytes, 0, counted as u64, 4);
-    copy(buffer, wide(part.field), &bytes, 4);
+    copy(buffer, wide(part.field), &bytes[..4]);
 }
 
-pub fn close(build: Build, buffer: &mut [u8]) -> Built
-    ensures { left result buffer.new ≡ call close build buffer.old }
+pub fn close(build: Build, buffer: &mut [u8]) -> Result<Build, BuildRefusal>
+    ensures { left build result buffer.new ≡ call close build buffer.old }
 {
-    let answer = judge_close(build, buffer.len());
-    if answer != 0 {
-        return refused(answer, build);
-    }
+    judge_close(build, buffer.len())?;
     store_length(build, buffer);
-    Built {
-        answer,
-        build: closed(build),
-    }
+    Ok(closed(build))
 }

@@ -4,7 +4,9 @@
 mod build;
 mod calls;
 mod record;
+mod refusal;
 mod write;
 
-pub use build::{Build, Built, begin};
+pub use build::{Build, begin};
 pub use calls::{add, close, open_block, open_if_else, open_while};
+pub use refusal::BuildRefusal;

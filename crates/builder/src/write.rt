@@ -1,7 +1,7 @@
 // Records into a short array, from where they are copied to the buffer once the call is taken. Each writer answers the
 // next place. The longest record has 40 bytes, and 9 stand before a comparison; the array's room is counted more simply,
 // 3 bytes of body and 3 operands of 13.
-ghost use Rattle.std.specs.Prelude.{◌≡◌, [], ◌∷◌, map, ◌+◌, ◌≤◌, nat_abs, length, take};
+ghost use Rattle.std.specs.Prelude.{◌≡◌, [], ◌∷◌, map, ◌+◌, ◌≤◌, nat_abs, length};
 ghost use Rattle.std.proofs.lemmas.List.Edits.{sets};
 ghost use Rattle.code.specs.Layout.{values};
 ghost use Rattle.code.specs.WellFormed.{All};
@@ -152,14 +152,10 @@ pub fn put_record(out: &mut [u8; 52], at: usize, given: Record) -> usize
     put_operands(out, next, operands)
 }
 
-// The first n of the bytes into the buffer.
-pub fn copy(buffer: &mut [u8], at: usize, bytes: &[u8], n: usize)
-    requires { (n ≤ length bytes.now) × (at + n ≤ length buffer.old) }
-    ensures { buffer.new ≡ sets buffer.old at (take n bytes.now) }
+// The bytes into the buffer.
+pub fn copy(buffer: &mut [u8], at: usize, bytes: &[u8])
+    requires { at + length bytes.now ≤ length buffer.old }
+    ensures { buffer.new ≡ sets buffer.old at bytes.now }
 {
-    let mut i = 0;
-    while i < n {
-        buffer[at + i] = bytes[i];
-        i += 1;
-    }
+    buffer[at..at + bytes.len()].copy_from_slice(bytes);
 }

@@ -1,11 +1,11 @@
 // A call with the values that it is given, and what the builder makes of it.
 ghost use Rattle.std.specs.Prelude.{◌≡◌};
-ghost use Rattle.builder.specs.Building.{left};
-ghost use Rattle.builder_main.specs.Made.{made, if_else_of, while_of, add_of, given_of};
+ghost use Rattle.builder.specs.Building.{outcome, left};
+ghost use Rattle.builder_main.specs.Made.{called, made, given_of};
 
-use builder::{Build, Built};
+use builder::{Build, BuildRefusal};
 use code::{Instruction, Ocmp};
-use numbered::{GivenComparison, GivenInstruction, Numbers, comparison_of, instruction_of};
+use numbered::{Numbers, comparison_of, instruction_of};
 
 // The kinds of calls in a stored file, of which close is the last.
 pub const BEGIN: u8 = 0;
@@ -20,7 +20,9 @@ pub const ADD: u8 = 4;
 
 pub const CLOSE: u8 = 5;
 
-// Numbers that give no instruction or comparison are no call of the builder's.
+// What is given is no value, as the C interface answers it.
+const NO_VALUE: u8 = 2;
+
 #[derive(Clone, Copy)]
 pub enum Given {
     Begin,
@@ -29,65 +31,59 @@ pub enum Given {
     OpenWhile(Ocmp),
     Add(Instruction),
     Close,
-    NoValue,
 }
 
-fn if_else_of(comparison: GivenComparison) -> Given
-    ensures { result ≡ if_else_of comparison }
-{
-    match comparison {
-        GivenComparison::Value(condition) => Given::OpenIfElse(condition),
-        GivenComparison::Nothing => Given::NoValue,
-    }
+// What a call answers, and the build that it leaves.
+#[derive(Clone, Copy, PartialEq, Eq)]
+pub struct Left {
+    pub answer: u8,
+    pub build: Build,
 }
 
-fn while_of(comparison: GivenComparison) -> Given
-    ensures { result ≡ while_of comparison }
-{
-    match comparison {
-        GivenComparison::Value(condition) => Given::OpenWhile(condition),
-        GivenComparison::Nothing => Given::NoValue,
-    }
-}
-
-fn add_of(instruction: GivenInstruction) -> Given
-    ensures { result ≡ add_of instruction }
-{
-    match instruction {
-        GivenInstruction::Value(instruction) => Given::Add(instruction),
-        GivenInstruction::Nothing => Given::NoValue,
-    }
-}
-
+// Numbers that give no instruction or comparison are no call of the builder's.
 #[tactic(auto, unfolding(crate::specs::Made::given_of))]
-pub fn given_of(kind: u8, numbers: Numbers) -> Given
+pub fn given_of(kind: u8, numbers: Numbers) -> Option<Given>
     ensures { result ≡ given_of kind numbers }
 {
     match kind {
-        BEGIN => Given::Begin,
-        OPEN_BLOCK => Given::OpenBlock,
-        OPEN_IF_ELSE => if_else_of(comparison_of(numbers)),
-        OPEN_WHILE => while_of(comparison_of(numbers)),
-        ADD => add_of(instruction_of(numbers)),
-        _ => Given::Close,
+        BEGIN => Some(Given::Begin),
+        OPEN_BLOCK => Some(Given::OpenBlock),
+        OPEN_IF_ELSE => comparison_of(numbers).map(Given::OpenIfElse),
+        OPEN_WHILE => comparison_of(numbers).map(Given::OpenWhile),
+        ADD => instruction_of(numbers).map(Given::Add),
+        _ => Some(Given::Close),
     }
 }
 
-// What is no value is answered as the C interface does.
-#[tactic(auto, unfolding(crate::specs::Made::made))]
-pub fn make(given: Given, build: Build, buffer: &mut [u8]) -> Built
-    ensures { left result buffer.new ≡ made given build buffer.old }
+#[tactic(auto, unfolding(crate::specs::Made::called))]
+fn call(given: Given, build: Build, buffer: &mut [u8]) -> Result<Build, BuildRefusal>
+    ensures { left build result buffer.new ≡ called given build buffer.old }
 {
     match given {
-        Given::Begin => Built {
-            answer: 0,
-            build: builder::begin(),
-        },
+        Given::Begin => Ok(builder::begin()),
         Given::OpenBlock => builder::open_block(build, buffer),
         Given::OpenIfElse(condition) => builder::open_if_else(build, buffer, condition),
         Given::OpenWhile(condition) => builder::open_while(build, buffer, condition),
         Given::Add(instruction) => builder::add(build, buffer, instruction),
         Given::Close => builder::close(build, buffer),
-        Given::NoValue => Built { answer: 2, build },
+    }
+}
+
+// What the call leaves; what is no call changes nothing.
+pub fn make(given: Option<Given>, build: Build, buffer: &mut [u8]) -> Left
+    ensures { outcome result.answer result.build buffer.new ≡ made given build buffer.old }
+{
+    let Some(given) = given else {
+        return Left {
+            answer: NO_VALUE,
+            build,
+        };
+    };
+    match call(given, build, buffer) {
+        Ok(build) => Left { answer: 0, build },
+        Err(refusal) => Left {
+            answer: refusal.number(),
+            build,
+        },
     }
 }

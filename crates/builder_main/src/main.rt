@@ -7,18 +7,17 @@ mod agrees;
 mod given;
 mod step;
 mod store;
-mod tally;
 
 use agrees::agrees;
-use builder::{Build, Built};
-use given::{CLOSE, given_of};
+use builder::Build;
+use given::{CLOSE, Left, given_of};
 use std::fs::File;
 use std::io;
 use std::io::Read;
 use std::rt::Files;
-use step::{Step, count, lent, next_build, numbers, place, read_step};
+use step::{Step, read_step};
 use store::{fill, store};
-use tally::{Tally, counted, none_yet, tell};
+use stored::Tally;
 
 // No file has as many steps: a proved loop has to end, and nothing says that a file does.
 const MOST: u64 = 100_000;
@@ -29,82 +28,54 @@ const FILL: u8 = 7;
 // The stored build, from which the next call starts, and what was counted so far.
 #[derive(Clone, Copy)]
 struct Trial {
-    more: bool,
     build: Build,
     tally: Tally,
 }
 
-fn going_on(build: Build, tally: Tally) -> Trial {
-    Trial {
-        more: true,
-        build,
-        tally,
+impl Trial {
+    // Makes a call, or only changes build and buffer, where the step's kind is no call's. Whoever damages a build between
+    // two calls damages the stored one too.
+    fn try_step(&mut self, step: &Step, buffer: &mut [u8], after: &mut [u8]) {
+        let head = step.head;
+        let before = self.build;
+        self.build = head.build(before);
+        if head.kind == FILL {
+            fill(buffer, head.answer);
+            fill(after, head.answer);
+            return;
+        }
+        store(after, head.place, step.bytes());
+        if head.kind > CLOSE {
+            store(buffer, head.place, step.bytes());
+            return;
+        }
+        let given = given_of(head.kind, step.numbers());
+        let left = Left {
+            answer: head.answer,
+            build: self.build,
+        };
+        self.tally.count(agrees(given, before, buffer, left, after));
     }
-}
-
-// Makes a call, or only changes build and buffer, where the step's kind is no call's. Whoever damages a build between two
-// calls damages the stored one too.
-fn try_step(step: Step, trial: Trial, buffer: &mut [u8], after: &mut [u8]) -> Trial {
-    let head = step.head;
-    let record = step.record;
-    let bytes = step.bytes;
-    let before = trial.build;
-    let build = next_build(&head, before);
-    let tally = trial.tally;
-    let kind = head[0];
-    let answer = head[5];
-    if kind == FILL {
-        fill(buffer, answer);
-        fill(after, answer);
-        return going_on(build, tally);
-    }
-    store(after, place(&head), &bytes, count(&head));
-    if kind > CLOSE {
-        store(buffer, place(&head), &bytes, count(&head));
-        return going_on(build, tally);
-    }
-    let given = given_of(kind, numbers(&record));
-    let ok = agrees(given, before, buffer, Built { answer, build }, after);
-    going_on(build, counted(tally, ok))
-}
-
-fn ended(trial: Trial) -> Trial {
-    let mut trial = trial;
-    trial.more = false;
-    trial
 }
 
 // A file ends where no whole step is left; one that lends more than there is ends it too.
-fn try_next(
-    file: &mut impl Read,
-    trial: Trial,
-    buffer: &mut [u8],
-    after: &mut [u8],
-) -> io::Result<Trial> {
-    let step = read_step(file)?;
-    let head = step.head;
-    let n = lent(&head);
-    if !step.whole {
-        return Ok(ended(trial));
-    }
-    if n > buffer.len() {
-        return Ok(ended(trial));
-    }
-    if n > after.len() {
-        return Ok(ended(trial));
-    }
-    Ok(try_step(step, trial, &mut buffer[..n], &mut after[..n]))
-}
-
-fn try_all(file: &mut impl Read) -> io::Result<Tally> {
+fn try_all<R: Read>(file: &mut R) -> io::Result<Tally> {
     // More bytes than any list lends.
     let mut buffer = [0u8; 65_600];
     let mut after = [0u8; 65_600];
-    let mut trial = going_on(builder::begin(), none_yet());
-    let mut left = MOST;
-    while left > 0 && trial.more {
-        trial = try_next(file, trial, &mut buffer, &mut after)?;
-        left -= 1;
+    let mut trial = Trial {
+        build: builder::begin(),
+        tally: Tally::new(),
+    };
+    for _ in 0..MOST {
+        let Some(step) = read_step(file)? else {
+            break;
+        };
+        let n = step.head.lent;
+        if n > buffer.len() {
+            break;
+        }
+        trial.try_step(&step, &mut buffer[..n], &mut after[..n]);
     }
     Ok(trial.tally)
 }
@@ -114,7 +85,8 @@ fn try_file<R: Files + Print + Eprint>(rt: &R, name: &str) -> io::Result<()> {
         Ok(file) => file,
         Err(e) => return eprintln!(rt; "{name}: {e}"),
     };
-    tell(rt, name, try_all(&mut file)?)
+    let tally = try_all(&mut file)?;
+    println!(rt; "{name} {tally}")
 }
 
 fn main(rt: HostRuntime) -> io::Result<()> {

@@ -14,7 +14,7 @@ use Rattle.builder.specs.declared.build.Build.{Build}
 use Rattle.builder.specs.Calls.{Call, open_block, open_if_else, open_while, add, close, bytes_of_call, call_trouble}
 use Rattle.builder.specs.Building.{kind_of, field_of, start_of, is_part, takes_close, call_fits, depth_of, refusal, turned, shut, build_after, stored, place_of, buffer_after, Outcome, outcome, call}
 use Rattle.built.specs.Claims.{Judged}
-use Rattle.builder.proofs.Judged.{both}
+use Rattle.std.proofs.lemmas.Bool.{and_parts}
 use Rattle.built.proofs.Filling.{drop_sets}
 use Rattle.built.proofs.Fields.{call_known, call_small}
 use Rattle.built.proofs.Judging.{judged_field, judged_51, judged_53, judged_52, judged_0}
@@ -60,15 +60,15 @@ part_inside b h =
     let fields = leb (field_of b + 4) (start_of b) in
     let starts = leb (start_of b) b.length in
     let front = leb b.depth 32 && leb (kind_of b) 2 in
-    let w = both (front && fields) starts h in
-    omega (arith, leb-true (field_of b + 4) (start_of b) (both front fields w.0).1, leb-true (start_of b) b.length w.1)
+    let w = and_parts (front && fields) starts h in
+    omega (arith, leb-true (field_of b + 4) (start_of b) (and_parts front fields w.0).1, leb-true (start_of b) b.length w.1)
 
 length_inside : (b : Build) → takes_close b ≡ true → field_of b + 4 ≤ b.length
 unfolding takes_close
 length_inside b h =
     let is_open = ltb 0 b.depth in
     let has_code = eqb (kind_of b) 0 || ltb (start_of b) b.length in
-    part_inside b (both is_open (is_part b) (both (is_open && is_part b) has_code h).0).1
+    part_inside b (and_parts is_open (is_part b) (and_parts (is_open && is_part b) has_code h).0).1
 
 -- a taken call stores nothing behind the build that it leaves
 pushed : (n : ℕ) (vs buffer : List ℕ) → drop (n + length vs) (sets buffer n vs) ≡ drop (n + length vs) buffer

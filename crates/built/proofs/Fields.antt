@@ -1,10 +1,10 @@
 -- A call of the types whose fields are right is well formed, and a well-formed one is such a call; the number of a wrong field is 4 or 7.
 -- Assumes nothing.
-use Prim.Native.Nat.{ℕ, zero, suc, ◌≤◌, ◌<◌}
+use Prim.Native.Nat.{ℕ, ◌≤◌, ◌<◌}
 use mathlib.Core.Path.{◌≡◌, refl}
 use mathlib.Core.Bool.{Bool, true, false, cond}
 use mathlib.Core.List.{List, [], ◌∷◌, ◌++◌, map}
-use mathlib.Core.Logic.{◌⊎◌, inl, inr, ⊎_elim}
+use mathlib.Core.Logic.{inl, ⊎_elim}
 use native.Mathlib.Omega.{arith}
 use borrow.Author.Tests.{leb-true, le-leb}
 use lib.Dec.{leb}
@@ -19,6 +19,7 @@ use Rattle.code.specs.WellFormed.{WfScale, WfMaddr, WfOperand, WfByte, WfLayout,
 use Rattle.code.proofs.Layouts.{WfBytes, WfOperands, bounds, bounded}
 use Rattle.builder.proofs.Judged.{first_zero}
 use Rattle.builder.proofs.Checked.{first, others}
+use Rattle.builder.proofs.Known.{Known, record_known}
 use Rattle.builder.specs.Calls.{Call, open_block, open_if_else, open_while, add, close, first_of, number_trouble, scale_trouble, byte_trouble, maddr_trouble, operand_trouble, body_trouble, operands_trouble, record_trouble, call_trouble, MaddrTyped, OperandTyped, ByteTyped, RecordTyped, CallTyped}
 
 -- a well-formed call
@@ -144,63 +145,6 @@ wf_call (open_if_else c) h = wf_record (ocmp_layout c) h
 wf_call (open_while c) h = wf_record (ocmp_layout c) h
 wf_call (add i) h = wf_record (layout i) h
 wf_call close h = refl
-
--- ---- the numbers there are
-abbrev Known : ℕ → Type 0
-Known n = (n ≡ 0) ⊎ ((n ≡ 4) ⊎ (n ≡ 7))
-
-number_known : (n : ℕ) → Known (number_trouble n)
-unfolding number_trouble
-number_known n = go (leb n 15)
-  where
-    go : (t : Bool) → Known (cond t 0 4)
-    go true = inl refl
-    go false = inr (inl refl)
-
-scale_known : (z : ℤ) → Known (scale_trouble z)
-unfolding scale_trouble
-scale_known z = go (is_scale z)
-  where
-    go : (t : Bool) → Known (cond t 0 7)
-    go true = inl refl
-    go false = inr (inr refl)
-
-both_known : (n m : ℕ) → Known n → Known m → Known (first_of n m)
-unfolding first_of
-both_known zero m h k = k
-both_known (suc n) m h k = h
-
-maddr_known : (m : Maddr) → Known (maddr_trouble m)
-unfolding maddr_trouble
-maddr_known (MConst n) = inl refl
-maddr_known (MReg r offset) = number_known r.number
-maddr_known (MIndex base scale index offset) =
-    both_known _ _ (number_known base.number) (both_known _ _ (scale_known scale) (number_known index.number))
-
-operand_known : (o : Operand) → Known (operand_trouble o)
-unfolding operand_trouble
-operand_known (OConst n) = inl refl
-operand_known (OReg r) = number_known r.number
-operand_known (OMem m) = maddr_known m
-
-byte_known : (b : Byte) → Known (byte_trouble b)
-unfolding byte_trouble
-byte_known (number n) = number_known n
-byte_known (amount n) = inl refl
-
-body_known : (bs : List Byte) → Known (body_trouble bs)
-unfolding body_trouble
-body_known [] = inl refl
-body_known (b ∷ bs) = both_known _ _ (byte_known b) (body_known bs)
-
-operands_known : (os : List Operand) → Known (operands_trouble os)
-unfolding operands_trouble
-operands_known [] = inl refl
-operands_known (o ∷ os) = both_known _ _ (operand_known o) (operands_known os)
-
-record_known : (l : Layout) → Known (record_trouble l)
-unfolding record_trouble
-record_known l = both_known _ _ (body_known l.body) (operands_known l.operands)
 
 pub call_known : (c : Call) → Known (call_trouble c)
 unfolding call_trouble

@@ -9,7 +9,7 @@ use lib.Dec.{leb}
 use Rattle.builder.specs.Calls.{first_of}
 use Rattle.builder.specs.Building.{unless, judge}
 use Rattle.built.specs.Claims.{Exactly}
-use Rattle.builder.proofs.Judged.{both}
+use Rattle.std.proofs.lemmas.Bool.{and_parts}
 
 -- ---- one condition, a test p of P: its number n, and what follows
 module _ {P : Type 0} where
@@ -67,7 +67,7 @@ at_most a b = (leb-true a b, le-leb a b)
 
 at_most_both : (a b c : ℕ) → Exactly (leb a b && leb a c ≡ true) ((a ≤ b) × (a ≤ c))
 at_most_both a b c =
-    (λ h. let w = both (leb a b) (leb a c) h in (leb-true a b w.0, leb-true a c w.1), λ h. rw (le-leb a b h.0, le-leb a c h.1))
+    (λ h. let w = and_parts (leb a b) (leb a c) h in (leb-true a b w.0, leb-true a c w.1), λ h. rw (le-leb a b h.0, le-leb a c h.1))
 
 -- conditions in a row
 pub three : {X P Q R : Type 0} → Exactly X (P × (Q × R)) → Exactly X (P × Q × R)

@@ -1,15 +1,13 @@
 -- What the builder's C calls do: a build and a record are lent in parts.
-use Rattle.std.specs.Prelude.{ℕ, List}
+use Rattle.std.specs.Prelude.{ℕ, List, Option, Some, None}
 use Rattle.std.specs.Borrow.{Bor, MutBor}
 use denote.Triple.Both.{Both}
+use Rattle.code.specs.declared.tree.Instruction.{Instruction}
+use Rattle.code.specs.declared.tree.Ocmp.{Ocmp}
 use Rattle.builder.specs.declared.build.Build.{Build}
 use Rattle.builder.specs.Calls.{add, open_if_else, open_while, CallTyped}
 use Rattle.builder.specs.Building.{Outcome, outcome, call}
 use Rattle.numbered.specs.declared.operands.Numbers.{Numbers}
-use Rattle.numbered.specs.declared.values.GivenInstruction.{GivenInstruction}
-use Rattle.numbered.specs.declared.values.GivenInstruction.TheVariants.{Value, Nothing}
-use Rattle.numbered.specs.declared.values.GivenComparison.{GivenComparison}
-use Rattle.numbered.specs.declared.values.GivenComparison.TheVariants.{Value as Compares, Nothing as NoComparison}
 
 -- the build that is lent in parts
 abbrev pub lent_build : ℕ → ℕ → List ℕ → List ℕ → List ℕ → Build
@@ -55,26 +53,26 @@ given_numbers kind body operands bases indexes scales numbers offsets =
     numbers.entry.now offsets.entry.now
 
 -- an instruction is added; what is none is answered 2, and nothing changes
-abbrev pub add_given : GivenInstruction → Build → List ℕ → Outcome
-add_given (Value i) b buffer = call (add i) b buffer
-add_given Nothing b buffer = outcome 2 b buffer
+abbrev pub add_given : Option Instruction → Build → List ℕ → Outcome
+add_given (Some i) b buffer = call (add i) b buffer
+add_given None b buffer = outcome 2 b buffer
 
 -- an IfElse is opened
-abbrev pub if_else_given : GivenComparison → Build → List ℕ → Outcome
-if_else_given (Compares c) b buffer = call (open_if_else c) b buffer
-if_else_given NoComparison b buffer = outcome 2 b buffer
+abbrev pub if_else_given : Option Ocmp → Build → List ℕ → Outcome
+if_else_given (Some c) b buffer = call (open_if_else c) b buffer
+if_else_given None b buffer = outcome 2 b buffer
 
 -- a While is
-abbrev pub while_given : GivenComparison → Build → List ℕ → Outcome
-while_given (Compares c) b buffer = call (open_while c) b buffer
-while_given NoComparison b buffer = outcome 2 b buffer
+abbrev pub while_given : Option Ocmp → Build → List ℕ → Outcome
+while_given (Some c) b buffer = call (open_while c) b buffer
+while_given None b buffer = outcome 2 b buffer
 
 -- what is given is one of the types
-abbrev pub InstructionTyped : GivenInstruction → Type 0
-InstructionTyped (Value i) = CallTyped (add i)
-InstructionTyped Nothing = Unit {0}
+abbrev pub InstructionTyped : Option Instruction → Type 0
+InstructionTyped (Some i) = CallTyped (add i)
+InstructionTyped None = Unit {0}
 
 -- the same of a comparison; `open_while` asks of it what `open_if_else` does
-abbrev pub ComparisonTyped : GivenComparison → Type 0
-ComparisonTyped (Compares c) = CallTyped (open_if_else c)
-ComparisonTyped NoComparison = Unit {0}
+abbrev pub ComparisonTyped : Option Ocmp → Type 0
+ComparisonTyped (Some c) = CallTyped (open_if_else c)
+ComparisonTyped None = Unit {0}

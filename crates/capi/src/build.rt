@@ -1,12 +1,12 @@
 // The builder's calls. A build passes as five lent numbers and arrays, an instruction or a comparison as numbers and arrays.
-ghost use Rattle.std.specs.Prelude.{◌≡◌};
+ghost use Rattle.std.specs.Prelude.{◌≡◌, ℕ, List};
 ghost use Rattle.builder.specs.Calls.{open_block, close};
-ghost use Rattle.builder.specs.Building.{empty, outcome, call};
+ghost use Rattle.builder.specs.Building.{empty, outcome, left, call};
 ghost use Rattle.numbered.specs.Values.{instruction_given, comparison_given};
 ghost use Rattle.capi.specs.Lent.{lent_build, given_build, left_build, given_numbers, add_given, if_else_given, while_given, InstructionTyped, ComparisonTyped};
 
-use builder::{Build, Built, add, begin, close, open_block, open_if_else, open_while};
-use numbered::{GivenComparison, GivenInstruction, Numbers, comparison_of, instruction_of};
+use builder::{Build, BuildRefusal, add, begin, close, open_block, open_if_else, open_while};
+use numbered::{Numbers, comparison_of, instruction_of};
 
 // What is given is no value: a kind is none of those allowed there.
 const NO_VALUE: u8 = 2;
@@ -21,15 +21,12 @@ fn lent_build(
 ) -> Build
     ensures { result ≡ lent_build length depth parts.now fields.now starts.now }
 {
-    let parts = *parts;
-    let fields = *fields;
-    let starts = *starts;
     Build {
         length,
         depth,
-        parts,
-        fields,
-        starts,
+        parts: *parts,
+        fields: *fields,
+        starts: *starts,
     }
 }
 
@@ -46,22 +43,15 @@ fn lent_numbers(
 ) -> Numbers
     ensures { result ≡ given_numbers kind body operands bases indexes scales numbers offsets }
 {
-    let body = *body;
-    let operands = *operands;
-    let bases = *bases;
-    let indexes = *indexes;
-    let scales = *scales;
-    let numbers = *numbers;
-    let offsets = *offsets;
     Numbers {
         kind,
-        body,
-        operands,
-        bases,
-        indexes,
-        scales,
-        numbers,
-        offsets,
+        body: *body,
+        operands: *operands,
+        bases: *bases,
+        indexes: *indexes,
+        scales: *scales,
+        numbers: *numbers,
+        offsets: *offsets,
     }
 }
 
@@ -76,14 +66,38 @@ fn hand_back(
 )
     ensures { left_build length depth parts fields starts ≡ build }
 {
-    let new_parts = build.parts;
-    let new_fields = build.fields;
-    let new_starts = build.starts;
+    let Build {
+        parts: new_parts,
+        fields: new_fields,
+        starts: new_starts,
+        ..
+    } = build;
     *length = build.length;
     *depth = build.depth;
     *parts = new_parts;
     *fields = new_fields;
     *starts = new_starts;
+}
+
+// What a call answers in C: 0, with its build in the lent parts, or the number of its refusal.
+fn answer(
+    called: Result<Build, BuildRefusal>,
+    length: &mut u16,
+    depth: &mut u16,
+    parts: &mut [u8; 32],
+    fields: &mut [u16; 32],
+    starts: &mut [u16; 32],
+) -> u8
+    ensures { (buffer : List ℕ) → outcome result (left_build length depth parts fields starts) buffer
+        ≡ left (given_build length depth parts fields starts) called buffer }
+{
+    match called {
+        Ok(build) => {
+            hand_back(build, length, depth, parts, fields, starts);
+            0
+        }
+        Err(refusal) => refusal.number(),
+    }
 }
 
 #[unsafe(no_mangle)]
@@ -112,9 +126,8 @@ pub extern "C" fn pokchrei_open_block(
         ≡ call open_block (given_build length depth parts fields starts) buffer.old }
 {
     let build = lent_build(*length, *depth, parts, fields, starts);
-    let built = open_block(build, buffer);
-    hand_back(built.build, length, depth, parts, fields, starts);
-    built.answer
+    let called = open_block(build, buffer);
+    answer(called, length, depth, parts, fields, starts)
 }
 
 #[unsafe(no_mangle)]
@@ -130,9 +143,8 @@ pub extern "C" fn pokchrei_close(
         ≡ call close (given_build length depth parts fields starts) buffer.old }
 {
     let build = lent_build(*length, *depth, parts, fields, starts);
-    let built = close(build, buffer);
-    hand_back(built.build, length, depth, parts, fields, starts);
-    built.answer
+    let called = close(build, buffer);
+    answer(called, length, depth, parts, fields, starts)
 }
 
 #[unsafe(no_mangle)]
@@ -161,17 +173,16 @@ pub extern "C" fn pokchrei_open_if_else(
     let given = lent_numbers(
         kind, body, operands, bases, indexes, scales, numbers, offsets,
     );
-    let value = comparison_of(given);
-    let GivenComparison::Value(value) = value else {
+    let Some(value) = comparison_of(given) else {
         return NO_VALUE;
     };
     let build = lent_build(*length, *depth, parts, fields, starts);
-    let built = open_if_else(build, buffer, value);
-    hand_back(built.build, length, depth, parts, fields, starts);
-    built.answer
+    let called = open_if_else(build, buffer, value);
+    answer(called, length, depth, parts, fields, starts)
 }
 
 #[unsafe(no_mangle)]
+#[tactic(auto, unfolding(builder::specs::Calls::CallTyped))]
 pub extern "C" fn pokchrei_open_while(
     length: &mut u16,
     depth: &mut u16,
@@ -197,14 +208,12 @@ pub extern "C" fn pokchrei_open_while(
     let given = lent_numbers(
         kind, body, operands, bases, indexes, scales, numbers, offsets,
     );
-    let value = comparison_of(given);
-    let GivenComparison::Value(value) = value else {
+    let Some(value) = comparison_of(given) else {
         return NO_VALUE;
     };
     let build = lent_build(*length, *depth, parts, fields, starts);
-    let built = open_while(build, buffer, value);
-    hand_back(built.build, length, depth, parts, fields, starts);
-    built.answer
+    let called = open_while(build, buffer, value);
+    answer(called, length, depth, parts, fields, starts)
 }
 
 #[unsafe(no_mangle)]
@@ -233,12 +242,10 @@ pub extern "C" fn pokchrei_add(
     let given = lent_numbers(
         kind, body, operands, bases, indexes, scales, numbers, offsets,
     );
-    let value = instruction_of(given);
-    let GivenInstruction::Value(value) = value else {
+    let Some(value) = instruction_of(given) else {
         return NO_VALUE;
     };
     let build = lent_build(*length, *depth, parts, fields, starts);
-    let built = add(build, buffer, value);
-    hand_back(built.build, length, depth, parts, fields, starts);
-    built.answer
+    let called = add(build, buffer, value);
+    answer(called, length, depth, parts, fields, starts)
 }

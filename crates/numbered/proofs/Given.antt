@@ -1,12 +1,12 @@
 -- What the tests and the arms find is what the definitions say of the numbers. Assumes nothing.
-use Prim.Native.Nat.{ℕ, zero, suc, ◌+◌, ◌-◌, ◌≤◌, ◌<◌}
-use mathlib.Core.Path.{◌≡◌, refl, sym, ap, ◌∙◌}
+use Prim.Native.Nat.{ℕ, zero, suc, ◌+◌, ◌-◌}
+use mathlib.Core.Path.{◌≡◌, refl, sym, ◌∙◌}
 use mathlib.Core.Bool.{Bool, true, false, ◌&&◌}
 use mathlib.Core.List.{[], ◌∷◌}
 use native.Mathlib.Omega.{arith}
-use native.Mathlib.Numerals.{add-one}
-use borrow.Author.Tests.{eqb-true, eqb-false}
-use lib.Dec.{eqb}
+use Rattle.std.specs.List.{list_all, range_with_len}
+use Rattle.std.proofs.Math.Bool.{and_assoc, and-true}
+use Rattle.std.proofs.Math.Nat.{add-zero, zero-add}
 use lib.IntN.{ℤ}
 use lib.ListN.{get_or}
 use Rattle.words.specs.Signed.{signed_word}
@@ -32,6 +32,15 @@ first_or_none (suc (suc (suc zero))) a b c d e w x y z = absurd (y refl)
 first_or_none (suc (suc (suc (suc zero)))) a b c d e w x y z = absurd (z refl)
 first_or_none (suc (suc (suc (suc (suc m))))) a b c d e w x y z = refl
 
+-- a test of one number more, which stands last
+last_too :
+    (test : ℕ → Bool) (a count : ℕ)
+    → list_all test (range_with_len a (suc count)) ≡ (list_all test (range_with_len a count) && test (a + count))
+last_too test a zero = rw (add-zero a, and-true (test a)) refl
+last_too test a (suc count) =
+    let shifted : a + 1 + count ≡ a + suc count = omega arith in
+    rw (last_too test (a + 1) count, shifted) (sym (and_assoc (test a) _ _))
+
 -- ---- the operands that are given
 module _ (n : Numbers) where
   module _ (i : ℕ) {r : Class} (of : r ≡ class (get_or n.operands i 0)) where
@@ -43,44 +52,12 @@ module _ (n : Numbers) where
     unfolding operand_given
     given_other h = sym (not_operand (get_or n.operands i 0) r of (no_3 r h))
 
-  pub none_given : operands_given 0 n ≡ true
+  -- the definition tests the last one last
+  pub all_given : (count : ℕ) → list_all (operand_given n) (range_with_len 0 count) ≡ operands_given count n
   unfolding operands_given
-  none_given = refl
-
-  -- one more
-  more_given : {r : Bool} (i : ℕ) → operands_given i n ≡ true → r ≡ operand_given n i → r ≡ true → operands_given (i + 1) n ≡ true
-  unfolding operands_given
-  more_given i h e t = ap (λ (k : ℕ). operands_given k n) (add-one i) ∙ rw (h, sym e, t) refl
-
-  suc_given : (count : ℕ) → (operands_given count n && operand_given n count) ≡ operands_given (suc count) n
-  unfolding operands_given
-  suc_given count = refl
-
-  and_false : (a b : Bool) → b ≡ false → false ≡ (a && b)
-  and_false true b h = sym h
-  and_false false b h = refl
-
-  -- one that is none, among those that are asked
-  not_given : (i count : ℕ) → i < count → operand_given n i ≡ false → false ≡ operands_given count n
-  not_given i zero h f = absurd (omega arith)
-  not_given i (suc count) h f = go (λ before. not_given i count before f) (eqb i count) refl
-    where
-      go : (i < count → false ≡ operands_given count n) → (t : Bool) → eqb i count ≡ t → false ≡ operands_given (suc count) n
-      go among true p =
-          let last : operand_given n count ≡ false = ap (operand_given n) (sym (eqb-true i count p)) ∙ f in
-          and_false (operands_given count n) (operand_given n count) last ∙ suc_given count
-      go among false p =
-          let q = eqb-false i count p in
-          ap (λ (b : Bool). b && operand_given n count) (among (omega arith)) ∙ suc_given count
-
-  pub found_none : {r : Bool} (i count : ℕ) → i < count → r ≡ operand_given n i → r ≡ false → false ≡ operands_given count n
-  found_none {r} i count h e f = not_given i count h (sym e ∙ f)
-
-  pub found_one : {r : Bool} (i : ℕ) → operands_given i n ≡ true → r ≡ operand_given n i → r ≡ true → operands_given (i + 1) n ≡ true
-  found_one {r} i h e f = more_given i h e f
-
-  pub all_given : (i count : ℕ) → i ≤ count → count ≤ i → operands_given i n ≡ true → true ≡ operands_given count n
-  all_given i count p q h = let same : i ≡ count = omega arith in sym (ap (λ (k : ℕ). operands_given k n) (sym same) ∙ h)
+  all_given zero = refl
+  all_given (suc count) =
+      last_too (operand_given n) 0 count ∙ rw (all_given count, zero-add count) refl
 
   -- ---- operand i
   module _ (i : ℕ) where

@@ -1,10 +1,11 @@
 -- The kind says which instruction or comparison the numbers give. Assumes nothing.
 use Prim.Native.Nat.{ℕ, ◌≤◌}
 use mathlib.Core.Path.{◌≡◌, refl, sym, ap, ◌∙◌}
-use mathlib.Core.Bool.{Bool, true, false, ◌&&◌}
+use mathlib.Core.Bool.{Bool, true, false}
 use mathlib.Core.List.{List, [], ◌∷◌}
 use native.Mathlib.Omega.{arith}
 use borrow.Author.Tests.{leb-true}
+use Rattle.std.proofs.lemmas.Bool.{and_parts}
 use lib.Dec.{leb}
 use Rattle.machine.specs.declared.Operand.{Operand}
 use Rattle.code.specs.declared.kinds.Class.{Class}
@@ -12,8 +13,7 @@ use Rattle.code.specs.declared.kinds.Class.TheVariants.{Instruction, Comparison}
 use Rattle.code.specs.declared.tree.Instruction.{Instruction as Ins}
 use Rattle.code.specs.declared.tree.Ocmp.{Ocmp}
 use Rattle.code.specs.Layout.{ins_of, ocmp_of}
-use Rattle.numbered.specs.declared.values.GivenInstruction.TheVariants.{Value, Nothing}
-use Rattle.numbered.specs.declared.values.GivenComparison.TheVariants.{Value as Compares, Nothing as NoComparison}
+use Rattle.std.specs.Prelude.{Some, None}
 use Rattle.code.specs.Records.{is_ins, is_ocmp, operand_count}
 use Rattle.code.specs.Kinds.{class, is_used}
 use Rattle.code.proofs.KindLaws.{class_ins, counts}
@@ -22,18 +22,14 @@ use Rattle.numbered.specs.declared.operands.Numbers.{Numbers}
 use Rattle.numbered.specs.Given.{operand_of, operands_given, operands_of, is_instruction, is_comparison}
 use Rattle.numbered.specs.Values.{instruction_given, comparison_given}
 
-both : (s t : Bool) → (s && t) ≡ true → (s ≡ true) × (t ≡ true)
-both true t e = (refl, e)
-both false t e = absurd (let z : ◌≡◌ {A = ℕ} 0 1 = cc in omega arith)
-
 pub ocmp_range : (k : ℕ) → is_ocmp k ≡ true → (0x30 ≤ k) × (k ≤ 0x35)
 ocmp_range k h =
-    let e = both (leb 0x30 k) (leb k 0x35) h in
+    let e = and_parts (leb 0x30 k) (leb k 0x35) h in
     (leb-true 0x30 k e.0, leb-true k 0x35 e.1)
 
 pub ins_range : (k : ℕ) → is_ins k ≡ true → (0x01 ≤ k) × (k ≤ 0x1b)
 ins_range k h =
-    let e = both (leb 0x01 k) (leb k 0x1b) h in
+    let e = and_parts (leb 0x01 k) (leb k 0x1b) h in
     (leb-true 0x01 k e.0, leb-true k 0x1b e.1)
 
 not_ins : (k : ℕ) (r : Class) → r ≡ class k → (tag r ≡ 0 → ⊥) → is_ins k ≡ false
@@ -82,35 +78,35 @@ module _ (n : Numbers) {r : Class} (of : r ≡ class n.kind) where
 
 -- ---- what they give
 module _ (n : Numbers) where
-  pub gives_none : {t : Bool} → t ≡ is_instruction n → t ≡ false → Nothing ≡ instruction_given n
+  pub gives_none : {t : Bool} → t ≡ is_instruction n → t ≡ false → None ≡ instruction_given n
   unfolding instruction_given
   gives_none {t} e h = rw (sym e, h) refl
 
-  pub gives_no_comparison : {t : Bool} → t ≡ is_comparison n → t ≡ false → NoComparison ≡ comparison_given n
+  pub gives_no_comparison : {t : Bool} → t ≡ is_comparison n → t ≡ false → None ≡ comparison_given n
   unfolding comparison_given
   gives_no_comparison {t} e h = rw (sym e, h) refl
 
   pub given_kind : {t : Bool} → t ≡ is_instruction n → t ≡ true → is_ins n.kind ≡ true
   unfolding is_instruction
-  given_kind {t} e h = (both (is_ins n.kind) _ (sym e ∙ h)).0
+  given_kind {t} e h = (and_parts (is_ins n.kind) _ (sym e ∙ h)).0
 
   pub given_ocmp : {t : Bool} → t ≡ is_comparison n → t ≡ true → is_ocmp n.kind ≡ true
   unfolding is_comparison
-  given_ocmp {t} e h = (both (is_ocmp n.kind) _ (sym e ∙ h)).0
+  given_ocmp {t} e h = (and_parts (is_ocmp n.kind) _ (sym e ∙ h)).0
 
   pub gives_comparison :
       {t : Bool} {a b : Operand} {c : Ocmp} → t ≡ is_comparison n → t ≡ true → a ≡ operand_of n 0 → b ≡ operand_of n 1
-      → ((os : List Operand) → c ≡ ocmp_of n.kind (a ∷ b ∷ os)) → Compares c ≡ comparison_given n
+      → ((os : List Operand) → c ≡ ocmp_of n.kind (a ∷ b ∷ os)) → Some c ≡ comparison_given n
   unfolding comparison_given
   gives_comparison {t} e h p q f =
-      rw (sym e, h, sym p, sym q) (ap Compares (f (operand_of n 2 ∷ [])))
+      rw (sym e, h, sym p, sym q) (ap Some (f (operand_of n 2 ∷ [])))
 
   -- what is made of the kind, the body and the operands is what they give
   pub gives :
       {t : Bool} {i : Ins} → t ≡ is_instruction n → t ≡ true → i ≡ ins_of n.kind n.body (operands_of n)
-      → Value i ≡ instruction_given n
+      → Some i ≡ instruction_given n
   unfolding instruction_given
-  gives {t} e h f = rw (sym e, h) (ap Value f)
+  gives {t} e h f = rw (sym e, h) (ap Some f)
 
   pub of_operands :
       {a b c : Operand} {i : Ins} → a ≡ operand_of n 0 → b ≡ operand_of n 1 → c ≡ operand_of n 2

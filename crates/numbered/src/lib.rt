@@ -5,4 +5,4 @@ mod operands;
 mod values;
 
 pub use operands::Numbers;
-pub use values::{GivenComparison, GivenInstruction, comparison_of, instruction_of};
+pub use values::{comparison_of, instruction_of};

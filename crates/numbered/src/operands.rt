@@ -49,11 +49,7 @@ fn is_operand(given: Numbers, i: usize) -> bool
     requires { i < 3 }
     ensures { result ≡ operand_given given i }
 {
-    let class = class_of(given.operands[i]);
-    match class {
-        Class::Operand => true,
-        _ => false,
-    }
+    matches!(class_of(given.operands[i]), Class::Operand)
 }
 
 // Whether the first `count` operands do.
@@ -61,12 +57,5 @@ pub fn are_operands(given: Numbers, count: usize) -> bool
     requires { count ≤ 3 }
     ensures { result ≡ operands_given count given }
 {
-    let mut i = 0;
-    while i < count {
-        if !is_operand(given, i) {
-            return false;
-        }
-        i += 1;
-    }
-    true
+    (0..count).all(|i| is_operand(given, i))
 }

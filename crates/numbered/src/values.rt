@@ -9,25 +9,11 @@ use crate::operands::{Numbers, are_operands, operand_of};
 use code::{Class, Instruction, Ocmp, class_of, operand_count};
 use machine::Operand;
 
-// What numbers give: a kind that is none of an instruction's, or of its operands', gives nothing.
-#[derive(Clone, Copy)]
-pub enum GivenInstruction {
-    Value(Instruction),
-    Nothing,
-}
-
-#[derive(Clone, Copy)]
-pub enum GivenComparison {
-    Value(Ocmp),
-    Nothing,
-}
-
 // Whether the kind is an instruction's, and each of its operands has an operand's kind.
 fn is_instruction(given: Numbers) -> bool
     ensures { result ≡ is_instruction given }
 {
-    let class = class_of(given.kind);
-    match class {
+    match class_of(given.kind) {
         Class::Instruction => are_operands(given, operand_count(given.kind)),
         _ => false,
     }
@@ -36,8 +22,7 @@ fn is_instruction(given: Numbers) -> bool
 fn is_comparison(given: Numbers) -> bool
     ensures { result ≡ is_comparison given }
 {
-    let class = class_of(given.kind);
-    match class {
+    match class_of(given.kind) {
         Class::Comparison => are_operands(given, operand_count(given.kind)),
         _ => false,
     }
@@ -125,35 +110,35 @@ fn comparison(kind: u8, a: Operand, b: Operand) -> Ocmp
     }
 }
 
-pub fn instruction_of(given: Numbers) -> GivenInstruction
+// The instruction: a kind that is none of an instruction's, or of its operands', gives none.
+pub fn instruction_of(given: Numbers) -> Option<Instruction>
     ensures { result ≡ instruction_given given }
 {
     if !is_instruction(given) {
-        return GivenInstruction::Nothing;
+        return None;
     }
     let a = operand_of(given, 0);
     let b = operand_of(given, 1);
     let c = operand_of(given, 2);
-    let x = given.body[0];
-    let y = given.body[1];
-    let z = given.body[2];
+    let [x, y, z] = given.body;
     let kind = given.kind;
-    match kind {
-        0x00..=0x07 => GivenInstruction::Value(sums(kind, a, b, c)),
-        0x08..=0x0e => GivenInstruction::Value(products(kind, a, b, c)),
-        0x0f..=0x14 => GivenInstruction::Value(lanes(kind, x, y, z)),
-        0x15..=0x18 => GivenInstruction::Value(insertions(kind, x, y, z, a)),
-        _ => GivenInstruction::Value(counts(kind, a, b)),
-    }
+    Some(match kind {
+        0x00..=0x07 => sums(kind, a, b, c),
+        0x08..=0x0e => products(kind, a, b, c),
+        0x0f..=0x14 => lanes(kind, x, y, z),
+        0x15..=0x18 => insertions(kind, x, y, z, a),
+        _ => counts(kind, a, b),
+    })
 }
 
-pub fn comparison_of(given: Numbers) -> GivenComparison
+// The comparison, likewise.
+pub fn comparison_of(given: Numbers) -> Option<Ocmp>
     ensures { result ≡ comparison_given given }
 {
     if !is_comparison(given) {
-        return GivenComparison::Nothing;
+        return None;
     }
     let a = operand_of(given, 0);
     let b = operand_of(given, 1);
-    GivenComparison::Value(comparison(given.kind, a, b))
+    Some(comparison(given.kind, a, b))
 }

@@ -1,18 +1,24 @@
 -- Judged, counted, and the build after it.
-use Rattle.builder.proofs.Calling.{handed_back, closable, in_limit, close_refused, close_taken}
+use mathlib.Core.Path.{refl, ap, ◌∙◌}
+use Rattle.std.specs.Prelude.{Err}
+use Rattle.std.proofs.lemmas.Result.{err_from_is_err_and}
+use Rattle.builder.specs.Building.{call}
+use Rattle.builder.proofs.Judged.{taken_as, refused_as}
+use Rattle.builder.proofs.Calling.{closable, in_limit}
 use Rattle.builder.proofs.calls.close.Goals as goal
 
-pub returns-then-answer-ne0 : goal.returns-then-answer-ne0
-returns-then-answer-ne0 c =
-    handed_back c.refused.ensures (close_refused _ _ c.judge_close-answer.ensures c.if-answer-ne0.true)
+pub returns-in_err-judge_close : goal.returns-in_err-judge_close
+unfolding call
+returns-in_err-judge_close c =
+    let p = err_from_is_err_and c.from_residual.result c.from_residual.ensures.1 in
+    refused_as _ _ _ _ (p.1 ∙ ap Err p.2) c.in_err-judge_close.ensures refl
 
 pub store_length-requires : goal.store_length-requires
-store_length-requires c = closable _ _ c.judge_close-answer.ensures c.if-answer-ne0.false
+store_length-requires c = closable _ _ c.in_ok-judge_close.ensures
 
 pub closed-requires : goal.closed-requires
-closed-requires c =
-    in_limit (closable _ _ c.judge_close-answer.ensures c.if-answer-ne0.false)
+closed-requires c = in_limit (closable _ _ c.in_ok-judge_close.ensures)
 
 pub returns : goal.returns
-returns c =
-    close_taken _ _ c.judge_close-answer.ensures c.if-answer-ne0.false c.store_length.ensures c.closed.ensures
+unfolding call
+returns c = taken_as _ _ _ _ c.in_ok-judge_close.ensures c.store_length.ensures c.closed.ensures

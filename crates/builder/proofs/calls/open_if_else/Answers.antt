@@ -1,34 +1,30 @@
 -- The lengths are 0, and the comparison stands behind them.
+use mathlib.Core.Path.{ap, ◌∙◌}
 use native.Mathlib.Omega.{arith}
 use Rattle.code.specs.Records.{is_ocmp}
 use Rattle.code.proofs.Layouts.{ocmp_agrees}
-use Rattle.builder.proofs.Calling.{same_room, if_else_is, if_else_fits}
-use Rattle.builder.proofs.Checked.{used_ocmp, begins, trouble_is}
+use Rattle.builder.specs.Calls.{record_trouble}
+use Rattle.builder.proofs.Calling.{if_else_is, if_else_bytes, if_else_fits}
+use Rattle.builder.proofs.Checked.{used_ocmp, begins, only_fields, trouble_is}
 use Rattle.builder.proofs.calls.open_if_else.Goals as goal
 
-pub trouble_in-trouble-requires : goal.trouble_in-trouble-requires
-trouble_in-trouble-requires c =
-    let given = c.record_of_ocmp-given in
+pub check_fields-fields-requires : goal.check_fields-fields-requires
+check_fields-fields-requires c =
+    let put = c.put_record-n.ensures in
+    let same = c.record_of_ocmp-given.ensures in
     let agrees = ocmp_agrees c.args.condition in
-    begins is_ocmp used_ocmp given.ensures agrees c.put_record-n.ensures.wrote (omega arith)
-
-pub slice_bounds-open_part-end : goal.slice_bounds-open_part-end
-slice_bounds-open_part-end c = same_room c.put_record-n.ensures.wrote
-
-pub open_part-requires : goal.open_part-requires
-open_part-requires c =
-    let written = c.put_record-n.ensures.wrote in
-    let room = same_room written in
-    let end = written.within in
-    (omega arith, omega (arith, room))
+    record {
+      begins = begins is_ocmp used_ocmp same agrees put.wrote (omega arith);
+      only_fields = only_fields is_ocmp used_ocmp same agrees put.wrote (omega arith) put.record_typed;
+    }
 
 pub returns : goal.returns
 returns c =
-    let given = c.record_of_ocmp-given in
-    let agrees = ocmp_agrees c.args.condition in
+    let o = c.args.condition in
     let put = c.put_record-n.ensures in
-    let trouble = trouble_is is_ocmp used_ocmp given.ensures agrees put.wrote (omega arith) put.record_typed c.trouble_in-trouble.ensures in
+    let same = c.record_of_ocmp-given.ensures in
+    let trouble = trouble_is is_ocmp used_ocmp same (ocmp_agrees o) put.wrote (omega arith) put.record_typed c.check_fields-fields.ensures in
     record {
-      buffer_after = if_else_is _ _ _ _ _ given.result trouble _ given.ensures put.wrote c.open_part.ensures;
-      call_typed = if_else_fits _ given.ensures put.record_typed;
+      buffer_after = if_else_is _ _ o (trouble ∙ ap record_trouble same) (if_else_bytes o same put.wrote) c.open_part.ensures;
+      call_typed = if_else_fits o same put.record_typed;
     }

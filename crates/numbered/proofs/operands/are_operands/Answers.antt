@@ -1,26 +1,15 @@
--- In each turn the first i operands have been found.
+-- `all` tests the operands from the first on, the definition from the last.
+use mathlib.Core.Path.{refl, ◌∙◌}
 use native.Mathlib.Omega.{arith}
-use Rattle.numbered.proofs.Given.{none_given, found_none, found_one, all_given}
+use Rattle.std.proofs.Common.{rules, tests}
+use Rattle.std.proofs.lemmas.Iterator.{YieldsList-from_range}
+use Rattle.std.proofs.lemmas.Iterator.Search.{all_from_yields_List}
+use Rattle.numbered.specs.Given.{operand_given}
+use Rattle.numbered.proofs.Given.{all_given}
 use Rattle.numbered.proofs.operands.are_operands.Goals as goal
 
-pub loop-i-init : goal.loop-i-init
-loop-i-init c = (omega arith, none_given _)
-
-pub is_operand-requires : goal.is_operand-requires
-is_operand-requires c = omega arith
-
-pub returns-then-not-is_operand : goal.returns-then-not-is_operand
-returns-then-not-is_operand c = found_none _ _ _ c.loop-i-test.true c.is_operand.ensures c.if-not-is_operand.true
-
-pub overflow_add-i : goal.overflow_add-i
-overflow_add-i c = omega arith
-
-pub loop-i-smaller : goal.loop-i-smaller
-loop-i-smaller c = omega arith
-
-pub loop-i-preserved : goal.loop-i-preserved
-loop-i-preserved c =
-    (omega arith, found_one _ _ c.loop-i.invariant.1 c.is_operand.ensures c.if-not-is_operand.false)
-
 pub returns : goal.returns
-returns c = all_given _ _ _ (omega arith) (omega arith) c.loop-i.invariant.1
+returns c =
+    let given = c.args.given in
+    let all_of = YieldsList-from_range 0 c.args.count c.args.count refl (omega arith) in
+    all_from_yields_List (operand_given given) _ _ _ c.all.ensures.ran all_of (λ x b q k. search (rules, tests)) ∙ all_given given c.args.count

@@ -4,16 +4,16 @@ use Rattle.numbered.proofs.values.is_comparison.Goals as goal
 
 pub operand_count-requires : goal.operand_count-requires
 operand_count-requires c =
-    ocmp_is_used c.args.given c.class_of-class.ensures c.in-Comparison.is
+    ocmp_is_used c.args.given c.class_of.ensures c.in-Comparison.is
 
 pub are_operands-requires : goal.are_operands-requires
 are_operands-requires c =
-    few_ocmp c.args.given c.class_of-class.ensures c.in-Comparison.is
+    few_ocmp c.args.given c.class_of.ensures c.in-Comparison.is
     c.operand_count.ensures
 
 pub returns-in-Comparison : goal.returns-in-Comparison
 returns-in-Comparison c =
-    is_ocmp_given _ c.class_of-class.ensures c.in-Comparison.is c.operand_count.ensures
+    is_ocmp_given _ c.class_of.ensures c.in-Comparison.is c.operand_count.ensures
     c.are_operands.ensures
 
 pub returns-in_default : goal.returns-in_default

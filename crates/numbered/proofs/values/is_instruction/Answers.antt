@@ -4,16 +4,16 @@ use Rattle.numbered.proofs.values.is_instruction.Goals as goal
 
 pub operand_count-requires : goal.operand_count-requires
 operand_count-requires c =
-    ins_used c.args.given c.class_of-class.ensures c.in-Instruction.is
+    ins_used c.args.given c.class_of.ensures c.in-Instruction.is
 
 pub are_operands-requires : goal.are_operands-requires
 are_operands-requires c =
-    few_ins c.args.given c.class_of-class.ensures c.in-Instruction.is
+    few_ins c.args.given c.class_of.ensures c.in-Instruction.is
     c.operand_count.ensures
 
 pub returns-in-Instruction : goal.returns-in-Instruction
 returns-in-Instruction c =
-    is_ins_given _ c.class_of-class.ensures c.in-Instruction.is c.operand_count.ensures
+    is_ins_given _ c.class_of.ensures c.in-Instruction.is c.operand_count.ensures
     c.are_operands.ensures
 
 pub returns-in_default : goal.returns-in_default

@@ -1,5 +1,0 @@
--- The buffers keep their length; the turns that are left fall.
-use Rattle.builder_main.proofs.try_all.Given as goal
-
-abbrev pub decreases-loop-left : goal.decreases-loop-left
-decreases-loop-left g l = l.left
