@@ -11,7 +11,7 @@ ghost use Rattle.eval.specs.FlagRule.{FlagRule};
 ghost use Rattle.eval.specs.Promises.{environment, held, Cells, Seeks, Loads, Resolves, InBounds, no_slot, put_regs, put_values};
 
 use code::{Form, form_at, memory_at, operand_behind};
-use machine::{Target, cell_of};
+use machine::{NoCell, cell_of};
 
 // A source: 0 or the number of the check that fails, its word, and the place behind its record.
 #[derive(Clone, Copy)]
@@ -58,12 +58,12 @@ fn cell_at(
 {
     let m = memory_at(code, at);
     match cell_of(m, regs, addresses, tags) {
-        Target::Cell(index) => Sought { number: 0, index },
-        Target::Absent => Sought {
+        Ok(index) => Sought { number: 0, index },
+        Err(NoCell::Absent) => Sought {
             number: absent,
             index: 0,
         },
-        Target::Wild => Sought {
+        Err(NoCell::Wild) => Sought {
             number: 36,
             index: 0,
         },
