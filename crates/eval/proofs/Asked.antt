@@ -16,9 +16,11 @@ use Rattle.words.specs.Sums.{sum_mod, mul_div, mul_mod}
 use Rattle.words.specs.Types.{quad32, extract_nat64}
 use Rattle.words.specs.Parts.{Quad32}
 use Rattle.machine.specs.Registers.{reg_at, Rsp, xmm_at, set_xmm}
-use Rattle.machine.specs.Cells.{Verdict, accepted, verdict, check_cells}
-use Rattle.machine.specs.declared.Checked.{Checked}
-use Rattle.machine.specs.declared.Checked.TheVariants.{Accepted, Refused}
+use Rattle.machine.specs.Cells.{Verdict, accepted, refused, verdict, check_cells}
+use Rattle.std.specs.Prelude.{Result, Ok, Err}
+use Rattle.machine.specs.Continuing.{and_then}
+use Rattle.machine.specs.Rules.{rule_number}
+use Rattle.machine.specs.declared.refusal.Refusal.{Refusal}
 use Rattle.machine.specs.declared.reg.Reg.{Reg}
 use Rattle.machine.specs.declared.Maddr.{Maddr}
 use Rattle.machine.specs.declared.Operand.{Operand}
@@ -40,7 +42,7 @@ use Rattle.eval.specs.FlagRule.{FlagRule, base_rule}
 use Rattle.eval.specs.Config.{Env, Config, with_regs, with_flags}
 use Rattle.eval.specs.Config as Config
 use Rattle.eval.specs.Watch.{nothing_open}
-use Rattle.eval.specs.Counted.{Counted, counted, ended}
+use Rattle.eval.specs.Counted.{Counted, counted, nothing_counted, ended}
 use Rattle.eval.specs.Running.{run_of}
 use Rattle.eval.specs.Instructions.{checks_amount, two_word, two_flags, inserts_word, run_ins}
 use Rattle.eval.specs.Promises.{environment, held, CodeAt, CodesAt, InsAt, OcmpAt, codes_from, Loads, Seeks, Resolves, no_slot, put_regs, put_values, comparison, Compares, how, Ran, StepsIns, DecidesAt, TestedAt, test_at, BehindTest, part_fuel, way_from, Runs, RunsIns, RunsAll, Spends, SpendsAll}
@@ -807,22 +809,23 @@ module _ (env : Env) (limit : Option ℕ) (bs : List ℕ) (at fuel m : ℕ) (s�
         } in
         record { tested = head.tested; is_test = head.is_test; looping = rw w.fuel_is again }
 
--- ---- what a check answered is the verdict of its definition
-pub is_accepted : (v : Checked) (w : Verdict) → verdict v ≡ w → v ≡ Accepted → w ≡ accepted
-is_accepted v w is e = sym is ∙ ap verdict e
+-- ---- what the checks answered is the verdict of their definitions, code first
+module _ (bs addresses tags : List ℕ) (fill : ℕ) (rule : FlagRule) (fuel : ℕ) (limit : Option ℕ) (s : Config) (v : Result Unit Refusal)
+    (is : verdict v ≡ and_then (check_code bs) (check_cells addresses tags s.values)) where
+  pub refused_run :
+      (y : Refusal) → v ≡ Err y → (w : Watch) → w ≡ nothing_open →
+      ended (Config.refused (rule_number y.rule) y.place) s (counted 0 w) ≡ run_of bs (environment addresses tags fill rule) fuel limit s
+  refused_run y e w none =
+      ap (λ (w : Watch). ended (Config.refused (rule_number y.rule) y.place) s (counted 0 w)) none
+      ∙ go (check_code bs) refl (sym (ap verdict e) ∙ is)
+    where
+      go : (c : Verdict) → check_code bs ≡ c → refused (rule_number y.rule) y.place ≡ and_then c (check_cells addresses tags s.values) →
+          ended (Config.refused (rule_number y.rule) y.place) s nothing_counted ≡ run_of bs (environment addresses tags fill rule) fuel limit s
+      go accepted h g = cells_refused bs _ fuel limit s h _ _ (sym g)
+      go (refused n p) h g = code_refused bs _ fuel limit s _ _ (h ∙ sym g)
 
-module _ (bs addresses tags : List ℕ) (fill : ℕ) (rule : FlagRule) (fuel : ℕ) (limit : Option ℕ) (s : Config) (v : Checked)
-    (is_code : verdict v ≡ check_code bs) where
-  pub refused_code :
-      (n p : ℕ) → v ≡ Refused n p → (w : Watch) → w ≡ nothing_open →
-      ended (Config.refused n p) s (counted 0 w) ≡ run_of bs (environment addresses tags fill rule) fuel limit s
-  refused_code n p e w none =
-      ap (λ (w : Watch). ended (Config.refused n p) s (counted 0 w)) none ∙ code_refused bs _ fuel limit s n p (sym is_code ∙ ap verdict e)
-
-  pub refused_cells :
-      v ≡ Accepted → (u : Checked) → verdict u ≡ check_cells addresses tags s.values → (n i : ℕ) → u ≡ Refused n i →
-      (w : Watch) → w ≡ nothing_open →
-      ended (Config.refused n i) s (counted 0 w) ≡ run_of bs (environment addresses tags fill rule) fuel limit s
-  refused_cells e u is n i f w none =
-      ap (λ (w : Watch). ended (Config.refused n i) s (counted 0 w)) none
-      ∙ cells_refused bs _ fuel limit s (is_accepted v _ is_code e) n i (sym is ∙ ap verdict f)
+-- where both accept, each does
+pub both_accepted : (v : Result Unit Refusal) (code cells : Verdict) → verdict v ≡ and_then code cells → (u : Unit) → v ≡ Ok u →
+    (code ≡ accepted) × (cells ≡ accepted)
+both_accepted v accepted cells is u e = (refl, sym is ∙ ap verdict e)
+both_accepted v (refused n p) cells is u e = absurd (let f = sym is ∙ ap verdict e in let z : ◌≡◌ {A = ℕ} 0 1 = cc in omega arith)

@@ -11,8 +11,10 @@ use borrow.Author.Tests.{eqb-true, eqb-false, ne_eqb, eq-eqb}
 use lib.Dec.{eqb}
 use lib.ListN.{length}
 use Rattle.machine.specs.Cells.{accepted, verdict, check_cells}
-use Rattle.machine.specs.declared.Checked.{Checked}
-use Rattle.machine.specs.declared.Checked.TheVariants.{Accepted, Refused}
+use Rattle.std.specs.Prelude.{Result, Err}
+use Rattle.machine.specs.Continuing.{and_then}
+use Rattle.machine.specs.Rules.{rule_number}
+use Rattle.machine.specs.declared.refusal.Refusal.{Refusal}
 use Rattle.code.specs.Reader.{check_code}
 use Rattle.eval.specs.FlagRule.{FlagRule}
 use Rattle.eval.specs.Config.{Env, Config, done, fault, stopped, refused}
@@ -24,7 +26,7 @@ use Rattle.eval.specs.Promises.{environment, how, RunsAll, SpendsAll, LessFuel}
 use Rattle.eval.specs.declared.exit.Exit.{Exit}
 use Rattle.eval.proofs.LeastLaws.{below_or_not, least_is}
 use Rattle.eval.proofs.RunLaws.{run_ran, run_spends}
-use Rattle.eval.proofs.Asked.{refused_code, refused_cells}
+use Rattle.eval.proofs.Asked.{refused_run}
 
 -- a run that is refused needs none
 refused_needs : (run : ℕ → Ended) (cap n p : ℕ) (s : Config) (k : Counted) → ended (refused n p) s k ≡ run 0 → 0 ≡ least_fuel run cap
@@ -32,19 +34,15 @@ unfolding is_spent
 refused_needs run cap n p s k e =
     sym (least_is run cap 0 (omega arith) (λ g m. absurd (omega (arith, m))) (λ _. ap (λ (x : Ended). is_spent x.end.how) (sym e)))
 
-module _ (bs addresses tags : List ℕ) (fill : ℕ) (rule : FlagRule) (fuel : ℕ) (limit : Option ℕ) (s : Config) (v : Checked)
-    (is_code : verdict v ≡ check_code bs) where
+module _ (bs addresses tags : List ℕ) (fill : ℕ) (rule : FlagRule) (fuel : ℕ) (limit : Option ℕ) (s : Config) (v : Result Unit Refusal)
+    (is : verdict v ≡ and_then (check_code bs) (check_cells addresses tags s.values)) where
   abbrev runs : ℕ → Ended
   runs f = run_of bs (environment addresses tags fill rule) f limit s
 
-  pub refused_code_needs : (n p : ℕ) → v ≡ Refused n p → 0 ≡ least_fuel runs fuel
-  refused_code_needs n p e =
-      refused_needs runs fuel n p s nothing_counted (refused_code bs addresses tags fill rule 0 limit s v is_code n p e nothing_open refl)
-
-  pub refused_cells_needs :
-      v ≡ Accepted → (u : Checked) → verdict u ≡ check_cells addresses tags s.values → (n i : ℕ) → u ≡ Refused n i → 0 ≡ least_fuel runs fuel
-  refused_cells_needs e u is n i f =
-      refused_needs runs fuel n i s nothing_counted (refused_cells bs addresses tags fill rule 0 limit s v is_code e u is n i f nothing_open refl)
+  pub refused_run_needs : (y : Refusal) → v ≡ Err y → 0 ≡ least_fuel runs fuel
+  refused_run_needs y e =
+      refused_needs runs fuel (rule_number y.rule) y.place s nothing_counted
+      (refused_run bs addresses tags fill rule 0 limit s v is y e nothing_open refl)
 
 -- which exits are spent
 is_spent_how : (r : Exit) → r.number ≡ 1 → is_spent (how r) ≡ true

@@ -12,8 +12,9 @@ use Rattle.machine.specs.Registers.{reg_at, Rsp}
 use Rattle.machine.specs.Operands.{eval_maddr, wild, wild_or}
 use Rattle.machine.specs.Cells.{find_cell, is_cell, leads, led_to}
 use Rattle.machine.specs.declared.reg.Reg.{Reg}
-use Rattle.machine.specs.declared.Target.{Target}
-use Rattle.machine.specs.declared.Target.TheVariants.{Cell, Absent, Wild}
+use Rattle.std.specs.Prelude.{Result, Ok, Err}
+use Rattle.machine.specs.declared.NoCell.{NoCell}
+use Rattle.machine.specs.declared.NoCell.TheVariants.{Absent, Wild}
 use Rattle.machine.specs.declared.Maddr.{Maddr}
 use Rattle.machine.specs.declared.Operand.{Operand}
 use Rattle.machine.specs.declared.Operand.TheVariants.{OConst, OReg, OMem}
@@ -166,11 +167,11 @@ module _ (env : Env) (s : Config) (o : Operand) (next : ℕ) where
           no_destination f.number (rw nowhere.1 (wild_or_above absent o s.regs above)) (nowhere.1 ∙ ap (λ n. wild_or n o s.regs) is) t g (rw unreadable)
 
 -- ---- a memory operand, by what it leads to
-module _ (addresses tags regs : List ℕ) (m : Maddr) (absent : ℕ) (f : Target) (found : led_to f ≡ leads addresses tags (eval_maddr m regs)) where
+module _ (addresses tags regs : List ℕ) (m : Maddr) (absent : ℕ) (f : Result ℕ NoCell) (found : led_to f ≡ leads addresses tags (eval_maddr m regs)) where
   abbrev Seek : ℕ → ℕ → Type 0
   Seek n i = Seeks addresses tags regs m absent (record { number = n; index = i })
 
-  pub seek_cell : (i : ℕ) → f ≡ Cell i → Seek 0 i
+  pub seek_cell : (i : ℕ) → f ≡ Ok i → Seek 0 i
   seek_cell i e =
       let h : find_cell addresses tags (eval_maddr m regs) ≡ some i = ap (λ p. p.0) (sym found ∙ ap led_to e) in
       record { number = rw h; cell = λ j k. let z : some i ≡ some j = sym h ∙ k in cc }
@@ -181,8 +182,8 @@ module _ (addresses tags regs : List ℕ) (m : Maddr) (absent : ℕ) (f : Target
       let w : wild (eval_maddr m regs) ≡ b = ap (λ p. p.1) (sym found ∙ e) in
       record { number = rw (h, memory_wild m regs, w) is; cell = λ j k. let z : none ≡ some j = sym h ∙ k in cc }
 
-  pub seek_absent : f ≡ Absent → Seek absent 0
+  pub seek_absent : f ≡ Err Absent → Seek absent 0
   seek_absent e = seek_none absent false (ap led_to e) refl
 
-  pub seek_wild : f ≡ Wild → Seek 36 0
+  pub seek_wild : f ≡ Err Wild → Seek 36 0
   seek_wild e = seek_none 36 true (ap led_to e) refl

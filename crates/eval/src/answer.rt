@@ -1,4 +1,8 @@
-use machine::State;
+ghost use Rattle.std.specs.Prelude.{◌≡◌};
+ghost use Rattle.machine.specs.Rules.{rule_number};
+ghost use Rattle.eval.specs.declared.answer.Answer.TheVariants.{Refused};
+
+use machine::{Refusal, State};
 
 // How a run ended: each but a run that is done has a place.
 #[derive(Clone, Copy)]
@@ -8,6 +12,14 @@ pub enum Answer {
     Stopped(u8, usize),
     Spent(usize),
     Refused(u8, usize),
+}
+
+impl From<Refusal> for Answer {
+    ghost from_gives = { λ refusal answer. answer ≡ Refused (rule_number refusal.rule) refusal.place };
+
+    fn from(refusal: Refusal) -> Answer {
+        Answer::Refused(refusal.rule.number(), refusal.place)
+    }
 }
 
 // The place of the first instruction that has read an open flag, if one has.

@@ -11,7 +11,7 @@ ghost use Rattle.eval.specs.Promises.{env_of, held, Seeks, Loads, Resolves, InBo
 
 use crate::lent::Lent;
 use code::{Form, form_at, memory_at, operand_behind};
-use machine::{State, Target, cell_of};
+use machine::{NoCell, State, cell_of};
 
 // A source: 0 or the number of the check that fails, its word, and the place behind its record.
 #[derive(Clone, Copy)]
@@ -49,12 +49,12 @@ fn cell_at(lent: &Lent, at: usize, regs: &[u64; 16], absent: u8) -> Sought
 {
     let m = memory_at(lent.code, at);
     match cell_of(m, regs, lent.addresses, lent.tags) {
-        Target::Cell(index) => Sought { number: 0, index },
-        Target::Absent => Sought {
+        Ok(index) => Sought { number: 0, index },
+        Err(NoCell::Absent) => Sought {
             number: absent,
             index: 0,
         },
-        Target::Wild => Sought {
+        Err(NoCell::Wild) => Sought {
             number: 36,
             index: 0,
         },

@@ -1,7 +1,8 @@
 // Running: code and cells are checked, and then the state's arrays are lent to the evaluator's cycle.
 ghost use Rattle.std.specs.Prelude.{◌≡◌, cond, ◌+◌, ◌-◌, ◌≤◌, ◌<◌, eqb};
 ghost use Rattle.std.proofs.Math.Option.{some};
-ghost use Rattle.machine.specs.Cells.{accepted, check_cells};
+ghost use Rattle.machine.specs.Cells.{accepted, verdict, check_cells};
+ghost use Rattle.machine.specs.Continuing.{and_then};
 ghost use Rattle.code.specs.Reader.{check_code};
 ghost use Rattle.eval.specs.FlagRule.{flag_rule};
 ghost use Rattle.eval.specs.Config.{config, outcome};
@@ -17,7 +18,7 @@ use crate::cycle::eval_codes;
 use crate::exit::Exit;
 use crate::lent::Lent;
 use code::check_code;
-use machine::{Checked, State, check_cells};
+use machine::{Refusal, State, check_cells};
 
 fn answer_of(ended: Exit) -> Answer
     ensures { outcome result ≡ how ended }
@@ -93,6 +94,14 @@ pub fn evaluate(
     }
 }
 
+// Code, and then the cells.
+fn check(code: &[u8], addresses: &[u64], tags: &[u8], values: &[u64]) -> Result<(), Refusal>
+    ensures { verdict result ≡ and_then (check_code code.now) (check_cells addresses.now tags.now values.now) }
+{
+    check_code(code)?;
+    check_cells(addresses, tags, values)
+}
+
 pub fn run(
     code: &[u8],
     addresses: &[u64],
@@ -111,22 +120,9 @@ pub fn run(
         fuel (some setting.limit) (config start values.old)) setting.fuel }
     ensures input { IsInput code.now start setting }
 {
-    let checked = check_code(code);
-    if let Checked::Refused(number, place) = checked {
-        let answer = Answer::Refused(number, place);
+    if let Err(refusal) = check(code, addresses, tags, values) {
         return Run {
-            answer,
-            state: start,
-            steps: 0,
-            watch: nothing_open(),
-            needed: 0,
-        };
-    }
-    let cells = check_cells(addresses, tags, values);
-    if let Checked::Refused(number, index) = cells {
-        let answer = Answer::Refused(number, index);
-        return Run {
-            answer,
+            answer: Answer::from(refusal),
             state: start,
             steps: 0,
             watch: nothing_open(),

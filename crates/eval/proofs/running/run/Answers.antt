@@ -5,8 +5,8 @@ use native.Mathlib.Omega.{arith}
 use denote.Struct.Field.{u32-field, u64-field}
 use Rattle.eval.specs.Inputs.{IsInput}
 use Rattle.eval.proofs.InputLaws.{words_of}
-use Rattle.eval.proofs.Asked.{is_accepted, refused_code, refused_cells}
-use Rattle.eval.proofs.NeededLaws.{refused_code_needs, refused_cells_needs}
+use Rattle.eval.proofs.Asked.{refused_run, both_accepted}
+use Rattle.eval.proofs.NeededLaws.{refused_run_needs}
 use Rattle.eval.proofs.running.run.Goals as goal
 use Rattle.eval.proofs.running.run.Goals.{After-shared_slice_known-1}
 
@@ -29,25 +29,18 @@ is_input c =
       limit_word = setting.1.1.0.1;
     }
 
-pub returns-in-Refused : goal.returns-in-Refused
-returns-in-Refused c =
+pub returns-in-Err : goal.returns-in-Err
+returns-in-Err c =
     record {
-      values_after = search refused_code;
-      needed_value = refused_code_needs _ _ _ _ _ _ _ _ _ c.check_code-checked.ensures _ _ c.in-Refused.is;
-      input = is_input (goal.at.returns-in-Refused c).After-shared_slice_known-1;
-    }
-
-pub returns-in-Refused-cells : goal.returns-in-Refused-cells
-returns-in-Refused-cells c =
-    record {
-      values_after = search refused_cells;
-      needed_value = refused_cells_needs _ _ _ _ _ _ _ _ _ c.check_code-checked.ensures c.in_default.is _
-          c.check_cells-cells.ensures _ _ c.in-Refused-cells.is;
-      input = is_input (goal.at.returns-in-Refused-cells c).After-shared_slice_known-1;
+      values_after = rw c.from.ensures (refused_run _ _ _ _ _ _ _ _ _ c.check.ensures _ c.in-Err.is _ c.nothing_open.ensures);
+      needed_value = refused_run_needs _ _ _ _ _ _ _ _ _ c.check.ensures _ c.in-Err.is;
+      input = is_input (goal.at.returns-in-Err c).After-shared_slice_known-1;
     }
 
 pub evaluate-requires : goal.evaluate-requires
-evaluate-requires c = record { code_value = search is_accepted; values_value = is_accepted _ _ c.check_cells-cells.ensures c.in_default-cells.is }
+evaluate-requires c =
+    let both = both_accepted _ _ _ c.check.ensures _ c.in_default.is in
+    record { code_value = both.0; values_value = both.1 }
 
 pub returns : goal.returns
 returns c =
