@@ -5,8 +5,8 @@ usage: vectors.py rows > src/vectors.rt      (then rt fmt)
        vectors.py lines > stdout             what the program must write
 
 The numbers come from Python's integers and from the text of Vale's F* files, FStar.UInt and
-requests 2026-02 and 2026-06, and from nothing in crates/words. A row is eight words: the function's number in
-src/apply.rt, the two words of x, the two of y, the small argument s, and the two words of the
+requests 2026-02 and 2026-06, and from nothing in crates/words. A row is eight words: the function's place among
+the names, the two words of x, the two of y, the small argument s, and the two words of the
 expected result.
 """
 import sys

@@ -28,7 +28,8 @@ pub trait Word: Copy + From<bool> {
     fn ishr(self, s: Self) -> Self
         ensures { number result ≡ ishr (number self) (number s) };
 
-    // The sum, and its carry.
+    // The sum, and its carry: a sum that wraps lies below each of its terms. The compiler makes `adc` of that in `add`, and
+    // not of the library's `overflowing_add` (docs/DECISIONS.md, "Bits").
     fn plus(self, y: Self) -> Sum<Self>
         ensures { Added bits (number self + number y) (number result.word) result.carry };
 
@@ -63,13 +64,18 @@ impl Word for u32 {
     }
 
     fn plus(self, y: u32) -> Sum<u32> {
-        let (word, carry) = self.overflowing_add(y);
-        Sum { word, carry }
+        let word = self.wrapping_add(y);
+        Sum {
+            word,
+            carry: word < self,
+        }
     }
 
     fn minus(self, y: u32) -> Sum<u32> {
-        let (word, carry) = self.overflowing_sub(y);
-        Sum { word, carry }
+        Sum {
+            word: self.wrapping_sub(y),
+            carry: self < y,
+        }
     }
 }
 
@@ -97,12 +103,17 @@ impl Word for u64 {
     }
 
     fn plus(self, y: u64) -> Sum<u64> {
-        let (word, carry) = self.overflowing_add(y);
-        Sum { word, carry }
+        let word = self.wrapping_add(y);
+        Sum {
+            word,
+            carry: word < self,
+        }
     }
 
     fn minus(self, y: u64) -> Sum<u64> {
-        let (word, carry) = self.overflowing_sub(y);
-        Sum { word, carry }
+        Sum {
+            word: self.wrapping_sub(y),
+            carry: self < y,
+        }
     }
 }
