@@ -13,7 +13,7 @@ use crate::build::{
 };
 use crate::record::{record_of, record_of_ocmp};
 use crate::write::{copy, put_number, put_record};
-use code::{Instruction, Ocmp, Reach, read_rest};
+use code::{Instruction, Ocmp, read_rest};
 
 // The number of the first refusal whose condition holds.
 fn judge(fits: bool, trouble: u8, depth: usize, bytes: usize, room: usize) -> u8
@@ -43,10 +43,9 @@ fn trouble_in(bytes: &[u8; 52], at: usize, end: usize) -> u8
     requires { Begins is_used bytes.now end at }
     ensures { result ≡ trouble_of (rest_of_all bytes.now end at) }
 {
-    let read = read_rest(bytes, end, at);
-    match read {
-        Reach::Next(_) => 0,
-        Reach::Trouble(number, _) => number,
+    match read_rest(bytes, end, at) {
+        Ok(_) => 0,
+        Err(refusal) => refusal.rule.number(),
     }
 }
 
