@@ -16,7 +16,8 @@ use crate::build::{
 use crate::record::{record_of, record_of_ocmp};
 use crate::refusal::BuildRefusal;
 use crate::write::{Bytes, copy, put_number, put_record};
-use code::{Instruction, Ocmp, Reach, read_rest};
+use code::{Instruction, Ocmp, read_rest};
+use machine::{Refusal, Rule};
 
 // The first refusal whose condition holds.
 fn judge(
@@ -48,9 +49,9 @@ fn check_fields(bytes: &[u8], at: usize) -> Result<(), BuildRefusal>
     ensures { answer_of result ≡ trouble_of (rest_of_all bytes.now (length bytes.now) at) }
 {
     match read_rest(bytes, bytes.len(), at) {
-        Reach::Next(_) => Ok(()),
-        Reach::Trouble(7, _) => Err(BuildRefusal::NoScale),
-        Reach::Trouble(_, _) => Err(BuildRefusal::NoRegister),
+        Ok(_) => Ok(()),
+        Err(Refusal { rule: Rule::Scale, .. }) => Err(BuildRefusal::NoScale),
+        Err(_) => Err(BuildRefusal::NoRegister),
     }
 }
 

@@ -61,26 +61,26 @@ module _ (bs : List ℕ) (e at : ℕ) (in_part : at < e) where
   code_deep (suc d) h z = absurd (omega arith)
 
   pub code_ins :
-      (d : ℕ) (r : Reach) → is_ins (byte_at bs at) ≡ true → (d ≡ 0 → ⊥) → reach r ≡ rest_of_all bs e at →
-      reach r ≡ reached (read_code d bs e at)
+      (d : ℕ) (x : Read (Unit {0})) → is_ins (byte_at bs at) ≡ true → (d ≡ 0 → ⊥) → x ≡ rest_of_all bs e at →
+      x ≡ reached (read_code d bs e at)
   unfolding read_code read_body
-  code_ins zero r h z g = absurd (z refl)
-  code_ins (suc d) r h z g =
+  code_ins zero x h z g = absurd (z refl)
+  code_ins (suc d) x h z g =
       let c = ins_is_code (byte_at bs at) h in
       g ∙ sym
       (ap reached (kind_right is_code bs e at (read_body (read_code d bs) bs e at) in_part c ∙ rw h refl)
       ∙ with_right is_code (Ins at (ins_at bs at)) bs e at in_part c)
 
   pub code_structure :
-      (d : ℕ) (r : Reach) → is_structure (byte_at bs at) ≡ true → (d ≡ 0 → ⊥) → reach r ≡ reached (structure_of (d - 1) bs e at) →
-      reach r ≡ reached (read_code d bs e at)
+      (d : ℕ) (x : Read (Unit {0})) → is_structure (byte_at bs at) ≡ true → (d ≡ 0 → ⊥) → x ≡ reached (structure_of (d - 1) bs e at) →
+      x ≡ reached (read_code d bs e at)
   unfolding read_code read_body structure_of
-  code_structure zero r h z g = absurd (z refl)
-  code_structure (suc d) r h z g =
+  code_structure zero x h z g = absurd (z refl)
+  code_structure (suc d) x h z g =
       let c = structure_is_code (byte_at bs at) h in
       let w = between_true 0x20 0x22 (byte_at bs at) h in
       let i : is_ins (byte_at bs at) ≡ false = no_ins (byte_at bs at) w.0 in
-      let f : reach r ≡ reached (with_body bs e at (read_structure (read_code d bs) bs e at)) = rw sub-one at g in
+      let f : x ≡ reached (with_body bs e at (read_structure (read_code d bs) bs e at)) = rw sub-one at g in
       f ∙ sym (ap reached (kind_right is_code bs e at (read_body (read_code d bs) bs e at) in_part c ∙ rw i refl))
 
 -- `read_structure`

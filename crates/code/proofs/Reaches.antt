@@ -186,9 +186,9 @@ module _ (bs : List ℕ) (e at : ℕ) where
   operand_wrong l h = sym (kind_wrong is_operand bs e at _ l h)
 
   pub operand_right :
-      (r : Reach) → at < e → is_operand (byte_at bs at) ≡ true → reach r ≡ rest_of_record bs e at → reach r ≡ read_record is_operand bs e at
+      (x : Read (Unit {0})) → at < e → is_operand (byte_at bs at) ≡ true → x ≡ rest_of_record bs e at → x ≡ read_record is_operand bs e at
   unfolding read_record rest_of_record
-  operand_right r l h g = g ∙ sym (kind_right is_operand bs e at _ l h)
+  operand_right x l h g = g ∙ sym (kind_right is_operand bs e at _ l h)
 
 -- `read_operands`
 pub operands_go :
@@ -263,6 +263,6 @@ module _ (bs : List ℕ) (e at : ℕ) where
   ocmp_wrong l h = rw (with_wrong is_ocmp (ocmp_at bs at) bs e at l h)
 
   pub ocmp_right :
-      (r : Reach) → at < e → is_ocmp (byte_at bs at) ≡ true → reach r ≡ rest_of_all bs e at → reach r ≡ reached (read_ocmp bs e at)
+      (x : Read (Unit {0})) → at < e → is_ocmp (byte_at bs at) ≡ true → x ≡ rest_of_all bs e at → x ≡ reached (read_ocmp bs e at)
   unfolding read_ocmp
-  ocmp_right r l h g = g ∙ sym (with_right is_ocmp (ocmp_at bs at) bs e at l h)
+  ocmp_right x l h g = g ∙ sym (with_right is_ocmp (ocmp_at bs at) bs e at l h)

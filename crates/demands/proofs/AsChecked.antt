@@ -11,11 +11,10 @@ use Rattle.machine.specs.Cells.{refused as check_refused}
 use Rattle.machine.specs.declared.Operand.{Operand}
 use Rattle.code.specs.declared.tree.Instruction.{Instruction}
 use Rattle.code.specs.declared.tree.Ocmp.{Ocmp}
-use Rattle.code.specs.declared.reader.Reach.TheVariants.{Trouble}
 use Rattle.code.specs.Layout.{Layout, last_ins, layout, ocmp_layout, value, values}
 use Rattle.code.specs.Records.{is_ins, is_structure, is_ocmp, body_length, operand_count, byte_at, behind}
 use Rattle.code.specs.Reader.{Read, got, trouble, read_ocmp, read_part, read_structure, read_if, read_while, read_code, parse, verdict_of, check_code}
-use Rattle.code.specs.Reached.{reached, reach, rest_of_all, structure_of}
+use Rattle.code.specs.Reached.{reached, rest_of_all, structure_of}
 use Rattle.code.specs.Writer.{bytes_of, bytes_of_operand, bytes_of_operands, bytes_of_record, bytes_of_ins, bytes_of_ocmp}
 use Rattle.code.proofs.Passing.{and_both, between_true}
 use Rattle.code.proofs.KindLaws.{within}
@@ -61,18 +60,16 @@ module _ (bs : List ℕ) (n p : ℕ) where
   e = length bs
 
   ins_trouble : 0 < e → is_ins (byte_at bs 0) ≡ true → rest_of_all bs e 0 ≡ trouble (suc n) p → read_code 32 bs e 0 ≡ trouble (suc n) p
-  unfolding reach
   ins_trouble l k h =
-      reached_trouble (read_code 32 bs e 0) (suc n) p (code_ins bs e 0 l 32 (Trouble (suc n) p) k (omega arith) (sym h))
+      reached_trouble (read_code 32 bs e 0) (suc n) p (code_ins bs e 0 l 32 (trouble (suc n) p) k (omega arith) (sym h))
 
   ocmp_trouble : (at : ℕ) → at < e → is_ocmp (byte_at bs at) ≡ true → rest_of_all bs e at ≡ trouble (suc n) p → read_ocmp bs e at ≡ trouble (suc n) p
-  unfolding reach
-  ocmp_trouble at l k h = reached_trouble (read_ocmp bs e at) (suc n) p (ocmp_right bs e at (Trouble (suc n) p) l k (sym h))
+  ocmp_trouble at l k h = reached_trouble (read_ocmp bs e at) (suc n) p (ocmp_right bs e at (trouble (suc n) p) l k (sym h))
 
   structure_trouble : 0 < e → is_structure (byte_at bs 0) ≡ true → structure_of 31 bs e 0 ≡ trouble (suc n) p → read_code 32 bs e 0 ≡ trouble (suc n) p
-  unfolding reach reached
+  unfolding reached
   structure_trouble l k h =
-      reached_trouble (read_code 32 bs e 0) (suc n) p (code_structure bs e 0 l 32 (Trouble (suc n) p) k (omega arith) (sym (ap reached h)))
+      reached_trouble (read_code 32 bs e 0) (suc n) p (code_structure bs e 0 l 32 (trouble (suc n) p) k (omega arith) (sym (ap reached h)))
 
   while_trouble : byte_at bs 0 ≡ 0x22 → 5 ≤ e → read_ocmp bs e 5 ≡ trouble (suc n) p → structure_of 31 bs e 0 ≡ trouble (suc n) p
   unfolding structure_of read_structure read_while behind body_length
