@@ -2,7 +2,7 @@
 // 2026-08, and none was taken from the checker: a group whose cases do not all agree prints FAILED.
 #![tactic(auto)]
 
-ghost use Rattle.std.specs.Prelude.{◌*◌, ◌≤◌};
+ghost use Rattle.std.specs.Prelude.{◌≡◌, ◌*◌, ◌≤◌, length};
 
 use code::check_code;
 use std::io;
@@ -95,7 +95,10 @@ fn cut_operands() -> bool {
         (b"\x08\x41", Err((3, 1))),
         (b"\x08\x42\x00\x00\x00\x00\x00\x00\x00", Err((3, 1))),
         (b"\x08\x43\x00\x00\x00\x00\x00\x00\x00\x00", Err((3, 1))),
-        (b"\x08\x44\x00\x00\x00\x00\x00\x00\x00\x00\x00\x00\x00", Err((3, 1))),
+        (
+            b"\x08\x44\x00\x00\x00\x00\x00\x00\x00\x00\x00\x00\x00",
+            Err((3, 1)),
+        ),
         (b"\x02\x41\x00", Err((3, 3))),
         (b"\x08\x43\x10", Err((3, 1))),
     ])
@@ -120,8 +123,14 @@ fn registers() -> bool {
     all_told(&[
         (b"\x08\x41\x10", Err((4, 2))),
         (b"\x08\x43\x10\x00\x00\x00\x00\x00\x00\x00\x00", Err((4, 2))),
-        (b"\x08\x44\x10\x00\x00\x00\x00\x00\x00\x00\x00\x00\x00\x00", Err((4, 2))),
-        (b"\x08\x44\x00\x01\x00\x10\x00\x00\x00\x00\x00\x00\x00\x00", Err((4, 5))),
+        (
+            b"\x08\x44\x10\x00\x00\x00\x00\x00\x00\x00\x00\x00\x00\x00",
+            Err((4, 2)),
+        ),
+        (
+            b"\x08\x44\x00\x01\x00\x10\x00\x00\x00\x00\x00\x00\x00\x00",
+            Err((4, 5)),
+        ),
         (b"\x22\x00\x00\x00\x00\x30\x41\x10\x41\x00", Err((4, 7))),
     ])
 }
@@ -192,10 +201,22 @@ fn field_order() -> bool {
 // 7 stands behind 3 and 2 of its own record, and ahead of what stands behind it
 fn scale_order() -> bool {
     all_told(&[
-        (b"\x08\x44\x00\x03\x00\x00\x00\x00\x00\x00\x00\x00\x00", Err((3, 1))),
-        (b"\x01\x45\x00\x03\x00\x00\x00\x00\x00\x00\x00\x00\x00\x00", Err((2, 1))),
-        (b"\x08\x44\x00\x03\x00\x00\x00\x00\x00\x00\x00\x00\x00\x00\x00", Err((7, 3))),
-        (b"\x22\xff\x00\x00\x00\x30\x44\x00\x00\x01\x00\x00\x00\x00\x00\x00\x00\x00\x00\x41\x00", Err((7, 8))),
+        (
+            b"\x08\x44\x00\x03\x00\x00\x00\x00\x00\x00\x00\x00\x00",
+            Err((3, 1)),
+        ),
+        (
+            b"\x01\x45\x00\x03\x00\x00\x00\x00\x00\x00\x00\x00\x00\x00",
+            Err((2, 1)),
+        ),
+        (
+            b"\x08\x44\x00\x03\x00\x00\x00\x00\x00\x00\x00\x00\x00\x00\x00",
+            Err((7, 3)),
+        ),
+        (
+            b"\x22\xff\x00\x00\x00\x30\x44\x00\x00\x01\x00\x00\x00\x00\x00\x00\x00\x00\x00\x41\x00",
+            Err((7, 8)),
+        ),
     ])
 }
 
@@ -205,11 +226,26 @@ fn lengths() -> bool {
         (b"\x20\x01\x00\x00\x00", Err((6, 0))),
         (b"\x20\x00\x00\x00\x00", Ok(())),
         (b"\x20\x03\x00\x00\x00\x0f\x00\x00", Ok(())),
-        (b"\x22\x04\x00\x00\x00\x30\x41\x00\x41\x00\x0f\x00\x00", Err((6, 0))),
-        (b"\x22\x03\x00\x00\x00\x30\x41\x00\x41\x00\x0f\x00\x00", Ok(())),
-        (b"\x21\x03\x00\x00\x00\x03\x00\x00\x00\x30\x41\x00\x41\x00\x0f\x00\x00\x0f\x00\x00", Ok(())),
-        (b"\x21\x04\x00\x00\x00\x03\x00\x00\x00\x30\x41\x00\x41\x00\x0f\x00\x00\x0f\x00\x00", Err((6, 0))),
-        (b"\x21\xff\xff\xff\xff\x01\x00\x00\x00\x30\x41\x00\x41\x00\x0f\x00\x00\x0f\x00\x00", Err((6, 0))),
+        (
+            b"\x22\x04\x00\x00\x00\x30\x41\x00\x41\x00\x0f\x00\x00",
+            Err((6, 0)),
+        ),
+        (
+            b"\x22\x03\x00\x00\x00\x30\x41\x00\x41\x00\x0f\x00\x00",
+            Ok(()),
+        ),
+        (
+            b"\x21\x03\x00\x00\x00\x03\x00\x00\x00\x30\x41\x00\x41\x00\x0f\x00\x00\x0f\x00\x00",
+            Ok(()),
+        ),
+        (
+            b"\x21\x04\x00\x00\x00\x03\x00\x00\x00\x30\x41\x00\x41\x00\x0f\x00\x00\x0f\x00\x00",
+            Err((6, 0)),
+        ),
+        (
+            b"\x21\xff\xff\xff\xff\x01\x00\x00\x00\x30\x41\x00\x41\x00\x0f\x00\x00\x0f\x00\x00",
+            Err((6, 0)),
+        ),
         (b"\x21\xff\xff\xff\xff\x00\x00\x00\x00\x36", Err((2, 9))),
     ])
 }
@@ -219,9 +255,18 @@ fn trailing() -> bool {
     all_told(&[
         (b"\x0f\x00\x00\x00", Err((6, 3))),
         (b"\x20\x00\x00\x00\x00\x00", Err((6, 5))),
-        (b"\x22\x04\x00\x00\x00\x30\x41\x00\x41\x00\x0f\x00\x00\x0f", Err((6, 13))),
-        (b"\x21\x04\x00\x00\x00\x01\x00\x00\x00\x30\x41\x00\x41\x00\x0f\x00\x00\x00\x00", Err((6, 17))),
-        (b"\x21\x03\x00\x00\x00\x04\x00\x00\x00\x30\x41\x00\x41\x00\x0f\x00\x00\x0f\x00\x00\x00", Err((6, 20))),
+        (
+            b"\x22\x04\x00\x00\x00\x30\x41\x00\x41\x00\x0f\x00\x00\x0f",
+            Err((6, 13)),
+        ),
+        (
+            b"\x21\x04\x00\x00\x00\x01\x00\x00\x00\x30\x41\x00\x41\x00\x0f\x00\x00\x00\x00",
+            Err((6, 17)),
+        ),
+        (
+            b"\x21\x03\x00\x00\x00\x04\x00\x00\x00\x30\x41\x00\x41\x00\x0f\x00\x00\x0f\x00\x00\x00",
+            Err((6, 20)),
+        ),
         (b"\x20\x06\x00\x00\x00\x0f\x00\x00\x0f\x00\x00", Ok(())),
     ])
 }
@@ -235,28 +280,27 @@ fn counts() -> bool {
     ])
 }
 
-// `blocks` nested Blocks, of 5 bytes each, around the bytes that stand behind them.
-fn nest(bytes: &mut [u8; 168], blocks: usize, total: usize)
+// `blocks` nested Blocks, of 5 bytes each, around the bytes that stand behind them; `total` bytes count.
+fn nested(blocks: usize, total: usize) -> [u8; 168]
     requires { (blocks ≤ 33) × (blocks * 5 ≤ total) × (total ≤ 168) }
+    ensures { length result ≡ 168 }
 {
+    let mut bytes = [0; 168];
     for i in 0..blocks {
         bytes[i * 5] = 0x20;
         bytes[i * 5 + 1] = (total - i * 5 - 5) as u8;
     }
+    bytes
 }
 
 // 5: a code stands deeper than 32; its kind is judged first.
 fn depths() -> bool {
-    let mut held = [0; 168];
-    nest(&mut held, 31, 158);
+    let mut held = nested(31, 158);
     held[155] = 0x0f;
-    let mut deep = [0; 168];
-    nest(&mut deep, 32, 163);
+    let mut deep = nested(32, 163);
     deep[160] = 0x0f;
-    let mut block = [0; 168];
-    nest(&mut block, 33, 165);
-    let mut wrong = [0; 168];
-    nest(&mut wrong, 32, 161);
+    let block = nested(33, 165);
+    let wrong = nested(32, 161);
     all_told(&[
         (&held[..158], Ok(())),
         (&deep[..163], Err((5, 160))),
