@@ -82,13 +82,7 @@ module _ (f : Bool → Bool → Bool) where
 -- ---- `&`
 
 and_digit : (a b : ℕ) → a < 2 → b < 2 → bit (eqb a 1 && eqb b 1) ≡ min a b
-and_digit zero zero ha hb = refl
-and_digit zero (suc zero) ha hb = refl
-and_digit zero (suc (suc b)) ha hb = absurd (omega arith)
-and_digit (suc zero) zero ha hb = refl
-and_digit (suc zero) (suc zero) ha hb = refl
-and_digit (suc zero) (suc (suc b)) ha hb = absurd (omega arith)
-and_digit (suc (suc a)) b ha hb = absurd (omega arith)
+and_digit a b ha hb = grind arith
 
 pub iand_is : (n x y : ℕ) → x < 2 ^ n → y < 2 ^ n → iand n x y ≡ bit_and x y
 unfolding iand
@@ -106,13 +100,7 @@ iand_bit n x y j h = both_bit ◌&&◌ n x y j h
 
 xor_digit : (a b : ℕ) → a < 2 → b < 2 → bit (xor (eqb a 1) (eqb b 1)) ≡ differ a b
 unfolding xor
-xor_digit zero zero ha hb = refl
-xor_digit zero (suc zero) ha hb = refl
-xor_digit zero (suc (suc b)) ha hb = absurd (omega arith)
-xor_digit (suc zero) zero ha hb = refl
-xor_digit (suc zero) (suc zero) ha hb = refl
-xor_digit (suc zero) (suc (suc b)) ha hb = absurd (omega arith)
-xor_digit (suc (suc a)) b ha hb = absurd (omega arith)
+xor_digit a b ha hb = grind arith
 
 pub ixor_is : (n x y : ℕ) → x < 2 ^ n → y < 2 ^ n → ixor n x y ≡ bit_xor x y
 unfolding ixor

@@ -1,6 +1,6 @@
 -- The language counts a number's binary digits, the definitions the bits of a list that spells it: both look at the lowest bit and go on with
 -- the half, so induction on n shows them equal. For leading zeros the lowest bit comes last, and it counts only where no bit above it is a one.
-use Rattle.std.proofs.Common.{◌≡◌, ℕ, zero, suc, ◌+◌, ◌-◌, ◌*◌, ◌/◌, ◌%◌, ◌^◌, ◌<◌, ◌≤◌, Bool, true, false, eqb, ◌⊎◌, List, [], ◌∷◌, ◌++◌, reverse, length, sym, refl, ap, ◌∙◌, inl, inr, add-zero, mod-lt, zero-lt-suc, mul_assoc, eq-zero-or-pos, pow-suc, add-one, arith, pow_pos}
+use Rattle.std.proofs.Common.{◌≡◌, ℕ, zero, suc, ◌+◌, ◌-◌, ◌*◌, ◌/◌, ◌%◌, ◌^◌, ◌<◌, ◌≤◌, Bool, true, false, eqb, ◌⊎◌, List, [], ◌∷◌, ◌++◌, reverse, length, sym, refl, ap, ◌∙◌, inl, inr, mod-lt, zero-lt-suc, mul_assoc, eq-zero-or-pos, pow-suc, arith, pow_pos}
 use mathlib.Core.List.{reverse-cons}
 use lib.Arith.{lt-one}
 use lib.Count.{count_leading_zeros, count_trailing_zeros, under, ones_step, leading_of_zero, leading_top, trailing_of_zero}
@@ -32,7 +32,7 @@ zeros_le (true ∷ bs) = omega arith
 zeros_some : (bs cs : List Bool) → zeros bs < length bs → zeros (bs ++ cs) ≡ zeros bs
 unfolding zeros
 zeros_some [] cs h = absurd (omega arith)
-zeros_some (false ∷ bs) cs h = ap suc (zeros_some bs cs (omega arith))
+zeros_some (false ∷ bs) cs h = grind (arith, zeros_some bs cs)
 zeros_some (true ∷ bs) cs h = refl
 
 -- behind zeros alone the count goes on
@@ -60,9 +60,7 @@ tzcnt_le n x = omega (arith, zeros_le (to_vec n x), to_vec_length n x)
 
 -- the bit of a digit is the digit
 bit_digit : (d : ℕ) → d < 2 → bit (eqb d 1) ≡ d
-bit_digit zero h = refl
-bit_digit (suc zero) h = refl
-bit_digit (suc (suc d)) h = absurd (omega arith)
+bit_digit d h = grind arith
 
 -- the lowest digit, and the count of the half
 popcnt_step : (n x : ℕ) → popcnt (suc n) x ≡ x % 2 + popcnt n (x / 2)
@@ -76,9 +74,7 @@ popcnt_is (suc n) x h = popcnt_step n x ∙ ap (λ (k : ℕ). x % 2 + k) (popcnt
 
 zeros_low : (d : ℕ) (bs : List Bool) → d < 2 → zeros (eqb d 1 ∷ bs) ≡ under d (zeros bs)
 unfolding zeros
-zeros_low zero bs h = refl
-zeros_low (suc zero) bs h = refl
-zeros_low (suc (suc d)) bs h = absurd (omega arith)
+zeros_low d bs h = grind arith
 
 tzcnt_step : (n x : ℕ) → tzcnt (suc n) x ≡ under (x % 2) (tzcnt n (x / 2))
 unfolding tzcnt to_vec
@@ -92,15 +88,12 @@ tzcnt_is (suc n) x = tzcnt_step n x ∙ ap (under (x % 2)) (tzcnt_is n (x / 2))
 -- a number that is not 0 keeps its leading zeros when its lowest bit is dropped
 leading_half : (n x : ℕ) → 0 < x → count_leading_zeros (suc n) x ≡ count_leading_zeros n (x / 2)
 unfolding count_leading_zeros
-leading_half n zero h = absurd (omega arith)
-leading_half n (suc x) h = refl
+leading_half n x h = grind arith
 
 -- 0 and 1 have none but zeros above their lowest bit
 leading_last : (n x : ℕ) → x / 2 ≡ 0 → n + zeros (eqb (x % 2) 1 ∷ []) ≡ count_leading_zeros (suc n) x
 unfolding zeros count_leading_zeros
-leading_last n zero h = add-one n
-leading_last n (suc zero) h = add-zero n ∙ sym (leading_of_zero n)
-leading_last n (suc (suc x)) h = absurd (omega arith)
+leading_last n x h = grind (arith, leading_of_zero)
 
 -- one bit more below counts only where those above it are zeros
 lzcnt_low : (n x : ℕ) → x < 2 ^ suc n → lzcnt n (x / 2) ≡ count_leading_zeros n (x / 2) → lzcnt (suc n) x ≡ count_leading_zeros (suc n) x

@@ -1,6 +1,6 @@
 -- Each lane definition keeps words words: a sum, a shift left and an exclusive or are cut to 32 bits, and the others move words, shrink them
 -- or write constants.
-use Rattle.std.proofs.Common.{◌≡◌, ℕ, zero, suc, ◌/◌, ◌%◌, ◌^◌, ◌<◌, Bool, true, false, cond, eqb, refl, ap, ◌∙◌, mod-lt, arith, pow_pos}
+use Rattle.std.proofs.Common.{◌≡◌, ℕ, zero, suc, ◌/◌, ◌%◌, ◌^◌, ◌<◌, cond, eqb, refl, ap, ◌∙◌, mod-lt, arith, pow_pos}
 use native.Mathlib.Nat.{mod-mod}
 use Rattle.words.specs.Words.{Four, mkfour, four_map, nat_to_four, four_to_two_two, two_to_nat, two_select, two_insert, four_insert}
 use Rattle.words.specs.Types.{select_word, extract_nat64, insert_nat32, insert_nat64, byte_to_twobits, quad32_xor, add_lanes, equal_lanes, shl_lanes, shr_lanes, shuffle_lanes, shift_quad}
@@ -52,12 +52,8 @@ unfolding add_lanes
 add_lanes_quad x y =
     record { lo0_lt = mod-lt _ (pow_pos 32); lo1_lt = mod-lt _ (pow_pos 32); hi2_lt = mod-lt _ (pow_pos 32); hi3_lt = mod-lt _ (pow_pos 32) }
 
-chosen_lt : (b : Bool) → cond b 0xffff_ffff 0 < 2 ^ 32
-chosen_lt true = omega arith
-chosen_lt false = omega arith
-
 equal_word_lt : (a b : ℕ) → cond (eqb a b) 0xffff_ffff 0 < 2 ^ 32
-equal_word_lt a b = chosen_lt (eqb a b)
+equal_word_lt a b = grind arith
 
 pub equal_lanes_quad : (x y : Four ℕ) → Quad (equal_lanes x y)
 unfolding equal_lanes

@@ -1,8 +1,7 @@
 -- A sum of two n-bit words and a carry is below 2 ^ n twice over, so it wraps at most once, and then it lies below each of its terms.
-use Rattle.std.proofs.Common.{◌≡◌, ℕ, ◌+◌, ◌-◌, ◌*◌, ◌%◌, ◌^◌, ◌<◌, ◌≤◌, Bool, true, false, ltb, leb, ◌⊎◌, ◌||◌, sym, refl, ap, ◌∙◌, inl, inr, ⊎_elim, mod-lt, mod-eq_of_lt, arith, pow_pos, ltb-false, ltb-true, le-leb, leb-true, leb-false}
+use Rattle.std.proofs.Common.{◌≡◌, ℕ, ◌+◌, ◌-◌, ◌*◌, ◌%◌, ◌^◌, ◌<◌, ◌≤◌, Bool, true, false, leb, ◌⊎◌, ◌||◌, sym, refl, ap, ◌∙◌, inl, inr, mod-lt, mod-eq_of_lt, arith, pow_pos, le-leb, leb-true, leb-false}
 use native.Mathlib.Nat.{mod-add-mod, mod-eq-sub-mod}
 use native.Mathlib.Decide.{dec_lt}
-use borrow.Author.Tests.{lt-leb}
 use Rattle.words.specs.Bits.{bit}
 use Rattle.words.specs.Sums.{sum_mod, sum_carry, sub_mod, Added, Subtracted}
 
@@ -44,25 +43,10 @@ module _ (n s part c word : ℕ) (out over : Bool) (first : Added n s part out) 
 
 pub added_number : (n s word : ℕ) (carry : Bool) → Added n s word carry → s < 2 ^ n + 2 ^ n → word + bit carry * 2 ^ n ≡ s
 unfolding sum_mod sum_carry
-added_number n s word carry a h =
-    rw (a.word_is, a.carry_is)
-    (⊎_elim
-    (λ v. rw (lt-leb (2 ^ n) s v.0) (omega (arith, v.1)))
-    (λ v. rw (le-leb (2 ^ n) s v.0) (omega (arith, v.1)))
-    (once (2 ^ n) s h (dec_lt s (2 ^ n))))
+added_number n s word true a h = grind (arith, once (2 ^ n) s h (dec_lt s (2 ^ n)))
+added_number n s word false a h = grind (arith, once (2 ^ n) s h (dec_lt s (2 ^ n)))
 
 pub subtracted_number : (n a b word : ℕ) (borrow : Bool) → Subtracted n a b word borrow → a < 2 ^ n → b < 2 ^ n → word + b ≡ a + bit borrow * 2 ^ n
 unfolding sub_mod
-subtracted_number n a b word borrow s ha hb = rw (s.word_is, s.borrow_is) (go (ltb a b) refl)
-  where
-    split : ((a + (2 ^ n - b) < 2 ^ n) × ((a + (2 ^ n - b)) % 2 ^ n ≡ a + (2 ^ n - b)))
-        ⊎ ((2 ^ n ≤ a + (2 ^ n - b)) × ((a + (2 ^ n - b)) % 2 ^ n + 2 ^ n ≡ a + (2 ^ n - b)))
-    split = once (2 ^ n) (a + (2 ^ n - b)) (omega arith) (dec_lt (a + (2 ^ n - b)) (2 ^ n))
-
-    go : (c : Bool) → ltb a b ≡ c → (a + (2 ^ n - b)) % 2 ^ n + b ≡ a + bit c * 2 ^ n
-    go true p =
-        let l : a < b = ltb-true a b p in
-        ⊎_elim (λ v. omega (arith, v.1)) (λ v. absurd (omega (arith, v.0))) split
-    go false p =
-        let l : b ≤ a = ltb-false a b p in
-        ⊎_elim (λ v. absurd (omega (arith, v.0))) (λ v. omega (arith, v.1)) split
+subtracted_number n a b word true s ha hb = grind (arith, once (2 ^ n) (a + (2 ^ n - b)) (omega arith) (dec_lt (a + (2 ^ n - b)) (2 ^ n)))
+subtracted_number n a b word false s ha hb = grind (arith, once (2 ^ n) (a + (2 ^ n - b)) (omega arith) (dec_lt (a + (2 ^ n - b)) (2 ^ n)))
