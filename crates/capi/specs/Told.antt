@@ -4,11 +4,10 @@ use Rattle.machine.specs.declared.State.{State}
 use Rattle.machine.specs.Cells.{Verdict}
 use Rattle.machine.specs.Cells.{accepted as check_accepted, refused as check_refused}
 use Rattle.eval.specs.Config.{Config, Outcome, done, fault, stopped, spent, refused}
+use Rattle.eval.specs.Watch.{Mark, Unmarked, Marked}
 use Rattle.eval.specs.Counted.{Ended}
 use Rattle.eval.specs.Inputs.{IsInput}
 use Rattle.eval.specs.declared.answer.Watch.{Watch}
-use Rattle.eval.specs.declared.answer.Mark.{Mark}
-use Rattle.eval.specs.declared.answer.Mark.TheVariants.{Unmarked, Marked}
 use Rattle.eval.specs.declared.answer.Setting.{Setting}
 use Rattle.eval.specs.declared.answer.Evaluation.{Evaluation}
 use Rattle.eval.specs.declared.answer.Evaluation.TheVariants.{Base, Board}

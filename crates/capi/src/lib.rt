@@ -18,7 +18,7 @@ ghost use Rattle.job.specs.Written.{Printed};
 ghost use Rattle.capi.specs.Told.{refusal, refusal_of, told, told_of, told_report, told_fuel, watch_numbers, told_open, told_watch, ending, least_ending, evaluation_given, run_given, least_given, lent_state, lent_setting, InputGiven};
 
 use code::check_code;
-use eval::{Answer, Evaluation, Mark, Setting, Watch, run};
+use eval::{Answer, Evaluation, Setting, Watch, run};
 use job::job;
 use least::{Least, least_fuel};
 use machine::{Checked, State, check_cells};
@@ -85,11 +85,11 @@ fn tell_watch(watch: Watch, mark: &mut usize, opened: &mut u8) -> u8
     *opened = tell_open(watch.carry, watch.overflow);
     let first = watch.mark;
     match first {
-        Mark::Unmarked => {
+        None => {
             *mark = 0;
             0
         }
-        Mark::Marked(at) => {
+        Some(at) => {
             *mark = at;
             1
         }

@@ -25,8 +25,7 @@ use Rattle.eval.specs.declared.answer.Evaluation.TheVariants.{Base, Board}
 use Rattle.eval.specs.FlagRule.{base_flags, board_flags, flag_rule}
 use Rattle.eval.specs.Config.{Env, with_rule, Config, with_flags, with_values, Outcome, done, fault, stopped, spent, check}
 use Rattle.eval.specs.declared.answer.Watch.{Watch}
-use Rattle.eval.specs.declared.answer.Mark.TheVariants.{Unmarked, Marked}
-use Rattle.eval.specs.Watch.{watch, nothing_open, touched, open_after, reads_open, first_mark, watched}
+use Rattle.eval.specs.Watch.{Unmarked, Marked, watch, nothing_open, touched, open_after, reads_open, first_mark, watched}
 use Rattle.eval.specs.Counted.{counted, Ended, ended, continue, used_up, count, step}
 use Rattle.eval.specs.Instructions.{two_word, two_flags, quads_word, quads_flags, shifts_word, inserts_word, cell_of, valid_operand, eval_operand, valid_dst_operand, update_operand, act, run_ins, valid_ocmp, eval_ocmp}
 use Rattle.job.specs.Text.{digits, name_of, first_line, reg_lines, xmm_lines, cell_lines, render}

@@ -19,11 +19,9 @@ use Rattle.code.specs.Tree.{Code, Ins, Block, IfElse, While, Codes, ⟨⟩, ◌�
 use Rattle.code.specs.Reader.{Read, got, trouble, parse}
 use Rattle.eval.specs.declared.answer.Evaluation.{Evaluation}
 use Rattle.eval.specs.declared.answer.Watch.{Watch}
-use Rattle.eval.specs.declared.answer.Mark.{Mark}
-use Rattle.eval.specs.declared.answer.Mark.TheVariants.{Unmarked, Marked}
 use Rattle.eval.specs.FlagRule.{Touch, keeps, opens, closes, FlagRule, flag_rule}
 use Rattle.eval.specs.Config.{Env, Config, with_flags, Outcome, done, fault, stopped, spent, refused, End, ends, check}
-use Rattle.eval.specs.Watch.{nothing_open, touched, open_after, reads_open, first_mark, watched}
+use Rattle.eval.specs.Watch.{Mark, Unmarked, Marked, nothing_open, touched, open_after, reads_open, first_mark, watched}
 use Rattle.eval.specs.Counted.{Counted, nothing_counted, Ended, ended, Part, continue, and_then, used_up, count, step}
 use Rattle.eval.specs.Instructions.{act, run_ins, valid_ocmp, ocmp_number, eval_ocmp}
 use Rattle.eval.specs.Running.{run_ocmp, step_ins, step_ocmp, decide, rounds, run_code, run_codes, run_checked, run_read, run_of}

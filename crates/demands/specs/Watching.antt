@@ -13,10 +13,9 @@ use Rattle.code.specs.Tree.{Code}
 use Rattle.code.specs.Reader.{got, parse}
 use Rattle.eval.specs.declared.answer.Evaluation.{Evaluation}
 use Rattle.eval.specs.declared.answer.Watch.{Watch}
-use Rattle.eval.specs.declared.answer.Mark.TheVariants.{Unmarked, Marked}
 use Rattle.eval.specs.FlagRule.{Touch, keeps, opens, closes, flag_rule}
 use Rattle.eval.specs.Config.{Env, Config, with_flags, End, done, refused}
-use Rattle.eval.specs.Watch.{watch, nothing_open, Touches, touched, reads_open, watched}
+use Rattle.eval.specs.Watch.{Unmarked, Marked, watch, nothing_open, Touches, touched, reads_open, watched}
 use Rattle.eval.specs.Counted.{Counted, counted, Ended}
 use Rattle.eval.specs.Instructions.{run_ins}
 use Rattle.eval.specs.Running.{run_ocmp, step_ins, step_ocmp, run_code, run_of}

@@ -9,17 +9,16 @@ use borrow.Author.Tests.{eq-eqb, lt-ltb, ltb-true}
 use lib.Bits.{bit_and}
 use lib.Dec.{eqb, ltb}
 use lib.ListN.{get_or}
+use Rattle.std.specs.Prelude.{is_some}
 use Rattle.code.specs.Records.{is_ocmp}
 use Rattle.code.proofs.KindLaws.{answers, same_within}
 use Rattle.code.proofs.Passing.{between_true}
 use Rattle.eval.specs.FlagRule.{FlagRule, base_rule}
 use Rattle.eval.specs.Config.{done}
-use Rattle.eval.specs.Watch.{watch, touched, open_after, reads_open, first_mark, watched}
+use Rattle.eval.specs.Watch.{Mark, Unmarked, Marked, watch, touched, open_after, reads_open, first_mark, watched}
 use Rattle.eval.specs.Counted.{Counted, counted, count}
 use Rattle.eval.specs.Promises.{carry_in, overflow_in, watch_of, tally, Kept, SetsFlags}
 use Rattle.eval.specs.declared.answer.Watch.{Watch}
-use Rattle.eval.specs.declared.answer.Mark.{Mark}
-use Rattle.eval.specs.declared.answer.Mark.TheVariants.{Unmarked}
 use Rattle.eval.specs.declared.counted.Counter.{Counter}
 
 -- bit k of a word
@@ -120,6 +119,17 @@ module _ (reads k was : ℕ) (l : k < 7) (m : was < 4) (mark : Mark) where
   pub reads_as :
       answers (λ k. answers (read_bits k) 0 4) 0 7 ≡ answers (λ k. answers (read_table k) 0 4) 0 7 → read_bits k was ≡ read_table k was
   reads_as h = same_below read_bits read_table 7 4 h k was l m
+
+-- the mark, where there is none and where there is one
+pub marks : (at : ℕ) (m : Mark) (b : Bool) → is_some m ≡ not b → b ≡ true → first_mark true at m ≡ Marked at
+unfolding first_mark
+marks at Unmarked b is h = refl
+marks at (Marked q) b is h = let z : true ≡ false = is ∙ ap not h in cc
+
+pub stays_marked : (at : ℕ) (m : Mark) (b : Bool) → is_some m ≡ not b → b ≡ false → first_mark true at m ≡ m
+unfolding first_mark
+stays_marked at Unmarked b is h = let z : false ≡ true = is ∙ ap not h in cc
+stays_marked at (Marked q) b is h = refl
 
 -- a comparison opens both
 opens_both : (rule : FlagRule) (k at : ℕ) (w : Watch) → is_ocmp k ≡ true → watched rule k at w ≡ watch true true w.mark

@@ -18,12 +18,11 @@ use Rattle.eval.specs.FlagRule.{FlagRule, flag_rule, base_rule}
 use Rattle.eval.specs.Config.{Env, Config, config, with_regs, with_flags, with_values, Outcome, done, fault, stopped, spent, End}
 use Rattle.eval.specs.Config as Config
 use Rattle.eval.specs.Instructions.{valid_operand, eval_operand, valid_dst_operand, update_operand, valid_ocmp, ocmp_number, eval_ocmp, run_ins}
-use Rattle.eval.specs.Watch.{watch, touched, open_after, reads_open, watched}
+use Rattle.eval.specs.Watch.{Mark, watch, touched, open_after, reads_open, watched}
 use Rattle.eval.specs.Counted.{Counted, counted, Ended, ended}
 use Rattle.eval.specs.Running.{step_ins, step_ocmp, run_code, run_codes}
 use Rattle.eval.specs.LeastFuel.{is_spent}
 use Rattle.eval.specs.declared.answer.Watch.{Watch}
-use Rattle.eval.specs.declared.answer.Mark.{Mark}
 use Rattle.eval.specs.declared.counted.Counter.{Counter}
 use Rattle.eval.specs.declared.lent.Lent.{Lent}
 use Rattle.eval.specs.declared.exit.Exit.{Exit}

@@ -1,11 +1,19 @@
 -- The watch: whether the end of a run can hang on the fill word. It says which of carry and overflow are open, the fill word's, and where an open one was
 -- read first. It stands with what is counted: no instruction knows of it.
-use Rattle.std.specs.Prelude.{ℕ, Bool, true, false, cond, ◌&&◌, ◌||◌, [], ◌∷◌, eqb}
+use Rattle.std.specs.Prelude.{ℕ, Option, Some, None, Bool, true, false, cond, ◌&&◌, ◌||◌, [], ◌∷◌, eqb}
 use Rattle.code.specs.Families.{among}
 use Rattle.eval.specs.FlagRule.{Touch, keeps, opens, closes, FlagRule}
 use Rattle.eval.specs.declared.answer.Watch.{Watch}
-use Rattle.eval.specs.declared.answer.Mark.{Mark}
-use Rattle.eval.specs.declared.answer.Mark.TheVariants.{Unmarked, Marked}
+
+-- the mark: the place of the first instruction that has read an open flag, if one has
+abbrev pub Mark : Type 0
+Mark = Option ℕ
+
+pattern abbrev pub Unmarked : Mark
+Unmarked = None
+
+pattern abbrev pub Marked : ℕ → Mark
+Marked p = Some p
 
 -- which of carry and overflow are open, and the mark
 abbrev pub watch : Bool → Bool → Mark → Watch

@@ -22,17 +22,11 @@ impl From<Refusal> for Answer {
     }
 }
 
-// The place of the first instruction that has read an open flag, if one has.
-#[derive(Clone, Copy)]
-pub enum Mark {
-    Unmarked,
-    Marked(usize),
-}
-
-// Whether an end can hang on the fill word: the mark, and whether carry and overflow are open, which is to say the fill word's.
+// Whether an end can hang on the fill word: the mark, which is the place of the first instruction that has read an open flag, if one has, and whether
+// carry and overflow are open, which is to say the fill word's.
 #[derive(Clone, Copy)]
 pub struct Watch {
-    pub mark: Mark,
+    pub mark: Option<usize>,
     pub carry: bool,
     pub overflow: bool,
 }

@@ -5,13 +5,12 @@ ghost use Rattle.std.proofs.Math.Option.{some};
 ghost use Rattle.code.specs.Records.{is_ocmp};
 ghost use Rattle.eval.specs.FlagRule.{FlagRule, flag_rule};
 ghost use Rattle.eval.specs.Config.{done};
-ghost use Rattle.eval.specs.Watch.{watch, nothing_open, reads_open, first_mark, watched};
+ghost use Rattle.eval.specs.Watch.{Mark, watch, nothing_open, reads_open, first_mark, watched};
 ghost use Rattle.eval.specs.Counted.{count, nothing_counted, used_up};
 ghost use Rattle.eval.specs.Counted as Counted;
 ghost use Rattle.eval.specs.Promises.{carry_in, overflow_in, tally, least_tested, tested_with, Kept, KeepsFlags, SetsFlags};
-ghost use Rattle.eval.specs.declared.answer.Mark.{Mark};
 
-use crate::answer::{Evaluation, Mark, Watch};
+use crate::answer::{Evaluation, Watch};
 
 #[derive(Clone, Copy)]
 pub struct Counter {
@@ -20,7 +19,7 @@ pub struct Counter {
     // What is open: below 4, carry in bit 0 and overflow in bit 1; else the kind of the instruction that set both flags last.
     pub opened: u64,
     // The place of the first instruction that has read an open flag.
-    pub mark: Mark,
+    pub mark: Option<usize>,
     // The least fuel with which a loop was tested; where none was, one more than the run's.
     pub tested: u64,
 }
@@ -87,7 +86,7 @@ impl Counter {
         Counter {
             steps: 0,
             opened: 0,
-            mark: Mark::Unmarked,
+            mark: None,
             tested: fuel as u64 + 1,
         }
     }
@@ -104,8 +103,8 @@ impl Counter {
             tally self.new ≡ Counted.counted before.steps (watch w.carry w.overflow (first_mark true at w.mark)) }
         ensures tested_none { least_tested self.new ≡ least_tested self.old }
     {
-        if let Mark::Unmarked = self.mark {
-            self.mark = Mark::Marked(at);
+        if self.mark.is_none() {
+            self.mark = Some(at);
         }
     }
 
@@ -185,7 +184,7 @@ pub fn nothing_open() -> Watch
     ensures { result ≡ nothing_open }
 {
     Watch {
-        mark: Mark::Unmarked,
+        mark: None,
         carry: false,
         overflow: false,
     }

@@ -16,5 +16,5 @@ mod running;
 mod step;
 mod twos;
 
-pub use answer::{Answer, Evaluation, Mark, Run, Setting, Watch};
+pub use answer::{Answer, Evaluation, Run, Setting, Watch};
 pub use running::{evaluate, run};

@@ -30,11 +30,12 @@ pub fn step_instruction(
             place: at,
         };
     }
+    let kind = lent.code[at];
     let ran = instruction(lent, at, state, values);
     if ran.number != 0 {
         return ran;
     }
-    counter.count_instruction(lent.code[at], at, lent.evaluation);
+    counter.count_instruction(kind, at, lent.evaluation);
     ran
 }
 
