@@ -12,35 +12,35 @@ use machine::State;
 impl Page<'_> {
     // The lines behind the first.
     fn put_end(
-        &mut self,
+        self,
         state: &State,
         steps: u64,
         addresses: &[u64],
         tags: &[u8],
         values: &[u64],
-    )
+    ) -> Self
         requires tags_len { (length tags.now ≡ length addresses.now) × (length values.now ≡ length addresses.now) }
-        requires room { HasRoom 65483 self.old × (length addresses.now ≤ 1024) }
-        ensures { Wrote 65483 self.old
-            (end_lines addresses.now tags.now (config state.now values.now) steps) self.new }
+        requires room { HasRoom 65483 self × (length addresses.now ≤ 1024) }
+        ensures { Wrote 65483 self.entry
+            (end_lines addresses.now tags.now (config state.now values.now) steps) result }
     {
-        self.put_line(b"steps", steps);
-        self.put_line(b"flags", state.flags);
-        self.put_regs(&state.regs);
-        self.put_xmms(&state.xmms);
-        self.put_cells(addresses, tags, values);
+        self.put_line(b"steps", steps)
+            .put_line(b"flags", state.flags)
+            .put_regs(&state.regs)
+            .put_xmms(&state.xmms)
+            .put_cells(addresses, tags, values)
     }
 
-    pub fn put_run(&mut self, run: &Run, addresses: &[u64], tags: &[u8], values: &[u64])
+    pub fn put_run(self, run: &Run, addresses: &[u64], tags: &[u8], values: &[u64]) -> Self
         requires tags_len { (length tags.now ≡ length addresses.now) × (length values.now ≡ length addresses.now) }
-        requires room { HasRoom 65536 self.old × (length addresses.now ≤ 1024) }
-        ensures { Wrote 65536 self.old
-            (render addresses.now tags.now (ended_of run.now values.now)) self.new }
+        requires room { HasRoom 65536 self × (length addresses.now ≤ 1024) }
+        ensures { Wrote 65536 self.entry
+            (render addresses.now tags.now (ended_of run.now values.now)) result }
     {
-        self.put_answer(run.answer);
+        let page = self.put_answer(run.answer);
         if let Answer::Refused(_, _) = run.answer {
-            return;
+            return page;
         }
-        self.put_end(&run.state, run.steps, addresses, tags, values);
+        page.put_end(&run.state, run.steps, addresses, tags, values)
     }
 }

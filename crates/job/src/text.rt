@@ -3,7 +3,8 @@ ghost use Rattle.std.specs.Prelude.{◌≡◌, [], ◌∷◌, length};
 ghost use Rattle.job.specs.Text.{decimal, field};
 ghost use Rattle.job.specs.Written.{HasRoom, Wrote};
 
-/// A lent buffer, and where the next byte goes: the text so far stands before it.
+/// A lent buffer, and where the next byte goes: the text so far stands before it. Each writer takes the page and hands it on, so that
+/// both stay in registers.
 #[derive(Drop)]
 pub struct Page<'a> {
     out: &'a mut [u8; 65536],
@@ -11,11 +12,11 @@ pub struct Page<'a> {
 }
 
 impl<'a> Page<'a> {
-    pub fn new(out: &'a mut [u8; 65536]) -> Page<'a>
+    pub fn new(out: &'a mut [u8; 65536]) -> Self
         ensures same_reference { result.out.ghost_name ≡ out.entry.ghost_name }
         ensures bytes { result.out.now ≡ out.old }
         ensures size { length result.out.now ≡ 65536 }
-        ensures empty { result.at ≡ 0 }
+        ensures blank { result.at ≡ 0 }
     {
         Page { out, at: 0 }
     }
@@ -26,48 +27,51 @@ impl<'a> Page<'a> {
         self.at
     }
 
-    pub fn put_byte(&mut self, byte: u8)
-        requires { HasRoom 1 self.old }
-        ensures { Wrote 1 self.old (byte ∷ []) self.new }
+    pub fn put_byte(self, byte: u8) -> Self
+        requires { HasRoom 1 self }
+        ensures { Wrote 1 self.entry (byte ∷ []) result }
     {
-        self.out[self.at] = byte;
-        self.at += 1;
+        let Page { out, at } = self;
+        out[at] = byte;
+        Page { out, at: at + 1 }
     }
 
-    pub fn put_word(&mut self, word: &[u8])
-        requires { HasRoom (length word.now) self.old }
-        ensures { Wrote (length word.now) self.old word.now self.new }
+    pub fn put_word(self, word: &[u8]) -> Self
+        requires { HasRoom (length word.now) self }
+        ensures { Wrote (length word.now) self.entry word.now result }
     {
-        let out = &mut *self.out;
-        let end = self.at + word.len();
-        out[self.at..end].copy_from_slice(word);
-        self.at = end;
+        let mut page = self;
+        for byte in word {
+            page = page.put_byte(*byte);
+        }
+        page
     }
 
     // The digits before the last are those of a tenth of n.
-    pub fn put_decimal(&mut self, n: u64)
-        requires { HasRoom 20 self.old }
-        ensures { Wrote 20 self.old (decimal n) self.new }
+    pub fn put_decimal(self, n: u64) -> Self
+        requires { HasRoom 20 self }
+        ensures { Wrote 20 self.entry (decimal n) result }
     {
-        if n >= 10 {
-            self.put_decimal(n / 10);
-        }
-        self.put_byte(b'0' + (n % 10) as u8);
+        let page = if n < 10 {
+            self
+        } else {
+            self.put_decimal(n / 10)
+        };
+        page.put_byte(b'0' + (n % 10) as u8)
     }
 
-    pub fn put_field(&mut self, n: u64)
-        requires { HasRoom 21 self.old }
-        ensures { Wrote 21 self.old (field n) self.new }
+    pub fn put_field(self, n: u64) -> Self
+        requires { HasRoom 21 self }
+        ensures { Wrote 21 self.entry (field n) result }
     {
-        self.put_byte(b' ');
-        self.put_decimal(n);
+        self.put_byte(b' ').put_decimal(n)
     }
 
     // A cell's tag takes three digits at most, which keeps 1,024 cells within the buffer.
-    pub fn put_tag(&mut self, tag: u8)
-        requires { HasRoom 21 self.old }
-        ensures { Wrote 4 self.old (field tag) self.new }
+    pub fn put_tag(self, tag: u8) -> Self
+        requires { HasRoom 21 self }
+        ensures { Wrote 4 self.entry (field tag) result }
     {
-        self.put_field(u64::from(tag));
+        self.put_field(u64::from(tag))
     }
 }

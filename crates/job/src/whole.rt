@@ -13,57 +13,57 @@ use eval::Answer;
 use machine::Checked;
 
 // What follows the cells is code, and it is run over them.
-fn finish(
+fn finish<'a>(
     input: &[u8],
     addresses: &[u64],
     tags: &[u8],
     values: &mut [u64],
-    page: &mut Page,
-)
-    requires blank { HasRoom 65536 page.old }
+    page: Page<'a>,
+) -> Page<'a>
+    requires blank { HasRoom 65536 page }
     requires complete { Complete input.now }
     requires holding { Holding input.now (start_of input.now).values addresses.now tags.now values.old }
-    ensures wrote { Wrote 65536 page.old (printed input.now (run_of_job input.now)) page.new }
+    ensures wrote { Wrote 65536 page.entry (printed input.now (run_of_job input.now)) result }
     ensures values_after { values.new ≡ (run_of_job input.now).end.config.values }
 {
     let start = read_state(input);
     let setting = read_setting(input);
     let at = 406 + 17 * number2(input, 404);
     let ended = eval::run(&input[at..], addresses, tags, values, start, setting);
-    page.put_run(&ended, addresses, tags, values);
+    page.put_run(&ended, addresses, tags, values)
 }
 
 // The cells are read into the lists, and the code behind them is run.
-fn run_job(
+fn run_job<'a>(
     input: &[u8],
     addresses: &mut [u64],
     tags: &mut [u8],
     values: &mut [u64],
-    page: &mut Page,
-)
-    requires blank { HasRoom 65536 page.old }
+    page: Page<'a>,
+) -> Page<'a>
+    requires blank { HasRoom 65536 page }
     requires complete { Complete input.now }
     requires room { Room input.now addresses.old tags.old values.old }
-    ensures wrote { Wrote 65536 page.old (printed input.now (run_of_job input.now)) page.new }
+    ensures wrote { Wrote 65536 page.entry (printed input.now (run_of_job input.now)) result }
     ensures holding { Holding input.now (run_of_job input.now).end.config.values
         addresses.new tags.new values.new }
 {
     read_cells(input, addresses, tags, values);
-    finish(input, addresses, tags, values, page);
+    finish(input, addresses, tags, values, page)
 }
 
 // As many cells as the job has are lent.
-fn run_cells(
+fn run_cells<'a>(
     input: &[u8],
     addresses: &mut [u64],
     tags: &mut [u8],
     values: &mut [u64],
-    page: &mut Page,
-)
-    requires blank { HasRoom 65536 page.old }
+    page: Page<'a>,
+) -> Page<'a>
+    requires blank { HasRoom 65536 page }
     requires input_value { (check_job input.now ≡ accepted) × Complete input.now }
     requires in_bounds { (1024 ≤ length addresses.old) × (1024 ≤ length tags.old) × (1024 ≤ length values.old) }
-    ensures wrote { Wrote 65536 page.old (printed input.now (run_of_job input.now)) page.new }
+    ensures wrote { Wrote 65536 page.entry (printed input.now (run_of_job input.now)) result }
     ensures lists { Lists input.now addresses.old tags.old values.old
         addresses.new tags.new values.new }
 {
@@ -74,19 +74,19 @@ fn run_cells(
         &mut tags[..count],
         &mut values[..count],
         page,
-    );
+    )
 }
 
 // A job is checked, and then run.
-fn print(
+fn print<'a>(
     input: &[u8],
     addresses: &mut [u64; 1024],
     tags: &mut [u8; 1024],
     values: &mut [u64; 1024],
-    page: &mut Page,
-)
-    requires blank { HasRoom 65536 page.old }
-    ensures wrote { Wrote 65536 page.old (output input.now) page.new }
+    page: Page<'a>,
+) -> Page<'a>
+    requires blank { HasRoom 65536 page }
+    ensures wrote { Wrote 65536 page.entry (output input.now) result }
     ensures lists { Lists input.now addresses.old tags.old values.old
         addresses.new tags.new values.new }
     ensures input { IsInput (code_of input.now) (state_of input.now) (setting_of input.now) }
@@ -110,7 +110,6 @@ pub fn job(
         addresses.new tags.new values.new }
     ensures input { IsInput (code_of input.now) (state_of input.now) (setting_of input.now) }
 {
-    let mut page = Page::new(out);
-    print(input, addresses, tags, values, &mut page);
+    let page = print(input, addresses, tags, values, Page::new(out));
     page.len()
 }

@@ -10,7 +10,7 @@ loop-i-preserved c =
     let rest =
     cells_rest args.addresses.now args.tags.now args.values.now c.loop-i.i (omega arith) (omega arith) (omega arith)
     in
-    (omega arith, left_less _ _ rest c.loop-i.invariant.1 c.put_cell.ensures)
+    (omega arith, left_less _ _ rest c.loop-i.invariant.1 c.put_cell-page.ensures)
 
 pub returns : goal.returns
 returns c =

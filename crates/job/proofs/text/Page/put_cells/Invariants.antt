@@ -7,5 +7,5 @@ use Rattle.job.proofs.text.Page.put_cells.Given as goal
 
 abbrev pub invariant-loop-i : goal.invariant-loop-i
 invariant-loop-i l =
-    (l.self.at ≤ l.initial.self.at + 51 * l.i)
-    × Left l.initial.self (cell_lines l.addresses l.tags l.values) l.self (cells_from l.i l.addresses l.tags l.values)
+    (l.page.at ≤ l.initial.page.at + 51 * l.i)
+    × Left l.initial.page (cell_lines l.addresses l.tags l.values) l.page (cells_from l.i l.addresses l.tags l.values)

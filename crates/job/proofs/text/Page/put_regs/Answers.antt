@@ -7,7 +7,7 @@ use Rattle.job.proofs.text.Page.put_regs.Goals as goal
 pub loop-i-preserved : goal.loop-i-preserved
 loop-i-preserved c =
     let rest = regs_rest c.args.regs.now c.loop-i.i (omega arith) in
-    (omega arith, left_less _ _ rest c.loop-i.invariant.1 c.put_reg.ensures)
+    (omega arith, left_less _ _ rest c.loop-i.invariant.1 c.put_reg-page.ensures)
 
 pub returns : goal.returns
 returns c = left_none (regs_none c.args.regs.now c.loop-i.i (omega arith)) c.loop-i.invariant.1 (omega arith)

@@ -6,5 +6,5 @@ use Rattle.job.proofs.text.Page.put_regs.Given as goal
 
 abbrev pub invariant-loop-i : goal.invariant-loop-i
 invariant-loop-i l =
-    (l.self.at ≤ l.initial.self.at + 43 * l.i)
-    × Left l.initial.self (reg_lines 0 l.regs) l.self (reg_lines l.i (drop l.i l.regs))
+    (l.page.at ≤ l.initial.page.at + 43 * l.i)
+    × Left l.initial.page (reg_lines 0 l.regs) l.page (reg_lines l.i (drop l.i l.regs))

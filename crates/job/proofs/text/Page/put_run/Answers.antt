@@ -8,11 +8,11 @@ pub returns-in-Refused : goal.returns-in-Refused
 returns-in-Refused c =
     let args = c.args in
     let text = print_refused args.run.now args.addresses.now args.tags.now args.values.now c.in-Refused.is in
-    looser (omega arith) (spelled text c.put_answer.ensures)
+    looser (omega arith) (spelled text c.put_answer-page.ensures)
 
 pub returns : goal.returns
 returns c =
     let args = c.args in
     let told = not_refused args.run.now.answer c.in_default.not-Refused in
     let text = print_lines args.run.now args.addresses.now args.tags.now args.values.now told in
-    spelled text (c.put_answer.ensures ▸ c.put_end.ensures)
+    spelled text (c.put_answer-page.ensures ▸ c.put_end.ensures)

@@ -6,7 +6,7 @@ use Rattle.job.proofs.text.Page.put_xmms.Goals as goal
 
 pub loop-i-preserved : goal.loop-i-preserved
 loop-i-preserved c =
-    (omega arith, left_less _ _ (xmms_rest c.args.xmms.now c.loop-i.i (omega arith)) c.loop-i.invariant.1 c.put_xmm.ensures)
+    (omega arith, left_less _ _ (xmms_rest c.args.xmms.now c.loop-i.i (omega arith)) c.loop-i.invariant.1 c.put_xmm-page.ensures)
 
 pub returns : goal.returns
 returns c = left_none (xmms_none c.args.xmms.now c.loop-i.i (omega arith)) c.loop-i.invariant.1 (omega arith)

@@ -6,5 +6,5 @@ use Rattle.job.proofs.text.Page.put_xmms.Given as goal
 
 abbrev pub invariant-loop-i : goal.invariant-loop-i
 invariant-loop-i l =
-    (l.self.at ≤ l.initial.self.at + 109 * l.i)
-    × Left l.initial.self (xmm_lines 16 0 l.xmms) l.self (xmm_lines (16 - l.i) l.i l.xmms)
+    (l.page.at ≤ l.initial.page.at + 109 * l.i)
+    × Left l.initial.page (xmm_lines 16 0 l.xmms) l.page (xmm_lines (16 - l.i) l.i l.xmms)
