@@ -11,7 +11,6 @@ use crate::read::{check_job, read_setting, read_state};
 use crate::render::render;
 use code::number2;
 use eval::Answer;
-use machine::Checked;
 
 // What follows the cells is code, and it is run over them.
 fn finish(
@@ -97,9 +96,8 @@ pub fn job(
     ensures input { IsInput (code_of input.now) (state_of input.now) (setting_of input.now) }
 {
     size(out);
-    let checked = check_job(input);
-    match checked {
-        Checked::Refused(number, place) => put_answer(out, Answer::Refused(number, place)),
-        Checked::Accepted => run_cells(input, addresses, tags, values, out),
+    match check_job(input) {
+        Err(refusal) => put_answer(out, Answer::from(refusal)),
+        Ok(()) => run_cells(input, addresses, tags, values, out),
     }
 }
