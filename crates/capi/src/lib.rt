@@ -21,7 +21,7 @@ use code::check_code;
 use eval::{Answer, Evaluation, Setting, Watch, run};
 use job::job;
 use least::{Least, least_fuel};
-use machine::{Checked, State, check_cells};
+use machine::{Refusal, State, check_cells};
 
 // Kinds of outcomes, as the header names them.
 const DONE: u8 = 0;
@@ -43,17 +43,17 @@ const OPEN_OVERFLOW: u8 = 2;
 
 // Numbers of an answer. A place is written through a reference, C's way to return a second result: the functions of include/pokchrei.h
 // have their results in parameters, and so have those that tell them.
-fn tell_checked(checked: Checked, place: &mut usize) -> u8
+fn tell_checked(checked: Result<(), Refusal>, place: &mut usize) -> u8
     ensures { refusal result place.new ≡ refusal_of (verdict checked) }
 {
     match checked {
-        Checked::Accepted => {
+        Ok(()) => {
             *place = 0;
             0
         }
-        Checked::Refused(number, at) => {
-            *place = at;
-            number
+        Err(refusal) => {
+            *place = refusal.place;
+            refusal.rule.number()
         }
     }
 }

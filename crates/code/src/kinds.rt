@@ -5,10 +5,9 @@ ghost use Rattle.code.specs.Records.{body_length, operand_count};
 ghost use Rattle.code.specs.Families.{is_two};
 ghost use Rattle.code.specs.Kinds.{class, is_used, entry_of, LastField};
 
-use crate::numbers::wide;
-
-// What a kind byte begins.
-#[derive(Clone, Copy)]
+// What a kind byte begins. Unused is the class of the bytes that begin nothing, and no lack of one: who asks wants one class, and takes the
+// others alike.
+#[derive(Clone, Copy, PartialEq, Eq)]
 pub enum Class {
     Instruction,
     Structure,
@@ -29,8 +28,8 @@ pub fn class_of(kind: u8) -> Class
     }
 }
 
-// An entry is four times the length of the kind's body and the number of its operands; 255 marks an
-// unused kind.
+// The table of kinds that document 01 names. An entry is four times the length of the kind's body and the number of its operands; 255 marks
+// an unused kind.
 const TABLE: [u8; 256] = [
     255, 2, 2, 3, 2, 2, 2, 2, 1, 3, 2, 2, 2, 2, 2, 8, 8, 8, 8, 12, 8, 9, 9, 9, 12, 2, 2, 2, 255,
     255, 255, 255, 16, 32, 16, 255, 255, 255, 255, 255, 255, 255, 255, 255, 255, 255, 255, 255, 2,
@@ -50,7 +49,7 @@ const TABLE: [u8; 256] = [
 fn entry(kind: u8) -> usize
     ensures { (result ≡ entry_of kind) × (result < 256) }
 {
-    wide(TABLE[wide(kind)])
+    TABLE[kind as usize] as usize
 }
 
 // Bit k is set where k is the kind of an instruction of a destination and a source. A word of bits

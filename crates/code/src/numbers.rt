@@ -4,18 +4,13 @@ ghost use Rattle.code.specs.Records.{number_at, signed_at};
 
 use words::{signed16, signed64};
 
-pub fn wide(x: u8) -> usize
-    ensures { (result ≡ x) × (result < 256) }
-{
-    x as usize
-}
-
-// Products and sums of bytes in order, which compile to one load.
+// Products and sums of bytes in order, which compile to one load. Each size is a line over the one before, where one function of any size
+// would be a loop over bytes.
 pub fn number2(code: &[u8], at: usize) -> usize
     requires { at + 2 ≤ length code.now }
     ensures { (result ≡ number_at 2 code.now at) × (result < 2 ^ 16) }
 {
-    wide(code[at]) + wide(code[at + 1]) * 0x100
+    code[at] as usize + code[at + 1] as usize * 0x100
 }
 
 pub fn number4(code: &[u8], at: usize) -> usize

@@ -6,7 +6,7 @@ ghost use Rattle.job.specs.Job.{numbers, fuel_of, fill_of, largest_limit, start_
 
 use code::{number2, number4, number8};
 use eval::{Evaluation, Setting};
-use machine::{Checked, State};
+use machine::{Refusal, Rule, State};
 
 // No job is stopped that ends in our time.
 const LARGEST_LIMIT: u64 = 18446744073709551615;
@@ -79,22 +79,22 @@ pub fn read_setting(input: &[u8]) -> Setting
     }
 }
 
-pub fn check_job(input: &[u8]) -> Checked
+pub fn check_job(input: &[u8]) -> Result<(), Refusal>
     ensures { verdict result ≡ check_job input.now }
 {
     let n = input.len();
     if n > 34198 {
-        return Checked::Refused(42, 0);
+        return Err(Rule::LongJob.at(0));
     }
     if n < 406 {
-        return Checked::Refused(41, 0);
+        return Err(Rule::ShortJob.at(0));
     }
     let count = number2(input, 404);
     if count > 1024 {
-        return Checked::Refused(12, 0);
+        return Err(Rule::Count.at(0));
     }
     if n < 406 + 17 * count {
-        return Checked::Refused(41, 0);
+        return Err(Rule::ShortJob.at(0));
     }
-    Checked::Accepted
+    Ok(())
 }

@@ -10,7 +10,6 @@ use crate::read::{check_job, read_setting, read_state};
 use crate::text::Page;
 use code::number2;
 use eval::Answer;
-use machine::Checked;
 
 // What follows the cells is code, and it is run over them.
 fn finish<'a>(
@@ -92,8 +91,8 @@ fn print<'a>(
     ensures input { IsInput (code_of input.now) (state_of input.now) (setting_of input.now) }
 {
     match check_job(input) {
-        Checked::Refused(number, place) => page.put_answer(Answer::Refused(number, place)),
-        Checked::Accepted => run_cells(input, addresses, tags, values, page),
+        Err(refusal) => page.put_answer(Answer::from(refusal)),
+        Ok(()) => run_cells(input, addresses, tags, values, page),
     }
 }
 

@@ -5,6 +5,7 @@ use mathlib.Core.Path.{◌≡◌, refl, ◌∙◌}
 use mathlib.Core.Bool.{Bool, true}
 use mathlib.Core.List.{List}
 use native.Mathlib.Omega.{arith}
+use Rattle.std.proofs.Common.{rules}
 use borrow.Author.Tests.{eqb-true}
 use lib.Dec.{eqb}
 use lib.ListN.{get_or}
@@ -26,4 +27,4 @@ entries_say table k i r e f h m =
 
 pub returns : goal.returns
 unfolding tested entry_of body_length operand_count
-returns c = (entries_say TABLE c.args.kind _ _ c.wide-2.ensures.0 c.wide.ensures.0 refl (omega arith), c.wide-2.ensures.1)
+returns c = (entries_say TABLE c.args.kind _ _ refl refl refl (omega arith), search rules)

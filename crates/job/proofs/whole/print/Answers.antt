@@ -12,20 +12,20 @@ use Rattle.job.proofs.whole.print.Goals as goal
 pub run_cells-requires : goal.run_cells-requires
 run_cells-requires c =
     let bs = c.args.input.now in
-    let passed : check_job bs ≡ accepted = sym c.check_job.ensures ∙ ap verdict c.in-Accepted.is in
+    let passed : check_job bs ≡ accepted = sym c.check_job.ensures ∙ ap verdict c.in-Ok.is in
     record {
       blank = c.requires.blank;
       input_value = (passed, complete bs passed);
       in_bounds = (omega arith, omega arith, omega arith);
     }
 
-pub returns-in-Refused : goal.returns-in-Refused
-returns-in-Refused c =
+pub returns-in-Err : goal.returns-in-Err
+returns-in-Err c =
     let known = c.shared_slice_known-1 in
     let bs = c.args.input.now in
-    let refused = sym c.check_job.ensures ∙ ap verdict c.in-Refused.is in
+    let refused = sym c.check_job.ensures ∙ ap verdict c.in-Err.is in
     record {
-      wrote = looser (omega arith) (spelled (output_refused bs refused) c.put_answer.ensures);
+      wrote = looser (omega arith) (spelled (output_refused bs refused) (rw c.from.ensures at c.put_answer.ensures));
       lists =
           record {
             of_addresses = lent_none bs _ c.args.addresses.now refused;
@@ -35,11 +35,11 @@ returns-in-Refused c =
       input = job_input bs (λ i. omega (arith, known.given i));
     }
 
-pub returns-in-Accepted : goal.returns-in-Accepted
-returns-in-Accepted c =
+pub returns-in-Ok : goal.returns-in-Ok
+returns-in-Ok c =
     let known = c.shared_slice_known-1 in
     let bs = c.args.input.now in
-    let passed = sym c.check_job.ensures ∙ ap verdict c.in-Accepted.is in
+    let passed = sym c.check_job.ensures ∙ ap verdict c.in-Ok.is in
     record {
       wrote = spelled (output_run bs passed) c.run_cells.ensures.wrote;
       lists = c.run_cells.ensures.lists;
