@@ -1,102 +1,56 @@
 -- What the code of a call leaves is what the definition of the call says, for each kind of call.
-use Prim.Native.Nat.{ℕ, ◌+◌, ◌-◌, ◌≤◌}
-use mathlib.Core.Path.{◌≡◌, refl, sym, ap, ◌∙◌, subst}
+use Prim.Native.Nat.{ℕ, ◌+◌}
+use mathlib.Core.Path.{◌≡◌, refl, ap, ◌∙◌, subst}
 use mathlib.Core.Bool.{Bool, ◌&&◌, ◌||◌}
 use mathlib.Core.List.{List, [], ◌∷◌, ◌++◌}
 use native.Mathlib.Omega.{arith}
 use borrow.Author.Tests.{ltb-true, leb-true, eq-eqb, ne_eqb}
 use lib.Dec.{eqb, ltb, leb}
-use lib.ListN.{length, length-append, set, take, drop, replicate}
-use lib.Seq.{sets, sets-eq, length-sets, length-take-le, take_at}
+use lib.ListN.{length}
+use lib.Seq.{sets}
 use Rattle.code.specs.declared.tree.Instruction.{Instruction}
 use Rattle.code.specs.declared.tree.Ocmp.{Ocmp}
 use Rattle.code.specs.Layout.{Layout, layout, ocmp_layout}
-use Rattle.code.specs.Writer.{bytes_of, bytes_of_record, bytes_of_ins, bytes_of_ocmp}
+use Rattle.code.specs.Writer.{bytes_of, bytes_of_ins, bytes_of_ocmp}
 use Rattle.builder.specs.declared.build.Build.{Build}
 use Rattle.builder.specs.Calls.{open_block, open_if_else, open_while, add, close, bytes_of_call, record_trouble, call_trouble, RecordTyped, CallTyped}
-use Rattle.builder.specs.Building.{kind_of, field_of, start_of, is_part, takes_code, takes_close, call_fits, depth_of, judge, refusal, longer, opened, turned, shut, build_after, buffer_after, Outcome, answered, call}
-use Rattle.builder.specs.Rendered.{Wrote, Closable}
+use Rattle.builder.specs.Building.{kind_of, field_of, start_of, is_part, takes_code, takes_close, call_fits, depth_of, judge, refusal, longer, turned, shut, build_after, buffer_after, Outcome, opens, call}
+use Rattle.builder.specs.Rendered.{Closable}
 use Rattle.std.proofs.lemmas.Bool.{and_parts}
 use Rattle.builder.proofs.Judged.{was_taken, same_judge}
 
--- ---- what a record leaves in the array
+-- ---- an instruction that is added: the trouble in its fields, and its bytes, by other names
+module _ (b : Build) (entry : List ℕ) {bytes : List ℕ} (i : Instruction) (s : bytes ≡ bytes_of_ins i) where
+  pub add_refusal : {trouble n : ℕ} → trouble ≡ record_trouble (layout i)
+      → n ≡ judge (takes_code b) trouble (b.depth + 1) (b.length + length bytes) (length entry) → n ≡ refusal (add i) b (length entry)
+  unfolding refusal call_fits call_trouble depth_of bytes_of_call
+  add_refusal e h = h ∙ rw (e, s) refl
 
-module _ {m at n : ℕ} {l t a : List ℕ} (w : Wrote m l at t a n) where
-  -- the array is as long as it was
-  pub same_room : length l ≡ length a
-  same_room = sym (ap length w.bytes ∙ length-sets l at t)
+  pub add_stored : {exit : List ℕ} → exit ≡ sets entry b.length bytes → exit ≡ buffer_after (add i) b entry
+  unfolding buffer_after bytes_of_call
+  add_stored h = h ∙ ap (sets entry b.length) s
 
-  -- its front is what stood before the record, and the record
-  pub in_front : at + m ≤ length l → take n a ≡ take at l ++ t
-  in_front h =
-      let p = w.place in
-      let q = w.within in
-      let size : length (take at l ++ t) ≡ n = length-append (take at l) t ∙ omega (arith, length-take-le at l (omega arith)) in
-      ap (take n) (w.bytes ∙ sets-eq t l at (omega arith)) ∙ take_at (take at l ++ t) (drop (at + length t) l) n size
+  pub add_longer : {now : Build} {n : ℕ} → n ≡ length bytes → now ≡ longer b n → now ≡ build_after (add i) b
+  unfolding build_after bytes_of_call
+  add_longer p h = h ∙ ap (longer b) (p ∙ ap length s)
 
-  -- whose length is the next place
-  pub front_length : at + m ≤ length l → length (take n a) ≡ n
-  front_length h =
-      let p = w.place in
-      let q = w.within in
-      length-take-le n a (omega (arith, same_room))
+-- ---- a structure that is opened
+module _ (b : Build) (entry : List ℕ) {o : Outcome} where
+  pub block_is : o ≡ opens 0 0 (0x20 ∷ 0 ∷ 0 ∷ 0 ∷ 0 ∷ []) b entry → o ≡ call open_block b entry
+  unfolding call refusal call_fits call_trouble depth_of build_after buffer_after bytes_of_call bytes_of
+  block_is h = h
 
--- ---- calls that add: the trouble in their fields, and their bytes, by other names
--- what is judged
-abbrev judged : Build → List ℕ → ℕ → List ℕ → ℕ
-judged b entry trouble bytes = judge (takes_code b) trouble (b.depth + 1) (b.length + length bytes) (length entry)
+  pub if_else_is :
+      (c : Ocmp) → o ≡ opens 1 (record_trouble (ocmp_layout c)) (0x21 ∷ bytes_of 8 0 ++ bytes_of_ocmp c) b entry
+      → o ≡ call (open_if_else c) b entry
+  unfolding call refusal call_fits call_trouble depth_of build_after buffer_after bytes_of_call bytes_of
+  if_else_is c h = h
 
--- what is answered where these bytes open a part
-abbrev opens : ℕ → Build → List ℕ → ℕ → List ℕ → Outcome
-opens kind b entry trouble bytes =
-    answered (judged b entry trouble bytes) b (opened kind b (length bytes)) entry (sets entry b.length bytes)
-
-module _ (b : Build) (entry : List ℕ) {trouble : ℕ} {bytes : List ℕ} where
-  module _ (i : Instruction) (e : trouble ≡ record_trouble (layout i)) (s : bytes ≡ bytes_of_ins i) where
-    pub add_refusal : {n : ℕ} → n ≡ judged b entry trouble bytes → n ≡ refusal (add i) b (length entry)
-    unfolding refusal call_fits call_trouble depth_of bytes_of_call
-    add_refusal h = h ∙ rw (e, s) refl
-
-    pub add_stored : {exit : List ℕ} → exit ≡ sets entry b.length bytes → exit ≡ buffer_after (add i) b entry
-    unfolding buffer_after bytes_of_call
-    add_stored h = h ∙ ap (sets entry b.length) s
-
-    pub add_longer : {now : Build} {n : ℕ} → n ≡ length (bytes_of_ins i) → now ≡ longer b n → now ≡ build_after (add i) b
-    unfolding build_after bytes_of_call
-    add_longer p h = h ∙ ap (longer b) p
-
-  module _ (c : Ocmp) {o : Outcome} (e : trouble ≡ record_trouble (ocmp_layout c)) where
-    pub if_else_is : bytes ≡ bytes_of_call (open_if_else c) → o ≡ opens 1 b entry trouble bytes → o ≡ call (open_if_else c) b entry
-    unfolding call refusal call_fits call_trouble depth_of build_after buffer_after
-    if_else_is s h = h ∙ rw (e, s) refl
-
-    pub while_is : bytes ≡ bytes_of_call (open_while c) → o ≡ opens 2 b entry trouble bytes → o ≡ call (open_while c) b entry
-    unfolding call refusal call_fits call_trouble depth_of build_after buffer_after
-    while_is s h = h ∙ rw (e, s) refl
-
--- the bytes that stand in front of the array once a record is written
-module _ {n : ℕ} {after : List ℕ} where
-  pub ins_bytes : (i : Instruction) {l : Layout} → l ≡ layout i → Wrote 43 (replicate 52 0) 0 (bytes_of_record l) after n → take n after ≡ bytes_of_ins i
-  unfolding bytes_of_ins
-  ins_bytes i same w = in_front w (omega arith) ∙ ap bytes_of_record same
-
-  pub if_else_bytes : (c : Ocmp) {l : Layout} → l ≡ ocmp_layout c → Wrote 43 (set (replicate 52 0) 0 0x21) 9 (bytes_of_record l) after n
-      → take n after ≡ bytes_of_call (open_if_else c)
-  unfolding bytes_of_call bytes_of_ocmp bytes_of
-  if_else_bytes c same w =
-      in_front w (omega arith) ∙ ap (λ (x : List ℕ). take 9 (set (replicate 52 0) 0 0x21) ++ x) (ap bytes_of_record same)
-
-  pub while_bytes : (c : Ocmp) {l : Layout} → l ≡ ocmp_layout c → Wrote 43 (set (replicate 52 0) 0 0x22) 5 (bytes_of_record l) after n
-      → take n after ≡ bytes_of_call (open_while c)
-  unfolding bytes_of_call bytes_of_ocmp bytes_of
-  while_bytes c same w =
-      in_front w (omega arith) ∙ ap (λ (x : List ℕ). take 5 (set (replicate 52 0) 0 0x22) ++ x) (ap bytes_of_record same)
-
-pub block_is :
-    (b : Build) (entry : List ℕ) {o : Outcome} → o ≡ answered (judge (takes_code b) 0 (b.depth + 1) (b.length + 5) (length entry)) b (opened 0 b 5) entry (sets entry b.length (0x20 ∷ 0 ∷ 0 ∷ 0 ∷ 0 ∷ []))
-    → o ≡ call open_block b entry
-unfolding call refusal call_fits call_trouble depth_of build_after buffer_after bytes_of_call bytes_of
-block_is b entry h = h
+  pub while_is :
+      (c : Ocmp) → o ≡ opens 2 (record_trouble (ocmp_layout c)) (0x22 ∷ bytes_of 4 0 ++ bytes_of_ocmp c) b entry
+      → o ≡ call (open_while c) b entry
+  unfolding call refusal call_fits call_trouble depth_of build_after buffer_after bytes_of_call bytes_of
+  while_is c h = h
 
 -- ---- the call is one of the types
 
@@ -151,18 +105,6 @@ pub close_refusal :
     → r ≡ judge fits 0 depth length room → r ≡ refusal close b room
 unfolding refusal call_fits call_trouble depth_of bytes_of_call
 close_refusal b room e f g h = same_judge _ _ _ _ _ _ _ _ e f (omega (arith, g)) h
-
--- the length that a close stores
-pub close_stored :
-    (b : Build) (entry : List ℕ) (k : ℕ) {field n : ℕ} {bytes exit : List ℕ}
-    → field ≡ field_of b → k ≡ b.length - start_of b → Wrote 4 (replicate 52 0) 0 (bytes_of 4 k) bytes n
-    → exit ≡ sets entry field (take 4 bytes) → exit ≡ buffer_after close b entry
-unfolding bytes_of buffer_after
-close_stored b entry k {field} {n} {bytes} e f w h =
-    let four : n ≡ 4 = let p = w.place in omega arith in
-    h
-    ∙ ap (λ (x : ℕ). sets entry x (take 4 bytes)) e
-    ∙ ap (sets entry (field_of b)) (ap (λ (x : ℕ). take x bytes) (sym four) ∙ in_front w (omega arith) ∙ ap (bytes_of 4) f)
 
 -- the build after it
 pub close_turned : (b : Build) {r : Build} → kind_of b ≡ 1 → r ≡ turned b → r ≡ build_after close b

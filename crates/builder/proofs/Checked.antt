@@ -2,14 +2,13 @@
 use Prim.Native.Nat.{ℕ, zero, suc, ◌+◌, ◌≤◌}
 use mathlib.Core.Path.{◌≡◌, refl, sym, ap, subst, subst⁻¹, ◌∙◌}
 use mathlib.Core.Bool.{Bool, true, false, not, ◌||◌}
-use mathlib.Core.List.{List, [], ◌∷◌, ◌++◌, map, append_assoc}
+use mathlib.Core.List.{List, [], ◌∷◌, ◌++◌, map}
 use mathlib.Core.Logic.{inl, inr}
 use native.Mathlib.Omega.{arith}
 use borrow.Author.Tests.{leb-true, leb-false, le-ltb, lt-ltb, lt-leb}
 use lib.Dec.{ltb, leb}
 use lib.IntN.{ℤ}
-use lib.ListN.{length, length-append, take, drop}
-use lib.Seq.{sets-eq, length-take-le}
+use lib.ListN.{length, length-append}
 use Rattle.machine.specs.Operands.{is_scale}
 use Rattle.machine.specs.declared.Maddr.{Maddr}
 use Rattle.machine.specs.declared.Maddr.TheVariants.{MConst, MReg, MIndex}
@@ -27,9 +26,8 @@ use Rattle.code.proofs.Complete.{behind_structure}
 use Rattle.code.proofs.Held.{Holds, holds_from, holds_behind, split, length_bytes, length_signed, signed_held}
 use Rattle.code.proofs.ReadBack.{kind_is, count_is, parts, ends_at}
 use Rattle.builder.specs.Calls.{first_of, number_trouble, scale_trouble, byte_trouble, maddr_trouble, operand_trouble, body_trouble, operands_trouble, record_trouble, MaddrTyped, OperandTyped, ByteTyped, RecordTyped}
-use Rattle.builder.specs.Rendered.{trouble_of, OnlyFields, Wrote}
+use Rattle.builder.specs.Rendered.{trouble_of, OnlyFields}
 use Rattle.builder.proofs.Known.{Known, record_known}
-use Rattle.builder.proofs.Calling.{same_room}
 
 -- ---- the first of some claims, and the others
 pub first : (A : Type 0) (As : List (Type 0)) → All (A ∷ As) → A
@@ -199,7 +197,7 @@ module _ (bs : List ℕ) where
     pub record_says : trouble_of (rest_of_all bs e at) ≡ record_trouble l
     record_says = says_number _ _ e record_reads
 
--- ---- a record that was written into the array
+-- ---- a record that was written behind what stood there
 pub used_ins : (k : ℕ) → is_ins k ≡ true → is_used k ≡ true
 used_ins k h = rw h refl
 
@@ -211,40 +209,34 @@ used_ocmp k h = rw h (either_way (is_code k))
     either_way false = refl
 
 module _ (allowed : ℕ → Bool) (used : (k : ℕ) → allowed k ≡ true → is_used k ≡ true) {given l : Layout} (same : given ≡ l) (its : Agrees allowed l)
-    {before after : List ℕ} {at n : ℕ} (w : Wrote 43 before at (bytes_of_record given) after n) (room : at + 43 ≤ length before) where
+    (front : List ℕ) {bytes : List ℕ} {at : ℕ} (p : length front ≡ at) (e : bytes ≡ front ++ bytes_of_record given) where
   agrees : Agrees allowed given
   agrees = subst⁻¹ (Agrees allowed) same its
 
-  held : Holds after at (bytes_of_record given)
+  held : Holds bytes at (bytes_of_record given)
   held =
-      let text = bytes_of_record given in
-      let front = take at before in
-      let rest = drop (at + length text) before in
-      let p = w.place in
-      let q = w.within in
-      let spelled : after ≡ front ++ (text ++ rest) = w.bytes ∙ sets-eq text before at (omega arith) ∙ append_assoc front text rest in
-      let bs = front ++ (text ++ rest) in
-      let there : Holds bs at (text ++ rest) =
-      holds_from bs (length front) at (text ++ rest) (holds_behind front (text ++ rest)) (length-take-le at before (omega arith)) in
-      subst⁻¹ (λ (bs : List ℕ). Holds bs at text) spelled (split bs at text rest there (at + length text) refl).0
+      subst⁻¹ (λ (bs : List ℕ). Holds bs at (bytes_of_record given)) e
+      (subst (λ (k : ℕ). Holds (front ++ bytes_of_record given) k (bytes_of_record given)) p (holds_behind front (bytes_of_record given)))
+
+  ends : at + length (bytes_of_record given) ≡ length bytes
+  ends = omega (arith, p, ap length e, length-append front (bytes_of_record given))
 
   -- begins there
-  pub begins : Begins is_used after n at
+  pub begins : Begins is_used bytes (length bytes) at
   unfolding bytes_of_record
   begins =
-      let p = w.place in
-      let q = w.within in
       record {
-        in_part = omega arith;
-        inside = omega (arith, same_room w);
-        kind = rw held.0 (used given.kind agrees.right);
+        in_part = omega (arith, ends);
+        inside = omega arith;
+        kind = subst⁻¹ (λ (k : ℕ). is_used k ≡ true) held.0 (used given.kind agrees.right);
       }
 
-  -- reading it finds nothing wrong but its fields
-  pub only_fields : RecordTyped given → OnlyFields (rest_of_all after n at)
-  only_fields typed =
-      says_fields _ _ n (record_reads after allowed given agrees typed at n held (sym w.place)) (record_known given)
+  module _ (typed : RecordTyped given) where
+    -- reading it finds nothing wrong but its fields
+    pub only_fields : OnlyFields (rest_of_all bytes (length bytes) at)
+    only_fields = says_fields _ _ _ (record_reads bytes allowed given agrees typed at (length bytes) held ends) (record_known given)
 
-  -- and has its trouble
-  pub trouble_is : RecordTyped given → {r : ℕ} → r ≡ trouble_of (rest_of_all after n at) → r ≡ record_trouble given
-  trouble_is typed e = e ∙ record_says after allowed given agrees typed at n held (sym w.place)
+    -- and it has its trouble
+    pub trouble_is : {r : ℕ} → r ≡ trouble_of (rest_of_all bytes (length bytes) at) → r ≡ record_trouble l
+    trouble_is h =
+        h ∙ record_says bytes allowed given agrees typed at (length bytes) held ends ∙ ap record_trouble same

@@ -52,6 +52,9 @@ pub signed16 : (z : ℤ) → SFits w16 z → Signed 16 z
 signed16 (pos n) f = omega (arith, f.sfits)
 signed16 (negsuc n) f = omega (arith, f.sfits)
 
+pub wide_signed : (z : ℤ) → SFits w64 z → Signed 64 z
+wide_signed = signed64
+
 module _ (m : Maddr) where
   pub const_fits : {n : ℕ} → m ≡ MConst n → n < 2 ^ 64 → MaddrTyped m
   unfolding MaddrTyped

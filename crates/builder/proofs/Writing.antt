@@ -1,10 +1,8 @@
--- Writes that follow each other write the joined text; the bytes of a number one by one; a copy; two's complement.
-use Prim.Native.Nat.{ℕ, zero, suc, ◌+◌, ◌-◌, ◌*◌, ◌/◌, ◌%◌, ◌^◌, ◌≤◌, ◌<◌}
+-- Writes that follow each other write the joined text; the bytes of a number one by one; two's complement.
+use Prim.Native.Nat.{ℕ, suc, ◌+◌, ◌-◌, ◌*◌, ◌/◌, ◌%◌, ◌^◌, ◌≤◌, ◌<◌}
 use mathlib.Core.Path.{◌≡◌, refl, sym, ap, ◌∙◌, subst⁻¹}
-use mathlib.Core.List.{List, [], ◌∷◌, ◌++◌}
+use mathlib.Core.List.{List, [], ◌∷◌, ◌++◌, append_assoc, append-nil}
 use native.Mathlib.Omega.{arith}
-use native.Mathlib.Numerals.{add-one}
-use native.Mathlib.Nat.{add-zero, add-suc, suc-add}
 use mathlib.Core.Bool.{true, false}
 use borrow.Author.Tests.{ltb-true}
 use lib.IntN.{ℤ, pos, negsuc, nat_abs}
@@ -12,104 +10,25 @@ use lib.Signed.{lt_z}
 use mir.Syntax.{Width, w16, w64}
 use mir.Val.{SFits, to_z, of_z}
 use mir.ValLaws.{to_z-of_z}
-use lib.ListN.{length, length-append, set, get_or, take, drop}
-use lib.Seq.{sets, sets-eq, paste, paste-suc, length-paste, length-take-le}
 use Rattle.code.specs.Writer.{bytes_of, signed_bytes}
-use Rattle.builder.specs.Rendered.{complement, Wrote}
+use Rattle.builder.specs.Rendered.{complement}
 
-sets_append : (l : List ℕ) (i : ℕ) (a b : List ℕ) → sets (sets l i a) (i + length a) b ≡ sets l i (a ++ b)
-sets_append l i [] b = ap (λ (k : ℕ). sets l k b) (add-zero i)
-sets_append l i (x ∷ a) b =
-    ap (λ (k : ℕ). sets (sets (set l i x) (suc i) a) k b) (add-suc i (length a) ∙ sym (suc-add i (length a)))
-    ∙ sets_append (set l i x) (suc i) a b
+-- ---- a number, byte by byte
 
-infixl 60 ◌▸◌
--- one write, then another
-pub ◌▸◌ :
-    {m n i j k : ℕ} {a b c t u : List ℕ} → Wrote m a i t b j → Wrote n b j u c k → Wrote (m + n) a i (t ++ u) c k
-◌▸◌ {i} {j} {a} {b} {c} {t} {u} w v =
-    record {
-      bytes =
-          v.bytes
-          ∙ ap (λ (n : ℕ). sets b n u) w.place
-          ∙ ap (λ (l : List ℕ). sets l (i + length t) u) w.bytes
-          ∙ sets_append a i t u;
-      place = let p = w.place in let q = v.place in omega (arith, length-append t u);
-      within = let p = w.within in let q = v.within in omega arith;
-    }
-
--- the same bytes by another name, within a larger bound
-pub spelled : {m k : ℕ} {a t u b : List ℕ} {i j : ℕ} → m ≤ k → t ≡ u → Wrote m a i t b j → Wrote k a i u b j
-spelled {a} {i} h e w =
-    record {
-      bytes = w.bytes ∙ ap (sets a i) e;
-      place = w.place ∙ ap (λ (l : List ℕ). i + length l) e;
-      within = let p = w.within in omega arith;
-    }
-
--- nothing was written
-pub wrote_none : (a : List ℕ) (i : ℕ) → Wrote 0 a i [] a i
-wrote_none a i = record { bytes = refl; place = sym (add-zero i); within = omega arith }
-
-length_bytes : (n x : ℕ) → length (bytes_of n x) ≡ n
-unfolding bytes_of
-length_bytes zero x = refl
-length_bytes (suc n) x = ap suc (length_bytes n (x / 256))
-
--- ---- a number, byte by byte: what is left to write makes the whole
-
+-- the lowest byte, and those of what is left
 pub number_step :
-    (l : List ℕ) (at i count rest : ℕ) → i < count
-    → sets (set l (at + i) (rest % 256)) (at + (i + 1)) (bytes_of (count - (i + 1)) (rest / 256))
-    ≡ sets l (at + i) (bytes_of (count - i) rest)
+    (before : List ℕ) (i count rest : ℕ) → i < count
+    → before ++ rest % 256 ∷ [] ++ bytes_of (count - (i + 1)) (rest / 256) ≡ before ++ bytes_of (count - i) rest
 unfolding bytes_of
-number_step l at i count rest h =
-    let next : at + (i + 1) ≡ suc (at + i) = omega arith in
+number_step before i count rest h =
     let less : count - i ≡ suc (count - (i + 1)) = omega arith in
-    ap (λ (k : ℕ). sets (set l (at + i) (rest % 256)) k (bytes_of (count - (i + 1)) (rest / 256))) next
-    ∙ ap (λ (n : ℕ). sets l (at + i) (bytes_of n rest)) (sym less)
+    append_assoc before (rest % 256 ∷ []) _ ∙ sym (ap (λ (n : ℕ). before ++ bytes_of n rest) less)
 
-pub number_begun :
-    (l : List ℕ) (at count x : ℕ) → sets l (at + 0) (bytes_of (count - 0) x) ≡ sets l at (bytes_of count x)
-number_begun l at count x =
-    let here : at + 0 ≡ at = omega arith in
-    let all : count - 0 ≡ count = omega arith in
-    ap (λ (k : ℕ). sets l k (bytes_of (count - 0) x)) here ∙ ap (λ (n : ℕ). sets l at (bytes_of n x)) all
-
-pub number_done :
-    (before after : List ℕ) (at i count rest x : ℕ) → count ≤ i → sets after (at + i) (bytes_of (count - i) rest) ≡ sets before at (bytes_of count x)
-    → Wrote count before at (bytes_of count x) after (at + count)
+pub number_done : (all : List ℕ) (i count rest : ℕ) → count ≤ i → all ++ bytes_of (count - i) rest ≡ all
 unfolding bytes_of
-number_done before after at i count rest x h e =
+number_done all i count rest h =
     let none : count - i ≡ 0 = omega arith in
-    record {
-      bytes = sym (ap (λ (n : ℕ). sets after (at + i) (bytes_of n rest)) none) ∙ e;
-      place = ap (λ (n : ℕ). at + n) (sym (length_bytes count x));
-      within = omega arith;
-    }
-
--- ---- a copy
-
-module _ (d : List ℕ) (at : ℕ) (s l : List ℕ) (i : ℕ) where
-  -- the buffer is as long as it was
-  pub copied_room : at + i ≤ length d → i ≤ length s → l ≡ paste d at s i → length l ≡ length d
-  copied_room h k e = ap length e ∙ length-paste d at s i h k
-
-  -- one byte more
-  pub copied_more :
-      at + i < length d → i < length s → l ≡ paste d at s i → set l (at + i) (get_or s i 0) ≡ paste d at s (i + 1)
-  copied_more h k e =
-      ap (λ (p : List ℕ). set p (at + i) (get_or s i 0)) e ∙ paste-suc d at s i 0 h k ∙ ap (paste d at s) (sym (add-one i))
-
-  -- all of them, as a run of stores
-  pub copied :
-      (n : ℕ) → i ≤ n → n ≤ i → at + n ≤ length d → n ≤ length s → l ≡ paste d at s i → l ≡ sets d at (take n s)
-  copied n p q h k e =
-      let full : i ≡ n = omega arith in
-      let size : length (take n s) ≡ n = length-take-le n s k in
-      e
-      ∙ ap (paste d at s) full
-      ∙ sym (sets-eq (take n s) d at (omega arith) ∙ ap (λ (m : ℕ). take at d ++ take n s ++ drop (at + m) d) size)
+    ap (λ (n : ℕ). all ++ bytes_of n rest) none ∙ append-nil all
 
 -- ---- two's complement
 

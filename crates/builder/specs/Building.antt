@@ -165,6 +165,12 @@ left b (Err r) buffer = outcome (number_of r) b buffer
 abbrev pub answered : ℕ → Build → Build → List ℕ → List ℕ → Outcome
 answered n b next buffer written = cond (eqb n 0) (outcome 0 next written) (outcome n b buffer)
 
+-- a call that adds these bytes, with this trouble in their fields, and opens a part of this kind
+abbrev pub opens : ℕ → ℕ → List ℕ → Build → List ℕ → Outcome
+opens kind trouble bytes b buffer =
+    answered (judge (takes_code b) trouble (b.depth + 1) (b.length + length bytes) (length buffer))
+    b (opened kind b (length bytes)) buffer (sets buffer b.length bytes)
+
 -- a call
 unfoldable pub call : Call → Build → List ℕ → Outcome
 call c b buffer = answered (refusal c b (length buffer)) b (build_after c b) buffer (buffer_after c b buffer)

@@ -1,6 +1,5 @@
 -- What the functions below the calls promise: how a record passes from value to bytes, what reading these finds, and which builds are closed.
-use Rattle.std.specs.Prelude.{ℕ, ◌+◌, ◌-◌, ◌≤◌, ◌<◌, ◌≡◌, ◌⊎◌, List, [], ◌∷◌, ℤ, pos, negsuc, length}
-use Rattle.std.proofs.lemmas.List.Edits.{sets}
+use Rattle.std.specs.Prelude.{ℕ, ◌+◌, ◌-◌, ◌≤◌, ◌<◌, ◌≡◌, ◌⊎◌, List, [], ◌∷◌, ℤ, pos, negsuc}
 use Rattle.machine.specs.declared.Operand.{Operand}
 use Rattle.code.specs.Layout.{Byte, number, amount, Layout, laid}
 use Rattle.code.specs.Reader.{Read, got, trouble}
@@ -35,12 +34,6 @@ layout_of r = laid r.kind (body_of r.body) (operands_of r.operands)
 abbrev pub complement : ℤ → ℕ → ℕ
 complement (pos k) most = k
 complement (negsuc k) most = most - k
-
--- `text` was written from `at` on, and nothing else; the next place is behind it, at most `most` bytes on
-pub record Wrote (most : ℕ) (before : List ℕ) (at : ℕ) (text after : List ℕ) (next : ℕ) : Type 0 where
-  pub bytes : after ≡ sets before at text
-  pub place : next ≡ at + length text
-  pub within : next ≤ at + most
 
 -- the number of a reading's trouble, 0 where it has none
 abbrev pub trouble_of : Read (Unit {0}) → ℕ

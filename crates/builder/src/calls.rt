@@ -1,11 +1,13 @@
 // The calls. Each is judged first, and a refused one writes nothing.
-ghost use Rattle.std.specs.Prelude.{◌≡◌, ◌+◌, ◌≤◌, ◌-◌, length, OnOk, OnErr};
+ghost use Rattle.std.specs.Prelude.{◌≡◌, ◌∷◌, ◌++◌, ◌+◌, ◌≤◌, ◌-◌, length, OnOk, OnErr};
 ghost use Rattle.std.proofs.lemmas.List.Edits.{sets};
 ghost use Rattle.code.specs.Kinds.{is_used};
 ghost use Rattle.code.specs.Reached.{Begins, rest_of_all};
-ghost use Rattle.builder.specs.Calls.{open_block, open_if_else, open_while, add, close, CallTyped};
+ghost use Rattle.code.specs.Layout.{ocmp_layout};
+ghost use Rattle.code.specs.Writer.{bytes_of, bytes_of_ocmp};
+ghost use Rattle.builder.specs.Calls.{open_block, open_if_else, open_while, add, close, record_trouble, RecordTyped, CallTyped};
 ghost use Rattle.builder.specs.Rendered.{trouble_of, OnlyFields, Closable};
-ghost use Rattle.builder.specs.Building.{takes_code, judge, refusal, opened, buffer_after, answered, answer_of, left, call};
+ghost use Rattle.builder.specs.Building.{takes_code, judge, refusal, buffer_after, opens, answer_of, left, call};
 
 use crate::build::{
     Build, CODES, LAST_PART, TRUE_PART, closed, innermost, longer, opened, takes_close, takes_code,
@@ -13,7 +15,7 @@ use crate::build::{
 };
 use crate::record::{record_of, record_of_ocmp};
 use crate::refusal::BuildRefusal;
-use crate::write::{copy, put_number, put_record};
+use crate::write::{Bytes, copy, put_number, put_record};
 use code::{Instruction, Ocmp, Reach, read_rest};
 
 // The first refusal whose condition holds.
@@ -39,13 +41,13 @@ fn judge(
     Ok(())
 }
 
-// The first wrong field of the record from `at` to `end`: the record is judged as it stands in the bytes, by the check of code.
-fn check_fields(bytes: &[u8; 52], at: usize, end: usize) -> Result<(), BuildRefusal>
-    requires begins { Begins is_used bytes.now end at }
-    requires only_fields { OnlyFields (rest_of_all bytes.now end at) }
-    ensures { answer_of result ≡ trouble_of (rest_of_all bytes.now end at) }
+// The first wrong field of the record that stands from `at` on: it is judged as it stands in the bytes, by the check of code.
+fn check_fields(bytes: &[u8], at: usize) -> Result<(), BuildRefusal>
+    requires begins { Begins is_used bytes.now (length bytes.now) at }
+    requires only_fields { OnlyFields (rest_of_all bytes.now (length bytes.now) at) }
+    ensures { answer_of result ≡ trouble_of (rest_of_all bytes.now (length bytes.now) at) }
 {
-    match read_rest(bytes, end, at) {
+    match read_rest(bytes, bytes.len(), at) {
         Reach::Next(_) => Ok(()),
         Reach::Trouble(7, _) => Err(BuildRefusal::NoScale),
         Reach::Trouble(_, _) => Err(BuildRefusal::NoRegister),
@@ -82,12 +84,32 @@ fn open_part(
     kind: u8,
 ) -> Result<Build, BuildRefusal>
     requires { length bytes.now ≤ 52 }
-    ensures { left build result buffer.new
-        ≡ answered (judge (takes_code build) (answer_of fields) (build.depth + 1) (build.length + length bytes.now) (length buffer.old))
-        build (opened kind build (length bytes.now)) buffer.old (sets buffer.old build.length bytes.now) }
+    ensures { left build result buffer.new ≡ opens kind (answer_of fields) bytes.now build buffer.old }
 {
     append(build, buffer, bytes, fields)?;
     Ok(opened(kind, build, bytes.len()))
+}
+
+// Opens a structure of this kind byte, in which 0 stands for so many bytes of lengths, and then its condition.
+fn open_with(
+    build: Build,
+    buffer: &mut [u8],
+    kind: u8,
+    lengths: usize,
+    condition: Ocmp,
+    part: u8,
+) -> Result<Build, BuildRefusal>
+    requires { lengths ≤ 8 }
+    ensures opens { left build result buffer.new
+        ≡ opens part (record_trouble (ocmp_layout condition)) (kind ∷ bytes_of lengths 0 ++ bytes_of_ocmp condition) build buffer.old }
+    ensures record_typed { RecordTyped (ocmp_layout condition) }
+{
+    let mut bytes = Bytes::new();
+    bytes.push(kind);
+    put_number(&mut bytes, 0, lengths);
+    put_record(&mut bytes, record_of_ocmp(condition));
+    let fields = check_fields(&bytes, 1 + lengths);
+    open_part(build, buffer, &bytes, fields, part)
 }
 
 pub fn open_block(build: Build, buffer: &mut [u8]) -> Result<Build, BuildRefusal>
@@ -96,40 +118,30 @@ pub fn open_block(build: Build, buffer: &mut [u8]) -> Result<Build, BuildRefusal
     open_part(build, buffer, &[0x20, 0, 0, 0, 0], Ok(()), CODES)
 }
 
+// The lengths of both parts stand before an IfElse's condition.
 pub fn open_if_else(build: Build, buffer: &mut [u8], condition: Ocmp) -> Result<Build, BuildRefusal>
     ensures buffer_after { left build result buffer.new ≡ call (open_if_else condition) build buffer.old }
     ensures call_typed { CallTyped (open_if_else condition) }
 {
-    let given = record_of_ocmp(condition);
-    let mut bytes = [0u8; 52];
-    bytes[0] = 0x21;
-    let n = put_record(&mut bytes, 9, given);
-    let fields = check_fields(&bytes, 9, n);
-    open_part(build, buffer, &bytes[..n], fields, TRUE_PART)
+    open_with(build, buffer, 0x21, 8, condition, TRUE_PART)
 }
 
 pub fn open_while(build: Build, buffer: &mut [u8], condition: Ocmp) -> Result<Build, BuildRefusal>
     ensures buffer_after { left build result buffer.new ≡ call (open_while condition) build buffer.old }
     ensures call_typed { CallTyped (open_while condition) }
 {
-    let given = record_of_ocmp(condition);
-    let mut bytes = [0u8; 52];
-    bytes[0] = 0x22;
-    let n = put_record(&mut bytes, 5, given);
-    let fields = check_fields(&bytes, 5, n);
-    open_part(build, buffer, &bytes[..n], fields, LAST_PART)
+    open_with(build, buffer, 0x22, 4, condition, LAST_PART)
 }
 
 pub fn add(build: Build, buffer: &mut [u8], instruction: Instruction) -> Result<Build, BuildRefusal>
     ensures buffer_after { left build result buffer.new ≡ call (add instruction) build buffer.old }
     ensures call_typed { CallTyped (add instruction) }
 {
-    let given = record_of(instruction);
-    let mut bytes = [0u8; 52];
-    let n = put_record(&mut bytes, 0, given);
-    let fields = check_fields(&bytes, 0, n);
-    append(build, buffer, &bytes[..n], fields)?;
-    Ok(longer(build, n))
+    let mut bytes = Bytes::new();
+    put_record(&mut bytes, record_of(instruction));
+    let fields = check_fields(&bytes, 0);
+    append(build, buffer, &bytes, fields)?;
+    Ok(longer(build, bytes.len()))
 }
 
 // Why a close is refused. It adds no bytes.
@@ -147,9 +159,9 @@ fn store_length(build: Build, buffer: &mut [u8])
 {
     let part = innermost(build);
     let counted = wide(build.length) - wide(part.start);
-    let mut bytes = [0u8; 52];
-    put_number(&mut bytes, 0, counted as u64, 4);
-    copy(buffer, wide(part.field), &bytes[..4]);
+    let mut bytes = Bytes::new();
+    put_number(&mut bytes, counted as u64, 4);
+    copy(buffer, wide(part.field), &bytes);
 }
 
 pub fn close(build: Build, buffer: &mut [u8]) -> Result<Build, BuildRefusal>
