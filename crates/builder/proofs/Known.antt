@@ -43,8 +43,7 @@ maddr_known : (m : Maddr) → Known (maddr_trouble m)
 unfolding maddr_trouble
 maddr_known (MConst n) = inl refl
 maddr_known (MReg r offset) = number_known r.number
-maddr_known (MIndex base scale index offset) =
-    both_known _ _ (number_known base.number) (both_known _ _ (scale_known scale) (number_known index.number))
+maddr_known (MIndex base scale index offset) = search (both_known, number_known, scale_known)
 
 operand_known : (o : Operand) → Known (operand_trouble o)
 unfolding operand_trouble

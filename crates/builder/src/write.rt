@@ -54,7 +54,7 @@ fn put_scale(out: &mut Bytes, scale: i16)
     put_number(out, unsigned(scale as i64, 0xffff), 2);
 }
 
-#[tactic(auto, using(crate::proofs::Records::wide_signed), unfolding(code::specs::Writer::bytes_of_maddr, crate::specs::Calls::MaddrTyped))]
+#[tactic(auto, unfolding(code::specs::Writer::bytes_of_maddr, crate::specs::Calls::MaddrTyped))]
 fn put_maddr(out: &mut Bytes, m: Maddr)
     requires { array_vec_len out.old + 13 ≤ 52 }
     ensures bytes { out.new.items ≡ out.old.items ++ bytes_of_maddr m }
