@@ -79,8 +79,8 @@ pub fn operand_count(kind: u8) -> usize
     entry(kind) % 4
 }
 
-// The last register or xmm field of a kind, as an offset from its kind byte; 0 where it has none.
-// The first is at 1, and an MIndex has its scale between the two.
+// The last register or xmm field of a kind, as an offset from its kind byte; 0 where it has none, as the place ahead of the first, since
+// a body is judged up to it. The first is at 1, and an MIndex has its scale between the two.
 pub fn last_field(kind: u8) -> usize
     ensures { LastField kind result }
 {

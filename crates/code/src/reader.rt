@@ -1,5 +1,6 @@
 // Checking code: reading goes front to back and stops at the first trouble. A code reads its parts
-// and a part reads its codes.
+// and a part reads its codes. A part is the bytes of the code up to `end`, in two parameters: as a struct with methods it was no plainer, since
+// each clause then says `self.entry.code.now` and `self.entry.end`, and each level of nesting stores one.
 ghost use Rattle.std.specs.Prelude.{◌≡◌, ◌+◌, ◌-◌, ◌≤◌, length};
 ghost use Rattle.machine.specs.Cells.{verdict};
 ghost use Rattle.code.specs.Records.{is_operand, is_structure};

@@ -6,7 +6,7 @@ ghost use Rattle.machine.specs.Operands.{word_of, in_range, exact, is_scale, eva
 ghost use Rattle.machine.specs.Wide.{number};
 
 use crate::Maddr;
-use crate::wide::{Wide, less, of_word, plus, times};
+use crate::wide::{Wide, less, plus, times};
 
 // Whether a scale is one that machine code has.
 pub fn is_scale(scale: i16) -> bool
@@ -39,7 +39,7 @@ fn moved(from: Wide, offset: i64) -> Option<u64>
 pub fn register_address(base: u64, offset: i64) -> Option<u64>
     ensures { word_of result ≡ in_range (pos base +ℤ offset) }
 {
-    moved(of_word(base), offset)
+    moved(Wide::from(base), offset)
 }
 
 // The address of an MIndex.

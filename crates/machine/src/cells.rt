@@ -8,7 +8,7 @@ ghost use Rattle.machine.specs.Cells.{verdict, check_cells, check_from, cell_rul
 
 use crate::addressing::operand_address;
 use crate::refusal::{Refusal, Rule};
-use crate::wide::{Wide, is_below, of_word, plus};
+use crate::wide::{Wide, is_below, plus};
 use crate::{Maddr, NoCell};
 use std::num::wrapping_sub_u64;
 
@@ -33,7 +33,7 @@ fn largest(tag: u8) -> Option<u64>
 fn end(address: u64, tag: u8) -> Wide
     ensures { number result ≡ address + tag / 8 }
 {
-    plus(of_word(address), (tag / 8) as u64)
+    plus(Wide::from(address), (tag / 8) as u64)
 }
 
 // The first rule that a cell breaks, where the cell before it ends at `last`.
@@ -88,7 +88,7 @@ pub fn check_cells(addresses: &[u64], tags: &[u8], values: &[u64]) -> Result<(),
     if addresses.len() > 1024 {
         return Err(Rule::Count.at(0));
     }
-    check_from(addresses, tags, values, 0, of_word(0))
+    check_from(addresses, tags, values, 0, Wide::from(0))
 }
 
 // The one index where an address can stand, before `above`: halves the part that is left, one comparison each. Both ends move,

@@ -14,10 +14,12 @@ pub struct Wide {
     pub low: u64,
 }
 
-pub fn of_word(x: u64) -> Wide
-    ensures { number result ≡ x }
-{
-    Wide { high: 0, low: x }
+impl From<u64> for Wide {
+    ghost from_gives = { λ x w. number w ≡ x };
+
+    fn from(x: u64) -> Wide {
+        Wide { high: 0, low: x }
+    }
 }
 
 pub fn plus(w: Wide, x: u64) -> Wide
@@ -37,7 +39,7 @@ pub fn times(scale: u64, index: u64) -> Wide
     ensures { number result ≡ scale * index }
 {
     if index < 2305843009213693952 {
-        return of_word(scale * index);
+        return Wide::from(scale * index);
     }
     let product = mul_wide(scale, index);
     Wide {
@@ -46,7 +48,7 @@ pub fn times(scale: u64, index: u64) -> Wide
     }
 }
 
-// Whether a word is below a number.
+// Whether a word is below a number. No derive compares two types.
 pub fn is_below(x: u64, w: Wide) -> bool
     ensures { result ≡ nat_lt x (number w) }
 {

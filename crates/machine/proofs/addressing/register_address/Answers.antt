@@ -5,9 +5,9 @@ use Rattle.machine.specs.Operands.{in_range}
 use Rattle.machine.proofs.addressing.register_address.Goals as goal
 
 pub moved-requires : goal.moved-requires
-moved-requires c = let b = c.ranges.base.fits in omega (arith, c.of_word.ensures)
+moved-requires c = let b = c.ranges.base.fits in omega (arith, c.from.ensures)
 
 pub returns : goal.returns
 returns c =
     c.moved.ensures
-    ∙ ap₂ (λ (x : ℕ) (z : ℤ). in_range (pos x +ℤ z)) c.of_word.ensures (to_z-of_z w64 c.args.offset c.ranges.offset)
+    ∙ ap₂ (λ (x : ℕ) (z : ℤ). in_range (pos x +ℤ z)) c.from.ensures (to_z-of_z w64 c.args.offset c.ranges.offset)

@@ -22,5 +22,5 @@ returns-then-addresses-gt1024 c =
 -- from the first cell on, with the end 0
 pub returns : goal.returns
 returns c =
-    from_first c.args.addresses.now c.args.tags.now c.args.values.now _ _ c.check_from.ensures c.of_word.ensures
+    from_first c.args.addresses.now c.args.tags.now c.args.values.now _ _ c.check_from.ensures c.from.ensures
     (record { tags = c.if-tags-addresses.false; values = c.if-values-addresses.false }) c.if-addresses-gt1024.false
