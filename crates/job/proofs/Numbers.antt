@@ -3,24 +3,16 @@ use Prim.Native.Nat.{ℕ, zero, suc, ◌+◌, ◌*◌, ◌≤◌, ◌<◌}
 use mathlib.Core.Path.{◌≡◌, refl, sym, ap, ◌∙◌}
 use mathlib.Core.List.{List, [], ◌∷◌, ◌++◌}
 use native.Mathlib.Omega.{arith}
-use native.Mathlib.Nat.{mul-add, mul-one, mul-le-mul_left}
+use native.Mathlib.Nat.{mul-add, mul-one}
 use native.Mathlib.Numerals.{add-one}
 use lib.ListN.{length, set, length-set, take}
-use lib.Seq.{take-suc-set, take_all}
+use lib.Seq.{take-suc-set}
 use Rattle.code.specs.Records.{number_at}
 use Rattle.job.specs.Job.{numbers}
 
 -- one stride more
-pub strides_more : (stride i : ℕ) → stride * (i + 1) ≡ stride * i + stride
+strides_more : (stride i : ℕ) → stride * (i + 1) ≡ stride * i + stride
 strides_more stride i = mul-add stride i 1 ∙ ap (◌+◌ (stride * i)) (mul-one stride)
-
--- the strides within n
-pub strides_within : (stride : ℕ) {i n : ℕ} → i < n → stride * i + stride ≤ stride * n
-strides_within stride {i} {n} h =
-    let le : i + 1 ≤ n = omega arith in
-    let more = strides_more stride i in
-    let below = mul-le-mul_left stride le in
-    omega arith
 
 numbers_snoc :
     (size stride i : ℕ) (bs : List ℕ) (at : ℕ)
@@ -60,10 +52,3 @@ taken_more {size} {stride} {from} {i} {v} {bs} {to} r h e =
           ∙ sym (numbers_snoc size stride i bs from)
           ∙ ap (λ (k : ℕ). numbers size stride k bs from) (sym (add-one i));
     }
-
-pub taken_all :
-    {size stride from i : ℕ} {bs to₀ to : List ℕ} → Taken size stride bs from to₀ i to
-    → length to₀ ≤ i → to ≡ numbers size stride (length to₀) bs from
-taken_all {size} {stride} {from} {i} {bs} {to₀} {to} r h =
-    let all : i ≡ length to₀ = omega (arith, r.within) in
-    sym (take_all i to (omega (arith, r.long))) ∙ r.got ∙ ap (λ (k : ℕ). numbers size stride k bs from) all

@@ -1,13 +1,12 @@
 -- Writes that follow each other write the joined text: stores from a place on, and stores from behind them on, are the
 -- stores of both. A loop of writers keeps what is left to write: the whole text from the start is the rest from here.
-use Prim.Native.Nat.{ℕ, suc, ◌+◌, ◌≤◌, ◌<◌}
+use Prim.Native.Nat.{ℕ, suc, ◌+◌, ◌≤◌}
 use mathlib.Core.Path.{◌≡◌, refl, sym, ap, ◌∙◌}
 use mathlib.Core.List.{List, [], ◌∷◌, ◌++◌}
 use native.Mathlib.Omega.{arith}
-use native.Mathlib.Nat.{add-zero, add-suc, suc-add, le_of_lt}
-use native.Mathlib.Numerals.{add-one}
-use lib.ListN.{length, length-append, set, get_or, take}
-use lib.Seq.{sets, length-take-le, take-suc}
+use native.Mathlib.Nat.{add-zero, add-suc, suc-add}
+use lib.ListN.{length, length-append, set}
+use lib.Seq.{sets}
 use Rattle.job.specs.declared.text.Page.{Page}
 use Rattle.job.specs.Written.{Wrote}
 
@@ -16,16 +15,6 @@ sets_append l i [] b = ap (λ (k : ℕ). sets l k b) (add-zero i)
 sets_append l i (x ∷ a) b =
     ap (λ (k : ℕ). sets (sets (set l i x) (suc i) a) k b) (add-suc i (length a) ∙ sym (suc-add i (length a)))
     ∙ sets_append (set l i x) (suc i) a b
-
--- one element more of a text that is copied from the front
-pub sets_more :
-    (o l w : List ℕ) (at i : ℕ) → o ≡ sets l at (take i w) → i < length w
-    → set o (at + i) (get_or w i 0) ≡ sets l at (take (i + 1) w)
-sets_more o l w at i e h =
-    ap (λ (p : List ℕ). set p (at + i) (get_or w i 0)) e
-    ∙ ap (λ (k : ℕ). set (sets l at (take i w)) (at + k) (get_or w i 0)) (sym (length-take-le i w (le_of_lt h)))
-    ∙ sets_append l at (take i w) (get_or w i 0 ∷ [])
-    ∙ ap (sets l at) (sym (ap (λ (k : ℕ). take k w) (add-one i) ∙ take-suc w i 0 h))
 
 sets_then :
     (l m o t u : List ℕ) (i j : ℕ) → m ≡ sets l i t → j ≡ i + length t → o ≡ sets m j u → o ≡ sets l i (t ++ u)
@@ -85,9 +74,6 @@ pub record Left (a : Page) (t : List ℕ) (b : Page) (u : List ℕ) : Type 0 whe
   pub same_reference : b.out.ghost_name ≡ a.out.ghost_name
   pub bytes : sets b.out.now b.at u ≡ sets a.out.now a.at t
   pub place : b.at + length u ≡ a.at + length t
-
-pub left_all : (a : Page) (t : List ℕ) → Left a t a t
-left_all a t = record { same_reference = refl; bytes = refl; place = refl }
 
 -- the first part of the rest is written
 pub left_less :

@@ -9,44 +9,28 @@ use eval::{Evaluation, Setting};
 use machine::{Refusal, Rule, State};
 
 // No job is stopped that ends in our time.
-const LARGEST_LIMIT: u64 = 18446744073709551615;
+const LARGEST_LIMIT: u64 = u64::MAX;
 
-// Numbers of eight bytes, `stride` bytes apart.
-pub fn read_words(input: &[u8], from: usize, stride: usize, to: &mut [u64])
-    requires { (stride ≤ 17) × (from + stride * length to.old + 8 ≤ length input.now + stride) }
-    ensures { to.new ≡ numbers 8 stride (length to.old) input.now from }
+fn read_regs(input: &[u8]) -> [u64; 16]
+    requires { 148 ≤ length input.now }
+    ensures { result ≡ numbers 8 8 16 input.now 20 }
 {
-    let mut at = from;
-    let mut i = 0;
-    while i < to.len() {
-        to[i] = number8(input, at);
-        at += stride;
-        i += 1;
+    let mut regs = [0; 16];
+    for (i, word) in regs.iter_mut().enumerate() {
+        *word = number8(input, 20 + 8 * i);
     }
+    regs
 }
 
-// The words of the xmm.
-pub fn read_lanes(input: &[u8], from: usize, to: &mut [u32])
-    requires { from + 4 * length to.old ≤ length input.now }
-    ensures { to.new ≡ numbers 4 4 (length to.old) input.now from }
+fn read_xmms(input: &[u8]) -> [u32; 64]
+    requires { 404 ≤ length input.now }
+    ensures { result ≡ numbers 4 4 64 input.now 148 }
 {
-    let mut i = 0;
-    while i < to.len() {
-        to[i] = number4(input, from + 4 * i) as u32;
-        i += 1;
+    let mut xmms = [0; 64];
+    for (i, word) in xmms.iter_mut().enumerate() {
+        *word = number4(input, 148 + 4 * i) as u32;
     }
-}
-
-// The tags of the cells.
-pub fn read_tags(input: &[u8], from: usize, to: &mut [u8])
-    requires { from + 17 * length to.old ≤ length input.now + 16 }
-    ensures { to.new ≡ numbers 1 17 (length to.old) input.now from }
-{
-    let mut i = 0;
-    while i < to.len() {
-        to[i] = input[from + 17 * i];
-        i += 1;
-    }
+    xmms
 }
 
 pub fn read_state(input: &[u8]) -> State
@@ -54,12 +38,13 @@ pub fn read_state(input: &[u8]) -> State
     ensures { (result.regs ≡ (start_of input.now).regs) × (result.xmms ≡ (start_of input.now).xmms)
         × (result.flags ≡ (start_of input.now).flags) }
 {
-    let mut regs = [0u64; 16];
-    let mut xmms = [0u32; 64];
-    read_words(input, 20, 8, &mut regs);
-    read_lanes(input, 148, &mut xmms);
-    let flags = number8(input, 12);
-    State { regs, xmms, flags }
+    let regs = read_regs(input);
+    let xmms = read_xmms(input);
+    State {
+        regs,
+        xmms,
+        flags: number8(input, 12),
+    }
 }
 
 pub fn read_setting(input: &[u8]) -> Setting
@@ -67,15 +52,11 @@ pub fn read_setting(input: &[u8]) -> Setting
     ensures { (result.fill ≡ fill_of input.now) × (result.fuel ≡ fuel_of input.now)
         × (result.limit ≡ largest_limit) × (result.evaluation ≡ Base) }
 {
-    let fuel = number4(input, 0) as u32;
-    let fill = number8(input, 4);
-    let limit = LARGEST_LIMIT;
-    let evaluation = Evaluation::Base;
     Setting {
-        fill,
-        fuel,
-        limit,
-        evaluation,
+        fill: number8(input, 4),
+        fuel: number4(input, 0) as u32,
+        limit: LARGEST_LIMIT,
+        evaluation: Evaluation::Base,
     }
 }
 
