@@ -4,7 +4,7 @@ use mathlib.Core.Path.{◌≡◌, refl, ap, ◌∙◌, subst}
 use mathlib.Core.Bool.{Bool, ◌&&◌, ◌||◌}
 use mathlib.Core.List.{List, [], ◌∷◌, ◌++◌}
 use native.Mathlib.Omega.{arith}
-use borrow.Author.Tests.{ltb-true, leb-true, eq-eqb, ne_eqb}
+use borrow.Author.Tests.{ltb-true, leb-true}
 use lib.Dec.{eqb, ltb, leb}
 use lib.ListN.{length}
 use lib.Seq.{sets}
@@ -14,7 +14,7 @@ use Rattle.code.specs.Layout.{Layout, layout, ocmp_layout}
 use Rattle.code.specs.Writer.{bytes_of, bytes_of_ins, bytes_of_ocmp}
 use Rattle.builder.specs.declared.build.Build.{Build}
 use Rattle.builder.specs.Calls.{open_block, open_if_else, open_while, add, close, bytes_of_call, record_trouble, call_trouble, RecordTyped, CallTyped}
-use Rattle.builder.specs.Building.{kind_of, field_of, start_of, is_part, takes_code, takes_close, call_fits, depth_of, judge, refusal, longer, turned, shut, build_after, buffer_after, Outcome, opens, call}
+use Rattle.builder.specs.Building.{kind_of, field_of, start_of, is_part, takes_code, takes_close, call_fits, depth_of, judge, refusal, longer, build_after, buffer_after, Outcome, opens, call}
 use Rattle.builder.specs.Rendered.{Closable}
 use Rattle.std.proofs.lemmas.Bool.{and_parts}
 use Rattle.builder.proofs.Judged.{was_taken, same_judge}
@@ -105,12 +105,3 @@ pub close_refusal :
     → r ≡ judge fits 0 depth length room → r ≡ refusal close b room
 unfolding refusal call_fits call_trouble depth_of bytes_of_call
 close_refusal b room e f g h = same_judge _ _ _ _ _ _ _ _ e f (omega (arith, g)) h
-
--- the build after it
-pub close_turned : (b : Build) {r : Build} → kind_of b ≡ 1 → r ≡ turned b → r ≡ build_after close b
-unfolding build_after
-close_turned b k n = n ∙ rw (eq-eqb (kind_of b) 1 k) refl
-
-pub close_shut : (b : Build) {r : Build} → (kind_of b ≡ 1 → ⊥) → r ≡ shut b → r ≡ build_after close b
-unfolding build_after
-close_shut b k n = n ∙ rw (ne_eqb (kind_of b) 1 k) refl

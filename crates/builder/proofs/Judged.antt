@@ -1,13 +1,12 @@
--- The refusals in their order, as the tests find them; and what a call knows that was taken.
+-- What a call knows that was taken, and what is answered.
 use Prim.Native.Nat.{ℕ, zero, suc, ◌≤◌, ◌<◌}
 use mathlib.Core.Path.{◌≡◌, refl, sym, ap, ◌∙◌}
 use mathlib.Core.Bool.{Bool, true, false, ◌&&◌}
 use mathlib.Core.List.{List}
-use mathlib.Core.Logic.{◌⊎◌, inl, inr}
 use Rattle.std.specs.Prelude.{Result, Err}
 use Rattle.std.proofs.lemmas.Bool.{and_parts}
 use native.Mathlib.Omega.{arith}
-use borrow.Author.Tests.{leb-true, le-leb, lt-leb, ne_eqb}
+use borrow.Author.Tests.{leb-true, ne_eqb}
 use lib.Dec.{leb}
 use Rattle.builder.specs.declared.build.Build.{Build}
 use Rattle.builder.specs.Calls.{first_of}
@@ -22,37 +21,6 @@ some_number NoRegister e = omega (arith, e)
 some_number NoScale e = omega (arith, e)
 some_number TooDeep e = omega (arith, e)
 some_number NoRoom e = omega (arith, e)
-
--- the first of two numbers
-pub first_is : (n m : ℕ) → (n ≡ 0 → ⊥) → first_of n m ≡ n
-unfolding first_of
-first_is zero m h = absurd (h refl)
-first_is (suc n) m h = refl
-
-module _ (fits : Bool) (trouble depth bytes room : ℕ) where
-  pub is_51 : fits ≡ false → 51 ≡ judge fits trouble depth bytes room
-  unfolding judge unless
-  is_51 e = rw (e) refl
-
-  pub is_trouble : (r : BuildRefusal) → fits ≡ true → number_of r ≡ trouble → number_of r ≡ judge fits trouble depth bytes room
-  unfolding judge unless
-  is_trouble r e f = rw (e, sym f) (sym (first_is (number_of r) _ (some_number r)))
-
-  pub is_53 : fits ≡ true → trouble ≡ 0 → 32 < depth → 53 ≡ judge fits trouble depth bytes room
-  unfolding judge unless first_of
-  is_53 e f h = rw (e, f, lt-leb depth 32 h) refl
-
-  pub is_52 :
-      fits ≡ true → trouble ≡ 0 → depth ≤ 32 → (room < bytes) ⊎ ((bytes ≤ room) × (16384 < bytes))
-      → 52 ≡ judge fits trouble depth bytes room
-  unfolding judge unless first_of
-  is_52 e f h (inl k) = rw (e, f, le-leb depth 32 h, lt-leb bytes room k) refl
-  is_52 e f h (inr k) = rw (e, f, le-leb depth 32 h, le-leb bytes room k.0, lt-leb bytes 16384 k.1) refl
-
-  pub is_taken :
-      fits ≡ true → trouble ≡ 0 → depth ≤ 32 → bytes ≤ room → bytes ≤ 16384 → 0 ≡ judge fits trouble depth bytes room
-  unfolding judge unless first_of
-  is_taken e f h k l = rw (e, f, le-leb depth 32 h, le-leb bytes room k, le-leb bytes 16384 l) refl
 
 -- what is known of a taken call
 pub record Taken (fits : Bool) (depth bytes room : ℕ) : Type 0 where

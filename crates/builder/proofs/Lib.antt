@@ -1,5 +1,3 @@
-pub mod Arms
-pub mod Fits
 pub mod Writing
 pub mod Records
 pub mod Judged

@@ -4,13 +4,14 @@ use Rattle.machine.specs.declared.Operand.{Operand}
 use Rattle.code.specs.Layout.{Byte, number, amount, Layout, laid}
 use Rattle.code.specs.Reader.{Read, got, trouble}
 use Rattle.builder.specs.declared.build.Build.{Build}
+use Rattle.builder.specs.declared.build.Part.{Part}
 use Rattle.builder.specs.declared.record.Body.{Body}
 use Rattle.builder.specs.declared.record.Body.TheVariants.{Nothing, Xmms, XmmAmount, XmmsAmount}
 use Rattle.builder.specs.declared.record.Operands.{Operands}
 use Rattle.builder.specs.declared.record.Operands.TheVariants.{One, Two, Three}
 use Rattle.builder.specs.declared.record.Operands.TheVariants.{Nothing as NoOperands}
 use Rattle.builder.specs.declared.record.Record.{Record}
-use Rattle.builder.specs.Building.{field_of, start_of}
+use Rattle.builder.specs.Building.{kind_of, field_of, start_of}
 
 -- the bytes of a body
 abbrev pub body_of : Body → List Byte
@@ -44,6 +45,10 @@ trouble_of (trouble n p) = n
 abbrev pub OnlyFields : Read (Unit {0}) → Type 0
 OnlyFields (got a next) = Unit {0}
 OnlyFields (trouble n p) = (n ≡ 4) ⊎ (n ≡ 7)
+
+-- a build's innermost open part
+abbrev pub part_of : Build → Part
+part_of b = record { kind = kind_of b; field = field_of b; start = start_of b }
 
 -- what is known of a build whose innermost part was found to take a close, in a buffer that holds it
 pub record Closable (b : Build) (room : ℕ) : Type 0 where

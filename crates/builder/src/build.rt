@@ -1,8 +1,8 @@
 // A build, and which calls its innermost open part takes.
-ghost use Rattle.std.specs.Prelude.{◌≡◌, ◌&&◌, ◌+◌, ◌≤◌, ◌<◌, leb};
+ghost use Rattle.std.specs.Prelude.{◌≡◌, ◌+◌, ◌≤◌, ◌<◌, cond};
 ghost use Rattle.builder.specs.Calls.{close};
-ghost use Rattle.builder.specs.Rendered.{Closable};
-ghost use Rattle.builder.specs.Building.{empty, kind_of, field_of, start_of, takes_code, takes_close, longer, opened, turned, shut, build_after};
+ghost use Rattle.builder.specs.Rendered.{part_of, Closable};
+ghost use Rattle.builder.specs.Building.{empty, field_of, is_part, takes_code, takes_close, longer, opened, turned, shut, build_after};
 
 // What a build holds besides its bytes, which stand at the front of the lent buffer: how many they are, and the open
 // parts, outermost first. A part has a kind, the place of the length that counts it, and the place where it begins.
@@ -57,7 +57,7 @@ pub struct Part {
 
 pub fn innermost(build: Build) -> Part
     requires { (0 < build.depth) × (build.depth ≤ 32) }
-    ensures { (result.kind ≡ kind_of build) × (result.field ≡ field_of build) × (result.start ≡ start_of build) }
+    ensures { result ≡ part_of build }
 {
     let i = build.depth as usize - 1;
     Part {
@@ -67,51 +67,48 @@ pub fn innermost(build: Build) -> Part
     }
 }
 
-// Whether a part can be one that a call left: it begins behind its length and within the build.
-fn is_part(part: Part, length: u16) -> bool
-    ensures { result ≡ (leb part.kind 2 && leb (part.field + 4) part.start && leb part.start length) }
+// The innermost open part, where it can be one that a call left: it begins behind its length and within the build.
+#[tactic(auto, unfolding(crate::specs::Building::is_part))]
+fn left_part(build: Build) -> Option<Part>
+    requires { 0 < build.depth }
+    ensures { result ≡ cond (is_part build) (Some (part_of build)) None }
 {
-    if part.kind > LAST_PART {
-        return false;
+    if build.depth > MOST {
+        return None;
     }
-    if wide(part.field) + 4 > wide(part.start) {
-        return false;
+    let part = innermost(build);
+    let behind_length = wide(part.field) + 4 <= wide(part.start);
+    if part.kind <= LAST_PART && behind_length && part.start <= build.length {
+        Some(part)
+    } else {
+        None
     }
-    part.start <= length
 }
 
+#[tactic(auto, unfolding(crate::specs::Building::takes_code))]
 pub fn takes_code(build: Build) -> bool
     ensures { result ≡ takes_code build }
 {
     if build.depth == 0 {
         return build.length == 0;
     }
-    if build.depth > MOST {
-        return false;
+    match left_part(build) {
+        Some(part) => part.kind == CODES || part.start == build.length,
+        None => false,
     }
-    let part = innermost(build);
-    let length = build.length;
-    if !is_part(part, length) {
-        return false;
-    }
-    part.kind == CODES || part.start == length
 }
 
+#[tactic(auto, unfolding(crate::specs::Building::takes_close))]
 pub fn takes_close(build: Build) -> bool
     ensures { result ≡ takes_close build }
 {
     if build.depth == 0 {
         return false;
     }
-    if build.depth > MOST {
-        return false;
+    match left_part(build) {
+        Some(part) => part.kind == CODES || part.start < build.length,
+        None => false,
     }
-    let part = innermost(build);
-    let length = build.length;
-    if !is_part(part, length) {
-        return false;
-    }
-    part.kind == CODES || part.start < length
 }
 
 pub fn longer(build: Build, n: usize) -> Build
@@ -162,6 +159,7 @@ fn shut(build: Build) -> Build
 }
 
 // The build after a close: behind a true part the false part is open, else the structure is complete.
+#[tactic(auto, unfolding(crate::specs::Building::build_after))]
 pub fn closed(build: Build) -> Build
     requires { Closable build 16384 }
     ensures { result ≡ build_after close build }

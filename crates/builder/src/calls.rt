@@ -20,6 +20,7 @@ use code::{Instruction, Ocmp, read_rest};
 use machine::{Refusal, Rule};
 
 // The first refusal whose condition holds.
+#[tactic(auto, unfolding(crate::specs::Building::judge, crate::specs::Building::unless, crate::specs::Calls::first_of))]
 fn judge(
     fits: bool,
     fields: Result<(), BuildRefusal>,
@@ -43,6 +44,7 @@ fn judge(
 }
 
 // The first wrong field of the record that stands from `at` on: it is judged as it stands in the bytes, by the check of code.
+#[tactic(auto, unfolding(code::specs::Reached::reach))]
 fn check_fields(bytes: &[u8], at: usize) -> Result<(), BuildRefusal>
     requires begins { Begins is_used bytes.now (length bytes.now) at }
     requires only_fields { OnlyFields (rest_of_all bytes.now (length bytes.now) at) }
@@ -56,6 +58,7 @@ fn check_fields(bytes: &[u8], at: usize) -> Result<(), BuildRefusal>
 }
 
 // Judges a call that adds these bytes, and stores them where it is taken.
+#[tactic(auto, using(crate::proofs::Judged::was_taken))]
 fn append(
     build: Build,
     buffer: &mut [u8],
@@ -77,6 +80,7 @@ fn append(
 }
 
 // Appends the first bytes of a structure, and opens its part of this kind.
+#[tactic(auto, using(crate::proofs::Judged::was_taken))]
 fn open_part(
     build: Build,
     buffer: &mut [u8],
@@ -113,6 +117,7 @@ fn open_with(
     open_part(build, buffer, &bytes, fields, part)
 }
 
+#[tactic(auto, using(crate::proofs::Calling::block_is))]
 pub fn open_block(build: Build, buffer: &mut [u8]) -> Result<Build, BuildRefusal>
     ensures { left build result buffer.new ≡ call open_block build buffer.old }
 {
@@ -120,6 +125,7 @@ pub fn open_block(build: Build, buffer: &mut [u8]) -> Result<Build, BuildRefusal
 }
 
 // The lengths of both parts stand before an IfElse's condition.
+#[tactic(auto, using(crate::proofs::Calling::if_else_is, crate::proofs::Calling::if_else_fits))]
 pub fn open_if_else(build: Build, buffer: &mut [u8], condition: Ocmp) -> Result<Build, BuildRefusal>
     ensures buffer_after { left build result buffer.new ≡ call (open_if_else condition) build buffer.old }
     ensures call_typed { CallTyped (open_if_else condition) }
@@ -127,6 +133,7 @@ pub fn open_if_else(build: Build, buffer: &mut [u8], condition: Ocmp) -> Result<
     open_with(build, buffer, 0x21, 8, condition, TRUE_PART)
 }
 
+#[tactic(auto, using(crate::proofs::Calling::while_is, crate::proofs::Calling::while_fits))]
 pub fn open_while(build: Build, buffer: &mut [u8], condition: Ocmp) -> Result<Build, BuildRefusal>
     ensures buffer_after { left build result buffer.new ≡ call (open_while condition) build buffer.old }
     ensures call_typed { CallTyped (open_while condition) }
@@ -146,6 +153,7 @@ pub fn add(build: Build, buffer: &mut [u8], instruction: Instruction) -> Result<
 }
 
 // Why a close is refused. It adds no bytes.
+#[tactic(auto, using(crate::proofs::Calling::close_refusal))]
 fn judge_close(build: Build, room: usize) -> Result<(), BuildRefusal>
     ensures { answer_of result ≡ refusal close build room }
 {
@@ -154,6 +162,7 @@ fn judge_close(build: Build, room: usize) -> Result<(), BuildRefusal>
 }
 
 // Stores the length of the innermost part where it is counted.
+#[tactic(auto, unfolding(crate::specs::Building::buffer_after))]
 fn store_length(build: Build, buffer: &mut [u8])
     requires { Closable build (length buffer.old) }
     ensures { buffer.new ≡ buffer_after close build buffer.old }
@@ -165,6 +174,7 @@ fn store_length(build: Build, buffer: &mut [u8])
     copy(buffer, wide(part.field), &bytes);
 }
 
+#[tactic(auto, using(crate::proofs::Calling::closable, crate::proofs::Calling::in_limit), unfolding(crate::specs::Building::call))]
 pub fn close(build: Build, buffer: &mut [u8]) -> Result<Build, BuildRefusal>
     ensures { left build result buffer.new ≡ call close build buffer.old }
 {

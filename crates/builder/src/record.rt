@@ -100,6 +100,7 @@ fn lane(kind: u8, a: u8, n: u8, operand: Operand) -> Record
     }
 }
 
+#[tactic(auto, unfolding(code::specs::Layout::layout))]
 pub fn record_of(instruction: Instruction) -> Record
     ensures { layout_of result ≡ layout instruction }
 {
@@ -134,6 +135,7 @@ pub fn record_of(instruction: Instruction) -> Record
     }
 }
 
+#[tactic(auto, unfolding(code::specs::Layout::ocmp_layout))]
 pub fn record_of_ocmp(condition: Ocmp) -> Record
     ensures { layout_of result ≡ ocmp_layout condition }
 {

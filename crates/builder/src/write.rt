@@ -38,6 +38,7 @@ fn unsigned(x: i64, most: u64) -> u64
     if x < 0 { most - (size - 1) } else { size }
 }
 
+#[tactic(auto, using(crate::proofs::Writing::signed_complement))]
 fn put_offset(out: &mut Bytes, offset: i64)
     requires { array_vec_len out.old + 8 ≤ 52 }
     ensures bytes { out.new.items ≡ out.old.items ++ signed_bytes 8 offset }
@@ -46,6 +47,7 @@ fn put_offset(out: &mut Bytes, offset: i64)
     put_number(out, unsigned(offset, 0xffff_ffff_ffff_ffff), 8);
 }
 
+#[tactic(auto, using(crate::proofs::Writing::signed_complement))]
 fn put_scale(out: &mut Bytes, scale: i16)
     requires { array_vec_len out.old + 2 ≤ 52 }
     ensures bytes { out.new.items ≡ out.old.items ++ signed_bytes 2 scale }

@@ -1,7 +1,7 @@
 -- The kind says which instruction or comparison the numbers give. Assumes nothing.
 use Prim.Native.Nat.{ℕ, ◌≤◌}
-use mathlib.Core.Path.{◌≡◌, refl, sym, ap, ◌∙◌}
-use mathlib.Core.Bool.{Bool, true, false}
+use mathlib.Core.Path.{◌≡◌, sym, ap}
+use mathlib.Core.Bool.{Bool, true}
 use mathlib.Core.List.{List, [], ◌∷◌}
 use native.Mathlib.Omega.{arith}
 use borrow.Author.Tests.{leb-true}
@@ -13,13 +13,13 @@ use Rattle.code.specs.declared.kinds.Class.TheVariants.{Instruction, Comparison}
 use Rattle.code.specs.declared.tree.Instruction.{Instruction as Ins}
 use Rattle.code.specs.declared.tree.Ocmp.{Ocmp}
 use Rattle.code.specs.Layout.{ins_of, ocmp_of}
-use Rattle.std.specs.Prelude.{Some, None}
+use Rattle.std.specs.Prelude.{Some}
 use Rattle.code.specs.Records.{is_ins, is_ocmp, operand_count}
-use Rattle.code.specs.Kinds.{class, is_used}
-use Rattle.code.proofs.KindLaws.{class_ins, counts}
-use Rattle.code.proofs.Classes.{tag, ins_kind, ocmp_kind, not_ocmp, code_used, ins_is_code, ocmp_used, no_0, no_2}
+use Rattle.code.specs.Kinds.{class}
+use Rattle.code.proofs.KindLaws.{counts}
+use Rattle.code.proofs.Classes.{ins_kind, ocmp_kind}
 use Rattle.numbered.specs.declared.operands.Numbers.{Numbers}
-use Rattle.numbered.specs.Given.{operand_of, operands_given, operands_of, is_instruction, is_comparison}
+use Rattle.numbered.specs.Given.{operand_of, operands_of, is_instruction, is_comparison}
 use Rattle.numbered.specs.Values.{instruction_given, comparison_given}
 
 pub ocmp_range : (k : ℕ) → is_ocmp k ≡ true → (0x30 ≤ k) × (k ≤ 0x35)
@@ -32,22 +32,9 @@ ins_range k h =
     let e = and_parts (leb 0x01 k) (leb k 0x1b) h in
     (leb-true 0x01 k e.0, leb-true k 0x1b e.1)
 
-not_ins : (k : ℕ) (r : Class) → r ≡ class k → (tag r ≡ 0 → ⊥) → is_ins k ≡ false
-not_ins k r of g = go (is_ins k) refl
-  where
-    go : (t : Bool) → is_ins k ≡ t → is_ins k ≡ false
-    go true h = absurd (g (let e : r ≡ Instruction = of ∙ class_ins k h in rw e refl))
-    go false h = h
-
 -- ---- whether numbers are an instruction's or a comparison's
 
 module _ (n : Numbers) {r : Class} (of : r ≡ class n.kind) where
-  pub ins_used : r ≡ Instruction → is_used n.kind ≡ true
-  ins_used h = code_used n.kind (ins_is_code n.kind (ins_kind n.kind r of h))
-
-  pub ocmp_is_used : r ≡ Comparison → is_used n.kind ≡ true
-  ocmp_is_used h = ocmp_used n.kind (ocmp_kind n.kind r of h)
-
   pub few_ins : {count : ℕ} → r ≡ Instruction → count ≡ operand_count n.kind → count ≤ 3
   few_ins h e =
       let range = (ins_range n.kind (ins_kind n.kind r of h)).1 in
@@ -58,42 +45,8 @@ module _ (n : Numbers) {r : Class} (of : r ≡ class n.kind) where
       let range = (ocmp_range n.kind (ocmp_kind n.kind r of h)).1 in
       omega (arith, (counts n.kind (omega arith)).1)
 
-  pub is_ins_given :
-      {t : Bool} {count : ℕ} → r ≡ Instruction → count ≡ operand_count n.kind → t ≡ operands_given count n → t ≡ is_instruction n
-  unfolding is_instruction
-  is_ins_given h e f = f ∙ rw (e, ins_kind n.kind r of h) refl
-
-  pub is_ocmp_given :
-      {t : Bool} {count : ℕ} → r ≡ Comparison → count ≡ operand_count n.kind → t ≡ operands_given count n → t ≡ is_comparison n
-  unfolding is_comparison
-  is_ocmp_given h e f = f ∙ rw (e, ocmp_kind n.kind r of h) refl
-
-  pub no_ins_given : (r ≡ Instruction → ⊥) → false ≡ is_instruction n
-  unfolding is_instruction
-  no_ins_given h = rw (not_ins n.kind r of (no_0 r h)) refl
-
-  pub no_ocmp_given : (r ≡ Comparison → ⊥) → false ≡ is_comparison n
-  unfolding is_comparison
-  no_ocmp_given h = rw (not_ocmp n.kind r of (no_2 r h)) refl
-
 -- ---- what they give
 module _ (n : Numbers) where
-  pub gives_none : {t : Bool} → t ≡ is_instruction n → t ≡ false → None ≡ instruction_given n
-  unfolding instruction_given
-  gives_none {t} e h = rw (sym e, h) refl
-
-  pub gives_no_comparison : {t : Bool} → t ≡ is_comparison n → t ≡ false → None ≡ comparison_given n
-  unfolding comparison_given
-  gives_no_comparison {t} e h = rw (sym e, h) refl
-
-  pub given_kind : {t : Bool} → t ≡ is_instruction n → t ≡ true → is_ins n.kind ≡ true
-  unfolding is_instruction
-  given_kind {t} e h = (and_parts (is_ins n.kind) _ (sym e ∙ h)).0
-
-  pub given_ocmp : {t : Bool} → t ≡ is_comparison n → t ≡ true → is_ocmp n.kind ≡ true
-  unfolding is_comparison
-  given_ocmp {t} e h = (and_parts (is_ocmp n.kind) _ (sym e ∙ h)).0
-
   pub gives_comparison :
       {t : Bool} {a b : Operand} {c : Ocmp} → t ≡ is_comparison n → t ≡ true → a ≡ operand_of n 0 → b ≡ operand_of n 1
       → ((os : List Operand) → c ≡ ocmp_of n.kind (a ∷ b ∷ os)) → Some c ≡ comparison_given n

@@ -21,6 +21,7 @@ pub struct Numbers {
 }
 
 // Operand i; a kind that is none is read as a constant.
+#[tactic(auto, unfolding(crate::specs::Given::operand_of))]
 pub fn operand_of(given: Numbers, i: usize) -> Operand
     requires { i < 3 }
     ensures { result ≡ operand_of given i }
@@ -45,6 +46,7 @@ pub fn operand_of(given: Numbers, i: usize) -> Operand
 }
 
 // Whether operand i has an operand's kind.
+#[tactic(auto, unfolding(crate::specs::Given::operand_given, code::specs::Kinds::class))]
 fn is_operand(given: Numbers, i: usize) -> bool
     requires { i < 3 }
     ensures { result ≡ operand_given given i }

@@ -10,6 +10,7 @@ use code::{Class, Instruction, Ocmp, class_of, operand_count};
 use machine::Operand;
 
 // Whether the kind is an instruction's, and each of its operands has an operand's kind.
+#[tactic(auto, using(crate::proofs::KindsGiven::few_ins), unfolding(crate::specs::Given::is_instruction, code::specs::Kinds::class))]
 fn is_instruction(given: Numbers) -> bool
     ensures { result ≡ is_instruction given }
 {
@@ -19,6 +20,7 @@ fn is_instruction(given: Numbers) -> bool
     }
 }
 
+#[tactic(auto, using(crate::proofs::KindsGiven::few_ocmp), unfolding(crate::specs::Given::is_comparison, code::specs::Kinds::class))]
 fn is_comparison(given: Numbers) -> bool
     ensures { result ≡ is_comparison given }
 {
@@ -111,6 +113,7 @@ fn comparison(kind: u8, a: Operand, b: Operand) -> Ocmp
 }
 
 // The instruction: a kind that is none of an instruction's, or of its operands', gives none.
+#[tactic(auto, unfolding(crate::specs::Values::instruction_given, crate::specs::Given::is_instruction))]
 pub fn instruction_of(given: Numbers) -> Option<Instruction>
     ensures { result ≡ instruction_given given }
 {
@@ -132,6 +135,7 @@ pub fn instruction_of(given: Numbers) -> Option<Instruction>
 }
 
 // The comparison, likewise.
+#[tactic(auto, unfolding(crate::specs::Values::comparison_given, crate::specs::Given::is_comparison))]
 pub fn comparison_of(given: Numbers) -> Option<Ocmp>
     ensures { result ≡ comparison_given given }
 {

@@ -1,21 +1,7 @@
 -- The kind says which group makes the instruction.
-use native.Mathlib.Omega.{arith}
 use Rattle.numbered.specs.Given.{operands_of}
-use Rattle.numbered.proofs.KindsGiven.{gives_none, given_kind, ins_range, gives, of_operands, of_both}
+use Rattle.numbered.proofs.KindsGiven.{gives, of_operands, of_both}
 use Rattle.numbered.proofs.values.instruction_of.Goals as goal
-
-pub returns-then-not-is_instruction : goal.returns-then-not-is_instruction
-returns-then-not-is_instruction c = search gives_none
-
-pub sums-requires : goal.sums-requires
-sums-requires c =
-    let range = ins_range c.args.given.kind (given_kind _ c.is_instruction.ensures c.if-not-is_instruction.false) in
-    (range.0, omega arith)
-
-pub counts-requires : goal.counts-requires
-counts-requires c =
-    let range = ins_range c.args.given.kind (given_kind _ c.is_instruction.ensures c.if-not-is_instruction.false) in
-    (omega arith, range.1)
 
 pub returns-in-0-to-7 : goal.returns-in-0-to-7
 returns-in-0-to-7 c =
