@@ -10,6 +10,7 @@ use machine::State;
 
 // 0 where it does not hold, 1 where it holds, or the number with which the run ends there; and, where both
 // operands were read, the place behind.
+// A number beside the values and no Result: docs/DECISIONS.md, "Numbers that come back".
 #[derive(Clone, Copy)]
 pub struct Compared {
     pub how: u8,

@@ -14,6 +14,7 @@ use code::{Form, form_at, memory_at, operand_behind};
 use machine::{NoCell, State, cell_of};
 
 // A source: 0 or the number of the check that fails, its word, and the place behind its record.
+// A number beside the values and no Result: docs/DECISIONS.md, "Numbers that come back".
 #[derive(Clone, Copy)]
 pub struct Loaded {
     pub number: u8,
@@ -23,6 +24,7 @@ pub struct Loaded {
 
 // A destination: 0 where it is a register, 1 where it is a cell, or the number of the check that fails;
 // which register or cell; the word that it holds; and the place behind its record.
+// A number beside the values and no Result: docs/DECISIONS.md, "Numbers that come back".
 #[derive(Clone, Copy)]
 pub struct Slot {
     pub how: u8,
@@ -32,6 +34,7 @@ pub struct Slot {
 }
 
 // The cell of a memory operand: 0 or the number of the check that fails, and which cell.
+// A number beside the values and no Result: docs/DECISIONS.md, "Numbers that come back".
 #[derive(Clone, Copy)]
 pub struct Sought {
     pub number: u8,

@@ -30,12 +30,11 @@ pub fn step_instruction(
             place: at,
         };
     }
-    let kind = lent.code[at];
     let ran = instruction(lent, at, state, values);
     if ran.number != 0 {
         return ran;
     }
-    counter.count_instruction(kind, at, lent.evaluation);
+    counter.count_instruction(lent.code[at], at, lent.evaluation);
     ran
 }
 
