@@ -3,7 +3,7 @@ ghost use Rattle.job.specs.Job.{Complete, Room, Holding, start_of};
 
 use code::number8;
 
-// Each cell is 17 bytes: address, tag, value.
+// Each cell is 17 bytes: address, tag, value. By index, since three lists are filled.
 pub fn read_cells(input: &[u8], addresses: &mut [u64], tags: &mut [u8], values: &mut [u64])
     requires complete { Complete input.now }
     requires room { Room input.now addresses.old tags.old values.old }

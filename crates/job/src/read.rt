@@ -11,6 +11,7 @@ use machine::{Refusal, Rule, State};
 // No job is stopped that ends in our time.
 const LARGEST_LIMIT: u64 = u64::MAX;
 
+// Two loops, and not one over both element types: it would take size, stride, place and the reading itself from its caller.
 fn read_regs(input: &[u8]) -> [u64; 16]
     requires { 148 ≤ length input.now }
     ensures { result ≡ numbers 8 8 16 input.now 20 }
