@@ -5,7 +5,8 @@ ghost use Rattle.builder.specs.Rendered.{part_of, Closable};
 ghost use Rattle.builder.specs.Building.{empty, field_of, is_part, takes_code, takes_close, longer, opened, turned, shut, build_after};
 
 // What a build holds besides its bytes, which stand at the front of the lent buffer: how many they are, and the open
-// parts, outermost first. A part has a kind, the place of the length that counts it, and the place where it begins.
+// parts, outermost first. A part has a kind, the place of the length that counts it, and the place where it begins: three arrays and no
+// array of structs, as C lends them (`pokchrei_build`).
 #[derive(Clone, Copy, PartialEq, Eq)]
 pub struct Build {
     pub length: u16,

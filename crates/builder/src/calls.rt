@@ -52,7 +52,12 @@ fn check_fields(bytes: &[u8], at: usize) -> Result<(), BuildRefusal>
 {
     match read_rest(bytes, bytes.len(), at) {
         Ok(_) => Ok(()),
-        Err(Refusal { rule: Rule::Scale, .. }) => Err(BuildRefusal::NoScale),
+        Err(
+            Refusal {
+                rule: Rule::Scale,
+                ..
+            },
+        ) => Err(BuildRefusal::NoScale),
         Err(_) => Err(BuildRefusal::NoRegister),
     }
 }

@@ -1,4 +1,5 @@
 // Instructions and comparisons as records, by the parts of their layouts.
+// A kind is the byte that stands in the code, and no enum: docs/DECISIONS.md, "A kind is a byte".
 ghost use Rattle.std.specs.Prelude.{◌≡◌, [], ◌∷◌};
 ghost use Rattle.code.specs.Layout.{laid, number, amount, layout, ocmp_layout};
 ghost use Rattle.builder.specs.Rendered.{layout_of};

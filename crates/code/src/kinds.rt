@@ -1,5 +1,6 @@
 // The kinds of records: what a kind byte is, the table of body lengths and operand counts, and the
 // instructions of a destination and a source.
+// A kind is the byte that stands in the code, and no enum: docs/DECISIONS.md, "A kind is a byte".
 ghost use Rattle.std.specs.Prelude.{◌≡◌, true, ◌<◌};
 ghost use Rattle.code.specs.Records.{body_length, operand_count};
 ghost use Rattle.code.specs.Families.{is_two};

@@ -4,7 +4,7 @@ ghost use Rattle.eval.specs.declared.answer.Answer.TheVariants.{Refused};
 
 use machine::{Refusal, State};
 
-// How a run ended: each but a run that is done has a place.
+// How a run ended: each but a run that is done has a place. Numbers are those that C and the job program tell.
 #[derive(Clone, Copy)]
 pub enum Answer {
     Done,

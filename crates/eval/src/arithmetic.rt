@@ -1,4 +1,5 @@
 // The words and flags of the instructions of a destination and a source.
+// A kind is the byte that stands in the code, and no enum: docs/DECISIONS.md, "A kind is a byte".
 ghost use Rattle.std.specs.Prelude.{◌≡◌, true, false, ℕ, ◌+◌, eqb};
 ghost use Rattle.words.specs.Bits.{bit};
 ghost use Rattle.words.specs.Flags as Flags;

@@ -1,4 +1,5 @@
 // Comparisons: whether both operands can be read, and what then holds.
+// A kind is the byte that stands in the code, and no enum: docs/DECISIONS.md, "A kind is a byte".
 ghost use Rattle.std.specs.Prelude.{◌≡◌, true, length};
 ghost use Rattle.code.specs.Records.{is_ocmp};
 ghost use Rattle.eval.specs.Config.{config};

@@ -1,5 +1,6 @@
 // What is counted in a run, and the watch over the flags that the fill word sets. What a kind does
 // to them stands in words of bits, one or two for a kind, carry below overflow, so that no table in memory is read.
+// A kind is the byte that stands in the code, and no enum: docs/DECISIONS.md, "A kind is a byte".
 ghost use Rattle.std.specs.Prelude.{◌≡◌, true, false, ℕ, ◌+◌, ◌/◌, ◌%◌, ◌^◌, ◌<◌, eqb};
 ghost use Rattle.std.proofs.Math.Option.{some};
 ghost use Rattle.code.specs.Records.{is_ocmp};

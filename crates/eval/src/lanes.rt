@@ -1,4 +1,5 @@
 // Instructions on the four words of an xmm.
+// A kind is the byte that stands in the code, and no enum: docs/DECISIONS.md, "A kind is a byte".
 ghost use Rattle.std.specs.Prelude.{◌≡◌, true, List, ℕ, ◌+◌, ◌<◌, ◌≤◌, length, get_or};
 ghost use Rattle.words.specs.Types.{quad32};
 ghost use Rattle.code.specs.declared.tree.Instruction.TheVariants.{Pshufd, VPSLLDQ, Pextrq};

@@ -6,7 +6,7 @@ use crate::answer::Evaluation;
 #[derive(Clone, Copy)]
 pub struct Lent<'a> {
     pub code: &'a [u8],
-    // The cells' addresses and tags; their values, which a run changes, are lent beside.
+    // The cells' addresses and tags, two lists as C lends them; their values, which a run changes, are lent beside.
     pub addresses: &'a [u64],
     pub tags: &'a [u8],
     pub fill: u64,

@@ -1,4 +1,5 @@
 // Instructions that write one destination of one or two sources: moves, additions, logic, shifts and counts.
+// A kind is the byte that stands in the code, and no enum: docs/DECISIONS.md, "A kind is a byte".
 ghost use Rattle.std.specs.Prelude.{◌≡◌, true, ◌&&◌, ℕ, ◌+◌, leb, get_or, length};
 ghost use Rattle.code.specs.declared.tree.Instruction.TheVariants.{AddLea64};
 ghost use Rattle.code.specs.Records.{operand_at, behind};

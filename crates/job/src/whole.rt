@@ -1,4 +1,5 @@
 // A job as a whole: checked, read, run, printed.
+// Cells are three lists, as the evaluator takes them: docs/DECISIONS.md, "Cells are three lists".
 ghost use Rattle.std.specs.Prelude.{◌≡◌, ◌≤◌, length};
 ghost use Rattle.machine.specs.Cells.{accepted};
 ghost use Rattle.job.specs.Job.{Complete, Room, Holding, code_of, state_of, setting_of, start_of, check_job, output, printed, run_of_job, Lists};

@@ -1,4 +1,5 @@
 // The lent cells: checking them, and finding the 64-bit cell at an address.
+// They are three lists, as C lends them, and no list of structs: docs/DECISIONS.md, "Cells are three lists".
 
 ghost use Rattle.std.specs.Prelude.{◌≡◌, ℕ, ◌+◌, ◌-◌, ◌/◌, ◌^◌, ◌<◌, length, drop, pos, if◌then◌else◌, slice_index};
 ghost use Rattle.machine.specs.Operands.{RightFields, eval_maddr};

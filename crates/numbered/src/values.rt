@@ -1,4 +1,5 @@
 // The instruction or the comparison that numbers give.
+// A kind is the byte that stands in the code, and no enum: docs/DECISIONS.md, "A kind is a byte".
 ghost use Rattle.std.specs.Prelude.{◌≡◌, true, List, [], ◌∷◌, ℕ, ◌≤◌};
 ghost use Rattle.code.specs.Layout.{ins_of, ocmp_of};
 ghost use Rattle.code.specs.Records.{is_ocmp};
