@@ -29,22 +29,13 @@ const MOST: u16 = 32;
 pub fn begin() -> Build
     ensures { result ≡ empty }
 {
-    let parts = [0u8; 32];
-    let fields = [0u16; 32];
-    let starts = [0u16; 32];
     Build {
         length: 0,
         depth: 0,
-        parts,
-        fields,
-        starts,
+        parts: [0; 32],
+        fields: [0; 32],
+        starts: [0; 32],
     }
-}
-
-pub fn wide(n: u16) -> usize
-    ensures { result ≡ n }
-{
-    n as usize
 }
 
 // The innermost open part.
@@ -59,7 +50,7 @@ pub fn innermost(build: Build) -> Part
     requires { (0 < build.depth) × (build.depth ≤ 32) }
     ensures { result ≡ part_of build }
 {
-    let i = build.depth as usize - 1;
+    let i = usize::from(build.depth) - 1;
     Part {
         kind: build.parts[i],
         field: build.fields[i],
@@ -77,7 +68,7 @@ fn left_part(build: Build) -> Option<Part>
         return None;
     }
     let part = innermost(build);
-    let behind_length = wide(part.field) + 4 <= wide(part.start);
+    let behind_length = usize::from(part.field) + 4 <= usize::from(part.start);
     if part.kind <= LAST_PART && behind_length && part.start <= build.length {
         Some(part)
     } else {
@@ -111,23 +102,21 @@ pub fn takes_close(build: Build) -> bool
     }
 }
 
-pub fn longer(build: Build, n: usize) -> Build
+pub fn longer(mut build: Build, n: usize) -> Build
     requires { build.length + n ≤ 16384 }
     ensures { result ≡ longer build n }
 {
-    let mut build = build;
-    build.length = (build.length as usize + n) as u16;
+    build.length = (usize::from(build.length) + n) as u16;
     build
 }
 
-pub fn opened(kind: u8, build: Build, n: usize) -> Build
+pub fn opened(kind: u8, mut build: Build, n: usize) -> Build
     requires { (build.depth < 32) × (build.length + n ≤ 16384) }
     ensures { result ≡ opened kind build n }
 {
-    let mut build = build;
-    let i = build.depth as usize;
+    let i = usize::from(build.depth);
     let length = build.length;
-    let end = (length as usize + n) as u16;
+    let end = (usize::from(length) + n) as u16;
     build.parts[i] = kind;
     build.fields[i] = length + 1;
     build.starts[i] = end;
@@ -137,23 +126,21 @@ pub fn opened(kind: u8, build: Build, n: usize) -> Build
 }
 
 // The true part's place is taken by the false part, whose length stands behind the true part's.
-fn turned(build: Build) -> Build
+fn turned(mut build: Build) -> Build
     requires { (0 < build.depth) × (build.depth ≤ 32) × (field_of build + 4 ≤ 16384) }
     ensures { result ≡ turned build }
 {
-    let mut build = build;
-    let i = build.depth as usize - 1;
+    let i = usize::from(build.depth) - 1;
     build.parts[i] = LAST_PART;
     build.fields[i] += 4;
     build.starts[i] = build.length;
     build
 }
 
-fn shut(build: Build) -> Build
+fn shut(mut build: Build) -> Build
     requires { 0 < build.depth }
     ensures { result ≡ shut build }
 {
-    let mut build = build;
     build.depth -= 1;
     build
 }
