@@ -5,7 +5,8 @@ ghost use Rattle.builder.specs.Rendered.{part_of, Closable};
 ghost use Rattle.builder.specs.Building.{empty, field_of, is_part, takes_code, takes_close, longer, opened, turned, shut, build_after};
 
 // What a build holds besides its bytes, which stand at the front of the lent buffer: how many they are, and the open
-// parts, outermost first. A part has a kind, the place of the length that counts it, and the place where it begins.
+// parts, outermost first. A part has a kind, the place of the length that counts it, and the place where it begins; they
+// stand in arrays side by side, since C lends them so (`pokchrei_build`).
 #[derive(Clone, Copy, PartialEq, Eq)]
 pub struct Build {
     pub length: u16,
@@ -16,7 +17,7 @@ pub struct Build {
 }
 
 // The kinds of parts: a Block's codes; an IfElse's true part; and a part whose close completes its structure, an IfElse's
-// false part or a While's. Bytes and no enum: the parts are an array that C lends (`pokchrei_build`), in which any may stand.
+// false part or a While's. Bytes and no enum: in the array that C lends any may stand, and each is answered (`call`).
 pub const CODES: u8 = 0;
 
 pub const TRUE_PART: u8 = 1;
