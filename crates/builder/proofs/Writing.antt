@@ -1,13 +1,9 @@
--- Writes that follow each other write the joined text; the bytes of a number one by one; two's complement.
-use Prim.Native.Nat.{ℕ, suc, ◌+◌, ◌-◌, ◌*◌, ◌/◌, ◌%◌, ◌^◌, ◌≤◌, ◌<◌}
-use mathlib.Core.Path.{◌≡◌, refl, sym, ap, ◌∙◌}
+-- The bytes of a number, one by one. Assumes nothing.
+use Prim.Native.Nat.{ℕ, suc, ◌+◌, ◌-◌, ◌/◌, ◌%◌, ◌≤◌, ◌<◌}
+use mathlib.Core.Path.{◌≡◌, sym, ap, ◌∙◌}
 use mathlib.Core.List.{List, [], ◌∷◌, ◌++◌, append_assoc, append-nil}
 use native.Mathlib.Omega.{arith}
-use lib.IntN.{ℤ, pos, negsuc}
-use Rattle.code.specs.Writer.{bytes_of, signed_bytes}
-use Rattle.builder.specs.Rendered.{complement}
-
--- ---- a number, byte by byte
+use Rattle.code.specs.Writer.{bytes_of}
 
 -- the lowest byte, and those of what is left
 pub number_step :
@@ -23,10 +19,3 @@ unfolding bytes_of
 number_done all i count rest h =
     let none : count - i ≡ 0 = omega arith in
     ap (λ (n : ℕ). all ++ bytes_of n rest) none ∙ append-nil all
-
--- ---- two's complement
-
-pub signed_complement : (n : ℕ) (z : ℤ) → bytes_of n (complement z (2 ^ (8 * n) - 1)) ≡ signed_bytes n z
-unfolding signed_bytes
-signed_complement n (pos k) = refl
-signed_complement n (negsuc k) = refl

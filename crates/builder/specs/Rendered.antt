@@ -1,5 +1,5 @@
--- What the functions below the calls promise: how a record passes from value to bytes, what reading these finds, and which builds are closed.
-use Rattle.std.specs.Prelude.{ℕ, ◌+◌, ◌-◌, ◌≤◌, ◌<◌, ◌≡◌, ◌⊎◌, List, [], ◌∷◌, ℤ, pos, negsuc}
+-- What the functions below the calls promise: the layout of a record, what reading its bytes finds, and which builds are closed.
+use Rattle.std.specs.Prelude.{ℕ, ◌+◌, ◌≤◌, ◌<◌, ◌≡◌, ◌⊎◌, List, [], ◌∷◌}
 use Rattle.machine.specs.declared.Operand.{Operand}
 use Rattle.code.specs.Layout.{Byte, number, amount, Layout, laid}
 use Rattle.code.specs.Reader.{Read, got, trouble}
@@ -30,11 +30,6 @@ operands_of (Three a b c) = a ∷ b ∷ c ∷ []
 -- the layout that a record has
 abbrev pub layout_of : Record → Layout
 layout_of r = laid r.kind (body_of r.body) (operands_of r.operands)
-
--- a signed number as an unsigned one, two's complement: `most` is 2^(8n) - 1 for n bytes, and negsuc k is -(k + 1)
-abbrev pub complement : ℤ → ℕ → ℕ
-complement (pos k) most = k
-complement (negsuc k) most = most - k
 
 -- the number of a reading's trouble, 0 where it has none
 abbrev pub trouble_of : Read (Unit {0}) → ℕ

@@ -5,8 +5,8 @@ ghost use Rattle.builder.specs.Rendered.{part_of, Closable};
 ghost use Rattle.builder.specs.Building.{empty, field_of, is_part, takes_code, takes_close, longer, opened, turned, shut, build_after};
 
 // What a build holds besides its bytes, which stand at the front of the lent buffer: how many they are, and the open
-// parts, outermost first. A part has a kind, the place of the length that counts it, and the place where it begins: three arrays and no
-// array of structs, as C lends them (`pokchrei_build`).
+// parts, outermost first. A part has a kind, the place of the length that counts it, and the place where it begins; they
+// stand in arrays side by side, since C lends them so (`pokchrei_build`).
 #[derive(Clone, Copy, PartialEq, Eq)]
 pub struct Build {
     pub length: u16,
@@ -17,7 +17,7 @@ pub struct Build {
 }
 
 // The kinds of parts: a Block's codes; an IfElse's true part; and a part whose close completes its structure, an IfElse's
-// false part or a While's. Bytes and no enum: the parts are an array that C lends (`pokchrei_build`), in which any may stand.
+// false part or a While's. Bytes and no enum: in the array that C lends any may stand, and each is answered (`call`).
 pub const CODES: u8 = 0;
 
 pub const TRUE_PART: u8 = 1;
@@ -30,22 +30,13 @@ const MOST: u16 = 32;
 pub fn begin() -> Build
     ensures { result ≡ empty }
 {
-    let parts = [0u8; 32];
-    let fields = [0u16; 32];
-    let starts = [0u16; 32];
     Build {
         length: 0,
         depth: 0,
-        parts,
-        fields,
-        starts,
+        parts: [0; 32],
+        fields: [0; 32],
+        starts: [0; 32],
     }
-}
-
-pub fn wide(n: u16) -> usize
-    ensures { result ≡ n }
-{
-    n as usize
 }
 
 // The innermost open part.
@@ -60,7 +51,7 @@ pub fn innermost(build: Build) -> Part
     requires { (0 < build.depth) × (build.depth ≤ 32) }
     ensures { result ≡ part_of build }
 {
-    let i = build.depth as usize - 1;
+    let i = usize::from(build.depth) - 1;
     Part {
         kind: build.parts[i],
         field: build.fields[i],
@@ -78,7 +69,7 @@ fn left_part(build: Build) -> Option<Part>
         return None;
     }
     let part = innermost(build);
-    let behind_length = wide(part.field) + 4 <= wide(part.start);
+    let behind_length = usize::from(part.field) + 4 <= usize::from(part.start);
     if part.kind <= LAST_PART && behind_length && part.start <= build.length {
         Some(part)
     } else {
@@ -112,23 +103,21 @@ pub fn takes_close(build: Build) -> bool
     }
 }
 
-pub fn longer(build: Build, n: usize) -> Build
+pub fn longer(mut build: Build, n: usize) -> Build
     requires { build.length + n ≤ 16384 }
     ensures { result ≡ longer build n }
 {
-    let mut build = build;
-    build.length = (build.length as usize + n) as u16;
+    build.length = (usize::from(build.length) + n) as u16;
     build
 }
 
-pub fn opened(kind: u8, build: Build, n: usize) -> Build
+pub fn opened(kind: u8, mut build: Build, n: usize) -> Build
     requires { (build.depth < 32) × (build.length + n ≤ 16384) }
     ensures { result ≡ opened kind build n }
 {
-    let mut build = build;
-    let i = build.depth as usize;
+    let i = usize::from(build.depth);
     let length = build.length;
-    let end = (length as usize + n) as u16;
+    let end = (usize::from(length) + n) as u16;
     build.parts[i] = kind;
     build.fields[i] = length + 1;
     build.starts[i] = end;
@@ -138,23 +127,21 @@ pub fn opened(kind: u8, build: Build, n: usize) -> Build
 }
 
 // The true part's place is taken by the false part, whose length stands behind the true part's.
-fn turned(build: Build) -> Build
+fn turned(mut build: Build) -> Build
     requires { (0 < build.depth) × (build.depth ≤ 32) × (field_of build + 4 ≤ 16384) }
     ensures { result ≡ turned build }
 {
-    let mut build = build;
-    let i = build.depth as usize - 1;
+    let i = usize::from(build.depth) - 1;
     build.parts[i] = LAST_PART;
     build.fields[i] += 4;
     build.starts[i] = build.length;
     build
 }
 
-fn shut(build: Build) -> Build
+fn shut(mut build: Build) -> Build
     requires { 0 < build.depth }
     ensures { result ≡ shut build }
 {
-    let mut build = build;
     build.depth -= 1;
     build
 }

@@ -11,7 +11,6 @@ ghost use Rattle.builder.specs.Building.{takes_code, judge, refusal, buffer_afte
 
 use crate::build::{
     Build, CODES, LAST_PART, TRUE_PART, closed, innermost, longer, opened, takes_close, takes_code,
-    wide,
 };
 use crate::record::{record_of, record_of_ocmp};
 use crate::refusal::BuildRefusal;
@@ -77,8 +76,8 @@ fn append(
     ensures err { OnErr result (buffer.new ≡ buffer.old) }
 {
     let fits = takes_code(build);
-    let depth = wide(build.depth) + 1;
-    let length = wide(build.length);
+    let depth = usize::from(build.depth) + 1;
+    let length = usize::from(build.length);
     judge(fits, fields, depth, length + bytes.len(), buffer.len())?;
     copy(buffer, length, bytes);
     Ok(())
@@ -163,7 +162,13 @@ fn judge_close(build: Build, room: usize) -> Result<(), BuildRefusal>
     ensures { answer_of result ≡ refusal close build room }
 {
     let fits = takes_close(build);
-    judge(fits, Ok(()), wide(build.depth), wide(build.length), room)
+    judge(
+        fits,
+        Ok(()),
+        usize::from(build.depth),
+        usize::from(build.length),
+        room,
+    )
 }
 
 // Stores the length of the innermost part where it is counted.
@@ -173,10 +178,10 @@ fn store_length(build: Build, buffer: &mut [u8])
     ensures { buffer.new ≡ buffer_after close build buffer.old }
 {
     let part = innermost(build);
-    let counted = wide(build.length) - wide(part.start);
+    let counted = usize::from(build.length) - usize::from(part.start);
     let mut bytes = Bytes::new();
     put_number(&mut bytes, counted as u64, 4);
-    copy(buffer, wide(part.field), &bytes);
+    copy(buffer, usize::from(part.field), &bytes);
 }
 
 #[tactic(auto, using(crate::proofs::Calling::closable, crate::proofs::Calling::in_limit), unfolding(crate::specs::Building::call))]

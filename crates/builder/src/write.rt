@@ -1,17 +1,17 @@
 // Records into a short vector, from where they are copied to the buffer once the call is taken. The longest record has 40
 // bytes, and 9 stand before a comparison; the room is counted more simply, 3 bytes of body and 3 operands of 13.
-ghost use Rattle.std.specs.Prelude.{◌≡◌, [], ◌∷◌, ◌++◌, map, ◌+◌, ◌≤◌, nat_abs, length};
+ghost use Rattle.std.specs.Prelude.{◌≡◌, [], ◌∷◌, ◌++◌, map, ◌+◌, ◌≤◌, length};
 ghost use Rattle.std.proofs.lemmas.List.Edits.{sets};
 ghost use Rattle.arrayvec.specs.ArrayVec.{array_vec_len};
 ghost use Rattle.code.specs.Layout.{values};
 ghost use Rattle.code.specs.WellFormed.{All};
 ghost use Rattle.code.specs.Writer.{bytes_of, signed_bytes, bytes_of_maddr, bytes_of_operand, bytes_of_operands, bytes_of_record};
 ghost use Rattle.builder.specs.Calls.{MaddrTyped, OperandTyped, ByteTyped, RecordTyped};
-ghost use Rattle.builder.specs.Rendered.{body_of, operands_of, layout_of, complement};
+ghost use Rattle.builder.specs.Rendered.{body_of, operands_of, layout_of};
 
 use crate::record::{Body, Operands, Record};
 use arrayvec::ArrayVec;
-use machine::{Maddr, Operand, magnitude};
+use machine::{Maddr, Operand};
 
 // The bytes that a call adds.
 pub type Bytes = ArrayVec<u8, 52>;
@@ -29,31 +29,23 @@ pub fn put_number(out: &mut Bytes, number: u64, count: usize)
     }
 }
 
-// A signed number of n bytes as an unsigned one, two's complement: `most` is 2^(8n) - 1.
-fn unsigned(x: i64, most: u64) -> u64
-    requires { nat_abs x ≤ most }
-    ensures { result ≡ complement x most }
-{
-    let size = magnitude(x);
-    if x < 0 { most - (size - 1) } else { size }
-}
-
-#[tactic(auto, using(crate::proofs::Writing::signed_complement))]
+// A signed number, two's complement.
+#[tactic(auto, unfolding(code::specs::Writer::signed_bytes))]
 fn put_offset(out: &mut Bytes, offset: i64)
     requires { array_vec_len out.old + 8 ≤ 52 }
     ensures bytes { out.new.items ≡ out.old.items ++ signed_bytes 8 offset }
     ensures len { array_vec_len out.new ≡ array_vec_len out.old + 8 }
 {
-    put_number(out, unsigned(offset, 0xffff_ffff_ffff_ffff), 8);
+    put_number(out, offset.cast_unsigned(), 8);
 }
 
-#[tactic(auto, using(crate::proofs::Writing::signed_complement))]
+#[tactic(auto, unfolding(code::specs::Writer::signed_bytes))]
 fn put_scale(out: &mut Bytes, scale: i16)
     requires { array_vec_len out.old + 2 ≤ 52 }
     ensures bytes { out.new.items ≡ out.old.items ++ signed_bytes 2 scale }
     ensures len { array_vec_len out.new ≡ array_vec_len out.old + 2 }
 {
-    put_number(out, unsigned(scale as i64, 0xffff), 2);
+    put_number(out, u64::from(scale.cast_unsigned()), 2);
 }
 
 #[tactic(auto, unfolding(code::specs::Writer::bytes_of_maddr, crate::specs::Calls::MaddrTyped))]

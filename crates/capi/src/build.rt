@@ -1,4 +1,6 @@
-// The builder's calls. A build passes as five lent numbers and arrays, an instruction or a comparison as numbers and arrays.
+// The builder's calls. A build passes as five lent numbers and arrays, an instruction or a comparison as numbers and arrays:
+// the parameters that travel together are those of the C interface (include/pokchrei.h). The five calls differ in the
+// call of the builder whose result `answer` is given; to pass that call as a closure would take the same parameters and more.
 ghost use Rattle.std.specs.Prelude.{◌≡◌, ℕ, List};
 ghost use Rattle.builder.specs.Calls.{open_block, close};
 ghost use Rattle.builder.specs.Building.{empty, outcome, left, call};
@@ -66,6 +68,7 @@ fn hand_back(
 )
     ensures { left_build length depth parts fields starts ≡ build }
 {
+    // A field that is an array is not stored straight from a struct: "the borrow checker does not cover this function yet".
     let Build {
         parts: new_parts,
         fields: new_fields,
@@ -173,11 +176,11 @@ pub extern "C" fn pokchrei_open_if_else(
     let given = lent_numbers(
         kind, body, operands, bases, indexes, scales, numbers, offsets,
     );
-    let Some(value) = comparison_of(given) else {
+    let Some(condition) = comparison_of(given) else {
         return NO_VALUE;
     };
     let build = lent_build(*length, *depth, parts, fields, starts);
-    let called = open_if_else(build, buffer, value);
+    let called = open_if_else(build, buffer, condition);
     answer(called, length, depth, parts, fields, starts)
 }
 
@@ -208,11 +211,11 @@ pub extern "C" fn pokchrei_open_while(
     let given = lent_numbers(
         kind, body, operands, bases, indexes, scales, numbers, offsets,
     );
-    let Some(value) = comparison_of(given) else {
+    let Some(condition) = comparison_of(given) else {
         return NO_VALUE;
     };
     let build = lent_build(*length, *depth, parts, fields, starts);
-    let called = open_while(build, buffer, value);
+    let called = open_while(build, buffer, condition);
     answer(called, length, depth, parts, fields, starts)
 }
 
@@ -242,10 +245,10 @@ pub extern "C" fn pokchrei_add(
     let given = lent_numbers(
         kind, body, operands, bases, indexes, scales, numbers, offsets,
     );
-    let Some(value) = instruction_of(given) else {
+    let Some(instruction) = instruction_of(given) else {
         return NO_VALUE;
     };
     let build = lent_build(*length, *depth, parts, fields, starts);
-    let called = add(build, buffer, value);
+    let called = add(build, buffer, instruction);
     answer(called, length, depth, parts, fields, starts)
 }

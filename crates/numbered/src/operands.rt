@@ -7,8 +7,8 @@ use machine::{Maddr, Operand, Reg};
 use words::{signed16, signed64};
 
 // A kind, the bytes of a body, and up to three operands: their kinds, registers or bases, indexes, scales, constants or
-// addresses, and offsets; scales and offsets in two's complement. What the kind does not have is not looked at. A column for each field
-// and no array of operands, as C lends them.
+// addresses, and offsets; scales and offsets in two's complement. What the kind does not have is not looked at. Arrays side
+// by side, since C lends them so (`pokchrei_add`).
 #[derive(Clone, Copy)]
 pub struct Numbers {
     pub kind: u8,
