@@ -16,7 +16,7 @@ use crate::record::{record_of, record_of_ocmp};
 use crate::refusal::BuildRefusal;
 use crate::write::{Bytes, copy, put_number, put_record};
 use code::{Instruction, Ocmp, read_rest};
-use machine::{Refusal, Rule};
+use machine::Rule;
 
 // The first refusal whose condition holds.
 #[tactic(auto, unfolding(crate::specs::Building::judge, crate::specs::Building::unless, crate::specs::Calls::first_of))]
@@ -51,13 +51,10 @@ fn check_fields(bytes: &[u8], at: usize) -> Result<(), BuildRefusal>
 {
     match read_rest(bytes, bytes.len(), at) {
         Ok(_) => Ok(()),
-        Err(
-            Refusal {
-                rule: Rule::Scale,
-                ..
-            },
-        ) => Err(BuildRefusal::NoScale),
-        Err(_) => Err(BuildRefusal::NoRegister),
+        Err(refusal) => Err(match refusal.rule {
+            Rule::Scale => BuildRefusal::NoScale,
+            _ => BuildRefusal::NoRegister,
+        }),
     }
 }
 

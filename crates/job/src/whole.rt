@@ -1,5 +1,5 @@
-// A job as a whole: checked, read, run, printed.
-// Cells are three lists, as the evaluator takes them: docs/DECISIONS.md, "Cells are three lists".
+// A job as a whole: checked, read, run, printed. The lists stay three slices, as `job` is lent them: a struct of them would have each
+// clause say of three references that they are still the lent ones.
 ghost use Rattle.std.specs.Prelude.{◌≡◌, ◌≤◌, length};
 ghost use Rattle.machine.specs.Cells.{accepted};
 ghost use Rattle.job.specs.Job.{Complete, Room, Holding, code_of, state_of, setting_of, start_of, check_job, output, printed, run_of_job, Lists};

@@ -21,7 +21,6 @@ run_cells-requires c =
 
 pub returns-in-Err : goal.returns-in-Err
 returns-in-Err c =
-    let known = c.shared_slice_known-1 in
     let bs = c.args.input.now in
     let refused = sym c.check_job.ensures ∙ ap verdict c.in-Err.is in
     record {
@@ -32,16 +31,15 @@ returns-in-Err c =
             of_tags = lent_none bs _ c.args.tags.now refused;
             of_values = lent_none bs _ c.args.values.now refused;
           };
-      input = job_input bs (λ i. omega (arith, known.given i));
+      input = job_input bs (λ i. omega (arith, c.type_inv.input i));
     }
 
 pub returns-in-Ok : goal.returns-in-Ok
 returns-in-Ok c =
-    let known = c.shared_slice_known-1 in
     let bs = c.args.input.now in
     let passed = sym c.check_job.ensures ∙ ap verdict c.in-Ok.is in
     record {
       wrote = spelled (output_run bs passed) c.run_cells.ensures.wrote;
       lists = c.run_cells.ensures.lists;
-      input = job_input bs (λ i. omega (arith, known.given i));
+      input = job_input bs (λ i. omega (arith, c.type_inv.input i));
     }
