@@ -6,6 +6,7 @@ ghost use Rattle.machine.specs.Registers.{xmm_at, set_xmm};
 
 use words::Quad32;
 
+#[tactic(auto, unfolding(crate::specs::Registers::xmm_at))]
 pub fn xmm_at(xmms: &[u32; 64], x: u8) -> Quad32
     requires { x < 16 }
     ensures { quad32 result ≡ xmm_at xmms.now x }
@@ -19,6 +20,7 @@ pub fn xmm_at(xmms: &[u32; 64], x: u8) -> Quad32
     }
 }
 
+#[tactic(auto, unfolding(crate::specs::Registers::set_xmm))]
 pub fn set_xmm(xmms: &mut [u32; 64], x: u8, q: Quad32)
     requires { x < 16 }
     ensures { xmms.new ≡ set_xmm xmms.old x (quad32 q) }

@@ -5,7 +5,7 @@ use mathlib.Core.Path.{◌≡◌, refl}
 use mathlib.Core.Bool.{Bool}
 use native.Mathlib.Omega.{arith}
 use lib.Bits.{bit_and}
-use lib.Dec.{eqb, ltb}
+use lib.Dec.{eqb}
 use Rattle.code.specs.Families.{is_two}
 use Rattle.code.proofs.KindLaws.{answers, same_within}
 use Rattle.code.proofs.kinds.is_two.Goals as goal
@@ -18,6 +18,3 @@ bits_say word k h m = same_within (bit word) is_two 64 0 h k (omega arith) (omeg
 
 pub returns-then-kind-lt64 : goal.returns-then-kind-lt64
 returns-then-kind-lt64 c = bits_say _ c.args.kind refl (omega arith)
-
-pub returns-else-kind-lt64 : goal.returns-else-kind-lt64
-returns-else-kind-lt64 c = same_within (λ n. ltb n 64) is_two 192 64 refl c.args.kind (omega arith) (omega arith)

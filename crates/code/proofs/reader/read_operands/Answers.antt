@@ -1,14 +1,10 @@
 -- `code::reader::read_operands` meets its contract. The loop's invariant: reading all of the operands reaches what
 -- reading those that are left reaches from here. Assumes nothing.
 use Prim.Native.Nat.{◌+◌, ◌-◌}
-use mathlib.Core.Path.{refl, sym, ◌∙◌}
+use mathlib.Core.Path.{sym, ◌∙◌}
 use native.Mathlib.Omega.{arith}
-use Rattle.std.proofs.Math.Nat.{sub-zero}
 use Rattle.code.proofs.Reaches.{stopped, operands_go, operands_stop, operands_end}
 use Rattle.code.proofs.reader.read_operands.Goals as goal
-
-pub loop-init : goal.loop-init
-loop-init c = rw sub-zero refl
 
 pub loop-preserved : goal.loop-preserved
 loop-preserved c =

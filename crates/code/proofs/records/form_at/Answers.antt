@@ -6,28 +6,11 @@ use Rattle.code.proofs.Frames.{operand_frame}
 use Rattle.code.proofs.Forms.{else_memory}
 use Rattle.code.proofs.records.form_at.Goals as goal
 
-pub bounds-code-at : goal.bounds-code-at
-bounds-code-at c =
-    let pre = c.requires in
-    (operand_frame _ _ pre).starts
-
-pub overflow_add-at : goal.overflow_add-at
-overflow_add-at c =
-    let pre = c.requires in
-    let match = c.in-64 in
-    omega (arith, (operand_frame _ _ pre).const match.is)
-
 pub number8-requires : goal.number8-requires
 number8-requires c =
     let pre = c.requires in
     let match = c.in-64 in
     omega (arith, (operand_frame _ _ pre).const match.is)
-
-pub overflow_add-result : goal.overflow_add-result
-overflow_add-result c =
-    let pre = c.requires in
-    let match = c.in-65 in
-    omega (arith, (operand_frame _ _ pre).o_reg match.is)
 
 pub bounds-code-at-in-65 : goal.bounds-code-at-in-65
 bounds-code-at-in-65 c =

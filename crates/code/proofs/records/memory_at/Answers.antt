@@ -7,17 +7,6 @@ use Rattle.code.proofs.Frames.{operand_frame}
 use Rattle.code.proofs.Forms.{based, indexed}
 use Rattle.code.proofs.records.memory_at.Goals as goal
 
-pub bounds-code-at : goal.bounds-code-at
-bounds-code-at c =
-    let pre = c.requires in
-    (operand_frame _ _ pre.operand_bytes).starts
-
-pub overflow_add-at : goal.overflow_add-at
-overflow_add-at c =
-    let pre = c.requires in
-    let if1 = c.if-kind-eq66 in
-    omega (arith, (operand_frame _ _ pre.operand_bytes).m_const if1.true)
-
 pub number8-requires : goal.number8-requires
 number8-requires c =
     let pre = c.requires in
@@ -32,23 +21,11 @@ returns-then-kind-eq66 c =
     let w = (operand_frame _ _ pre.operand_bytes).m_const if1.true in
     rw (w.2, number8.ensures)
 
-pub overflow_add-base : goal.overflow_add-base
-overflow_add-base c =
-    let pre = c.requires in
-    let if1 = c.if-kind-eq66 in
-    omega (arith, based _ _ pre.operand_bytes pre.at_value if1.false)
-
 pub bounds-code-at-2 : goal.bounds-code-at-2
 bounds-code-at-2 c =
     let pre = c.requires in
     let if1 = c.if-kind-eq66 in
     omega (arith, based _ _ pre.operand_bytes pre.at_value if1.false)
-
-pub overflow_add-at-then-kind-eq67 : goal.overflow_add-at-then-kind-eq67
-overflow_add-at-then-kind-eq67 c =
-    let pre = c.requires in
-    let if2 = c.if-kind-eq67 in
-    omega (arith, (operand_frame _ _ pre.operand_bytes).m_reg if2.true)
 
 pub signed8-requires : goal.signed8-requires
 signed8-requires c =
@@ -64,13 +41,6 @@ returns-then-kind-eq67 c =
     let w = (operand_frame _ _ pre.operand_bytes).m_reg if2.true in
     rw (w.3, to_z-of_z w64 signed8.result (record { sfits = signed8.type_inv }), signed8.ensures)
 
-pub overflow_add-index : goal.overflow_add-index
-overflow_add-index c =
-    let pre = c.requires in
-    let if1 = c.if-kind-eq66 in
-    let if2 = c.if-kind-eq67 in
-    omega (arith, indexed _ _ pre.operand_bytes pre.at_value if1.false if2.false)
-
 pub bounds-code-at-3 : goal.bounds-code-at-3
 bounds-code-at-3 c =
     let pre = c.requires in
@@ -78,22 +48,8 @@ bounds-code-at-3 c =
     let if2 = c.if-kind-eq67 in
     omega (arith, indexed _ _ pre.operand_bytes pre.at_value if1.false if2.false)
 
-pub overflow_add-at-2 : goal.overflow_add-at-2
-overflow_add-at-2 c =
-    let pre = c.requires in
-    let if1 = c.if-kind-eq66 in
-    let if2 = c.if-kind-eq67 in
-    omega (arith, indexed _ _ pre.operand_bytes pre.at_value if1.false if2.false)
-
 pub signed2-requires : goal.signed2-requires
 signed2-requires c =
-    let pre = c.requires in
-    let if1 = c.if-kind-eq66 in
-    let if2 = c.if-kind-eq67 in
-    omega (arith, indexed _ _ pre.operand_bytes pre.at_value if1.false if2.false)
-
-pub overflow_add-at-3 : goal.overflow_add-at-3
-overflow_add-at-3 c =
     let pre = c.requires in
     let if1 = c.if-kind-eq66 in
     let if2 = c.if-kind-eq67 in

@@ -1,26 +1,8 @@
 -- `code::records::operand_behind` meets its contract: the body of each kind of operand has its own length.
 -- Assumes nothing.
 use mathlib.Core.Path.{sym}
-use native.Mathlib.Omega.{arith}
 use Rattle.code.proofs.Frames.{operand_frame}
 use Rattle.code.proofs.records.operand_behind.Goals as goal
-
-pub bounds-code-at : goal.bounds-code-at
-bounds-code-at c = (operand_frame _ _ c.requires).starts
-
-pub overflow_add-result : goal.overflow_add-result
-overflow_add-result c = omega (arith, (operand_frame _ _ c.requires).o_reg c.in-65.is)
-
-pub overflow_add-result-in-67 : goal.overflow_add-result-in-67
-overflow_add-result-in-67 c = omega (arith, (operand_frame _ _ c.requires).m_reg c.in-67.is)
-
-pub overflow_add-result-in-68 : goal.overflow_add-result-in-68
-overflow_add-result-in-68 c = omega (arith, (operand_frame _ _ c.requires).m_index c.in-68.is)
-
-pub overflow_add-result-in_default : goal.overflow_add-result-in_default
-overflow_add-result-in_default c =
-    let others = c.in_default.in_default-own.rest in
-    omega (arith, (operand_frame _ _ c.requires).eight others.0.0.1 others.0.1 others.1)
 
 pub returns-in-65 : goal.returns-in-65
 returns-in-65 c = sym ((operand_frame _ _ c.requires).o_reg c.in-65.is).0

@@ -1,6 +1,5 @@
 -- `machine::addressing::exact_address` meets its contract: an offset from the base and the product, which is far below 2^68.
-use Rattle.std.proofs.Common.{◌≡◌, ℕ, ◌+◌, ◌*◌, ◌^◌, ◌<◌, ◌≤◌, T, ℤ, pos, ◌+ℤ◌, nat_abs, sym, ap, ◌∙◌, ap₂, arith, w16, w64, Fits}
-use mathlib.Core.Path.{subst⁻¹}
+use Rattle.std.proofs.Common.{◌≡◌, ℕ, ◌+◌, ◌*◌, ◌^◌, ◌<◌, ◌≤◌, T, ℤ, pos, ◌+ℤ◌, nat_abs, sym, ap, ◌∙◌, ap₂, w16, w64}
 use lib.Signed.{non_neg}
 use mir.ValLaws.{to_z-of_z}
 use Rattle.machine.specs.Operands.{in_range}
@@ -20,20 +19,6 @@ small : (c : After-times) → number c.times.result < 2 ^ 67
 small c =
     let a = c.args in
     product_small (number c.times.result) (nat_abs a.scale) a.index (product c) (scale c.before).1 c.ranges.index.fits
-
-pub overflow_cast-scale : goal.overflow_cast-scale
-overflow_cast-scale c =
-    subst⁻¹ (λ (z : ℤ). T (non_neg z) × Fits w64 (nat_abs z)) (to_z-of_z w16 c.args.scale c.ranges.scale)
-    ((scale c).0, record { fits = omega (arith, (scale c).1) })
-
-pub times-requires : goal.times-requires
-times-requires c = subst⁻¹ (λ (z : ℤ). nat_abs z ≤ 8) (to_z-of_z w16 c.args.scale c.ranges.scale) (scale c).1
-
-pub plus-requires : goal.plus-requires
-plus-requires c = let p = small c in omega arith
-
-pub moved-requires : goal.moved-requires
-moved-requires c = let b = c.ranges.base.fits in omega (arith, small (goal.at.moved-requires c).After-times, c.plus.ensures)
 
 pub returns : goal.returns
 returns c =

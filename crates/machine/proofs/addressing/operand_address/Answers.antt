@@ -1,28 +1,8 @@
 -- `machine::addressing::operand_address` meets its contract, operand by operand.
-use Rattle.std.proofs.Common.{◌≡◌, true, ℤ, subst, w16, rules}
-use mathlib.Core.Path.{subst⁻¹}
+use Rattle.std.proofs.Common.{rules}
 use mathlib.Core.Option.{none}
-use mir.ValLaws.{to_z-of_z}
-use Rattle.machine.specs.Operands.{is_scale, RightFields}
 use Rattle.machine.proofs.Exact.{at_const, at_register, at_index}
 use Rattle.machine.proofs.addressing.operand_address.Goals as goal
-
-pub bounds-regs-i : goal.bounds-regs-i
-bounds-regs-i c = subst RightFields c.in-MReg.is c.requires
-
-pub bounds-regs-i-in-MIndex : goal.bounds-regs-i-in-MIndex
-bounds-regs-i-in-MIndex c =
-    (subst RightFields c.in-MIndex.is c.requires).0
-
-pub bounds-regs-j : goal.bounds-regs-j
-bounds-regs-j c =
-    (subst RightFields c.in-MIndex.is c.requires).2
-
-pub exact_address-requires : goal.exact_address-requires
-exact_address-requires c =
-    let fits = c.in-MIndex.known_told-in-MIndex-1-own.given.1.0.1 in
-    subst⁻¹ (λ (z : ℤ). is_scale z ≡ true) (to_z-of_z w16 c.in-MIndex.scale (record { sfits = fits }))
-    (subst RightFields c.in-MIndex.is c.requires).1
 
 pub returns-in-MConst : goal.returns-in-MConst
 returns-in-MConst c =

@@ -1,11 +1,8 @@
 -- `machine::addressing::register_address` meets its contract: an offset from the base.
-use Rattle.std.proofs.Common.{ℕ, ℤ, pos, ◌+ℤ◌, ◌∙◌, ap₂, arith, w64}
+use Rattle.std.proofs.Common.{ℕ, ℤ, pos, ◌+ℤ◌, ◌∙◌, ap₂, w64}
 use mir.ValLaws.{to_z-of_z}
 use Rattle.machine.specs.Operands.{in_range}
 use Rattle.machine.proofs.addressing.register_address.Goals as goal
-
-pub moved-requires : goal.moved-requires
-moved-requires c = let b = c.ranges.base.fits in omega (arith, c.from.ensures)
 
 pub returns : goal.returns
 returns c =

