@@ -44,7 +44,9 @@ returns-then-not-is_scale c =
     told _ _ _ c.at-then-not-is_scale.ensures ∙ search (body_scale, wrong)
 
 pub returns-then-code-at-gt15-2 : goal.returns-then-code-at-gt15-2
-returns-then-code-at-gt15-2 c = let right = right_scale (goal.at.returns-then-code-at-gt15-2 c).Joined-else-last-gt2 in told _ _ _ c.at-then-code-at-gt15-2.ensures ∙ search (body_last, right)
+returns-then-code-at-gt15-2 c =
+    let right = right_scale (goal.at.returns-then-code-at-gt15-2 c).Joined-else-last-gt2 in
+    told _ _ _ c.at-then-code-at-gt15-2.ensures ∙ search (body_last, right)
 
 pub returns : goal.returns
 returns c = let right = right_scale (goal.at.returns c).Joined-else-last-gt2 in search (body_all, right)
