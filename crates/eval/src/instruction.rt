@@ -1,5 +1,5 @@
 // One instruction, by its kind: in two levels, so that each stays small. What comes most often is asked first.
-ghost use Rattle.std.specs.Prelude.{◌≤◌, ◌<◌, get_or, ◌≡◌, length};
+ghost use Rattle.std.specs.Prelude.{◌≡◌, ◌≤◌, ◌<◌, length, get_or};
 ghost use Rattle.eval.specs.Promises.{InsAt, EvaluatesIns};
 
 use crate::exit::Exit;
