@@ -1,6 +1,6 @@
 // One instruction, by its kind: in two levels, so that each stays small. What comes most often is asked first.
 // A kind is the byte that stands in the code, and no enum: docs/DECISIONS.md, "A kind is a byte".
-ghost use Rattle.std.specs.Prelude.{◌≤◌, ◌<◌, get_or, ◌≡◌, length};
+ghost use Rattle.std.specs.Prelude.{◌≡◌, ◌≤◌, ◌<◌, length, get_or};
 ghost use Rattle.eval.specs.Promises.{InsAt, EvaluatesIns};
 
 use crate::exit::Exit;
