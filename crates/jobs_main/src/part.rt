@@ -1,5 +1,7 @@
 // The parts of a stored file: a job's bytes and its text, or its two texts, by turns, each behind its length in four bytes, low first.
 
+ghost use Rattle.std.specs.Prelude.{◌≤◌, length, IfOk};
+
 use code::number4;
 use std::io;
 use std::io::Read;
@@ -14,7 +16,9 @@ fn read_length(file: &mut impl Read) -> io::Result<usize> {
 }
 
 // Reads the file's next part into `room` and answers it: nothing where the file has ended, or the part is too long.
-pub fn read_part<'a, R: Read>(file: &mut R, room: &'a mut [u8]) -> io::Result<&'a [u8]> {
+pub fn read_part<'a, R: Read>(file: &mut R, room: &'a mut [u8]) -> io::Result<&'a [u8]>
+    ensures { IfOk result (λ part. length part.now ≤ length room.old) }
+{
     let n = read_length(file)?;
     if n > room.len() {
         return Ok(&[]);

@@ -1,7 +1,7 @@
 // A stored sum: the kind of its instruction and its evaluation, a byte each, and six words, low byte first: Rax, Rbx, flags and the
 // fill word before, and Rax and flags behind.
 
-ghost use Rattle.std.specs.Prelude.{◌≡◌, ◌↔◌, IsTrue};
+ghost use Rattle.std.specs.Prelude.{◌≡◌, ◌≤◌, ◌↔◌, IsTrue, length};
 ghost use Rattle.jobs_main.specs.Sums.{evaluation_at, Says, IsStored};
 
 use code::number8;
@@ -10,7 +10,8 @@ use machine::State;
 
 pub const ROW: usize = 50;
 
-fn evaluation_at(row: &[u8; ROW]) -> Evaluation
+fn evaluation_at(row: &[u8]) -> Evaluation
+    requires { 50 ≤ length row.now }
     ensures { result ≡ evaluation_at row.now }
 {
     match row[1] {
@@ -20,7 +21,8 @@ fn evaluation_at(row: &[u8; ROW]) -> Evaluation
 }
 
 // The instruction alone, from Rbx to Rax.
-fn run_sum(row: &[u8; ROW]) -> Run
+fn run_sum(row: &[u8]) -> Run
+    requires { 50 ≤ length row.now }
     ensures { Says row.now result }
 {
     let code = [row[0], 0x41, 0, 0x41, 1];
@@ -42,7 +44,8 @@ fn run_sum(row: &[u8; ROW]) -> Run
 }
 
 // Whether a sum ends as it is stored.
-pub fn agrees(row: &[u8; ROW]) -> bool
+pub fn agrees(row: &[u8]) -> bool
+    requires { 50 ≤ length row.now }
     ensures { IsTrue result ↔ IsStored row.now }
 {
     let Run { answer, state, .. } = run_sum(row);
