@@ -11,7 +11,6 @@ use crate::addressing::operand_address;
 use crate::refusal::{Refusal, Rule};
 use crate::wide::{Wide, is_below, plus};
 use crate::{Maddr, NoCell};
-use std::num::wrapping_sub_u64;
 
 // The tag of a 64-bit cell.
 const WORD: u8 = 64;
@@ -122,7 +121,7 @@ fn place_of(addresses: &[u64], address: u64) -> usize
     ensures by_index { (k : ℕ) → k < length addresses.now → slice_index addresses.now k ≡ address → k ≡ result }
 {
     let mut above = addresses.len();
-    let guess = wrapping_sub_u64(address, addresses[0]) / 8;
+    let guess = address.wrapping_sub(addresses[0]) / 8;
     if guess < addresses.len() as u64 {
         let at = guess as usize;
         if addresses[at] == address {
