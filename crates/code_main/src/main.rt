@@ -7,7 +7,8 @@ ghost use Rattle.std.specs.Prelude.{◌≡◌, ◌*◌, ◌≤◌, length};
 use code::check_code;
 use std::io;
 
-// What the check tells of a code: nothing, or a number and a place.
+// What the check tells of a code: nothing, or a number and a place. The numbers are written out here and in machine_main, and not taken
+// from `Rule`, which is tried too.
 fn told(code: &[u8]) -> Result<(), (u8, usize)> {
     check_code(code).map_err(|refusal| (refusal.rule.number(), refusal.place))
 }

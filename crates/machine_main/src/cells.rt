@@ -7,7 +7,7 @@ use stored::Tally;
 
 const TOP: u64 = 18446744073709551615;
 
-// The answer that is told: nothing, or a number and a place or an index.
+// The answer that is told: nothing, or a number and an index. Numbers are written out, and not taken from `Rule`, which is tried too.
 pub type Told = Result<(), (u8, usize)>;
 
 pub fn told(checked: Result<(), Refusal>) -> Told {

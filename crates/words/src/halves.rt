@@ -102,6 +102,7 @@ pub fn byte_to_twobits(b: u8) -> BitsOfByte
     }
 }
 
+// The source has a name of its own for this, and for the insertion below it: docs/CONTRACTS.md has both.
 pub fn select_word(q: Quad32, selector: u8) -> u32
     ensures { result ≡ select_word (quad32 q) (selector % 4) }
 {

@@ -8,6 +8,7 @@ use crate::sums::add;
 // The lowest word that is a negative number.
 const SIGN: u64 = 0x8000_0000_0000_0000;
 
+// One function for both widths would need a trait with an associated type, three ghost members and two impls for these two lines.
 pub fn signed16(n: u16) -> i16
     ensures { result ≡ signed_word 16 n }
 {
