@@ -5,7 +5,7 @@ ghost use Rattle.code.specs.Records.{number_at, signed_at};
 use words::{signed16, signed64};
 
 // Products and sums of bytes in order, which compile to one load. Each size is a line over the one before, where one function of any size
-// would be a loop over bytes.
+// would be a loop over bytes, and `from_le_bytes` takes an array that is made of them first, by a definition beside `number_at`.
 pub fn number2(code: &[u8], at: usize) -> usize
     requires { at + 2 ≤ length code.now }
     ensures { (result ≡ number_at 2 code.now at) × (result < 2 ^ 16) }

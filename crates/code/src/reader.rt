@@ -1,6 +1,7 @@
 // Checking code: reading goes front to back and stops at the first trouble. A code reads its parts
 // and a part reads its codes. A part is the bytes of the code up to `end`, in two parameters: as a struct with methods it was no plainer, since
 // each clause then says `self.entry.code.now` and `self.entry.end`, and each level of nesting stores one.
+// A kind is the byte that stands in the code, and no enum: docs/DECISIONS.md, "A kind is a byte".
 ghost use Rattle.std.specs.Prelude.{◌≡◌, ◌+◌, ◌-◌, ◌≤◌, length};
 ghost use Rattle.machine.specs.Cells.{verdict};
 ghost use Rattle.code.specs.Records.{is_operand, is_structure};
@@ -76,6 +77,7 @@ pub fn read_rest(code: &[u8], end: usize, at: usize) -> Result<usize, Refusal>
     read_operands(code, end, next, operand_count(code[at]))
 }
 
+// An operand and a comparison are read by two functions, since what follows a kind is not the same: a body, or a body and operands.
 fn read_ocmp(code: &[u8], end: usize, at: usize) -> Result<usize, Refusal>
     requires { end ≤ length code.now }
     ensures { reach result ≡ reached (read_ocmp code.now end at) }

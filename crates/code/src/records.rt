@@ -1,5 +1,6 @@
 // Decoding one operand record of accepted code. Dispatch is by `match`, since a constant table is rebuilt wherever it is
-// indexed.
+// indexed. A kind is the byte that stands in the code, and no enum: docs/DECISIONS.md, "A kind is a byte". That the record stands there is
+// asked by each (`OperandBytes`): a value that carries it would be made of code and place anew at each operand.
 ghost use Rattle.std.specs.Prelude.{◌≡◌};
 ghost use Rattle.machine.specs.declared.Operand.TheVariants.{OMem};
 ghost use Rattle.code.specs.Records.{behind, operand_at};

@@ -63,6 +63,7 @@ impl Page<'_> {
             .put_byte(b'\n')
     }
 
+    // By an index, as the definition goes (`xmm_lines`): the flat array is C's, and its chunks would have to be shown to be its words.
     pub fn put_xmms(self, xmms: &[u32; 64]) -> Self
         requires { HasRoom 1744 self }
         ensures { Wrote 1744 self.entry (xmm_lines 16 0 xmms.now) result }
@@ -86,6 +87,7 @@ impl Page<'_> {
             .put_byte(b'\n')
     }
 
+    // Three lists, as `job` is lent them; of one index, since their lengths are the same.
     pub fn put_cells(self, addresses: &[u64], tags: &[u8], values: &[u64]) -> Self
         requires tags_len { (length tags.now ≡ length addresses.now) × (length values.now ≡ length addresses.now) }
         requires addresses_bound { HasRoom (51 * length addresses.now + 68) self }

@@ -1,4 +1,4 @@
-// What is printed of a run's end.
+// What is printed of a run's end. The cells stay three lists, whose lengths are asked to be the same: docs/DECISIONS.md, "Cells are three lists".
 ghost use Rattle.std.specs.Prelude.{◌≡◌, ◌≤◌, length};
 ghost use Rattle.eval.specs.Config.{config};
 ghost use Rattle.eval.specs.Counted.{ended_of};

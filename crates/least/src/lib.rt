@@ -13,7 +13,7 @@ use eval::{Answer, Run, Setting, Watch, run};
 use machine::State;
 
 // The least fuel, with how the run with it ended; or 61, where the run at the cap is Spent, with that place; or code or cells were not
-// accepted.
+// accepted. No fuel beside an `Answer`: docs/DECISIONS.md, "A report is an enum of its own". Numbers are those that C is told.
 #[derive(Clone, Copy)]
 pub enum Least {
     Done(u32),
@@ -24,7 +24,7 @@ pub enum Least {
 }
 
 // What is handed back beside the lent cells: the report, and all else as the run with the least fuel hands it back, or the run at the
-// cap where there is no such fuel.
+// cap where there is no such fuel. It holds no `Run`, whose answer is that at the cap.
 #[derive(Clone, Copy)]
 pub struct LeastRun {
     pub least: Least,
@@ -33,6 +33,7 @@ pub struct LeastRun {
     pub watch: Watch,
 }
 
+// Of two values, and by the definition `report_of`, so that no `From` would say it.
 fn least_of(needed: u32, answer: Answer) -> Least
     ensures { report result ≡ report_of needed (outcome answer) }
 {
@@ -45,7 +46,7 @@ fn least_of(needed: u32, answer: Answer) -> Least
     }
 }
 
-// The setting's fuel is the cap.
+// The setting's fuel is the cap. It takes what `run` takes, which README names: neither may take less.
 pub fn least_fuel(
     code: &[u8],
     addresses: &[u64],

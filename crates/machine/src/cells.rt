@@ -12,7 +12,7 @@ use crate::refusal::{Refusal, Rule};
 use crate::wide::{Wide, is_below, plus};
 use crate::{Maddr, NoCell};
 
-// The tag of a 64-bit cell.
+// The tag of a 64-bit cell. A tag is a byte that C lends, any of the 256, and no enum (`pokchrei_check_cells`).
 const WORD: u8 = 64;
 
 // The largest value of a cell with this tag, if it is one.
@@ -93,7 +93,7 @@ pub fn check_cells(addresses: &[u64], tags: &[u8], values: &[u64]) -> Result<(),
 
 // The one index where an address can stand, before `above`: halves the part that is left, one comparison each. Both ends move,
 // so that this is compiled to a branch, which a kernel's loop makes predictable, and not to a chain of conditional moves: in the
-// library's `binary_search` one end moves, and the other follows.
+// library's `binary_search` one end moves, and the other follows. It also has one comparison a step, of the 13 that a search may take.
 fn only_place(addresses: &[u64], address: u64, above: usize) -> usize
     requires ascending { Ascending addresses.now }
     requires part { Part addresses.now address 0 above }

@@ -1,7 +1,8 @@
 ghost use Rattle.std.specs.Prelude.{◌≡◌, ◌==◌};
 ghost use Rattle.machine.specs.Registers.{Rsp};
 
-// A register by its number in the source's order, which is not the processor's.
+// A register by its number in the source's order, which is not the processor's. A number and no enum: code may name any of 256, and those above
+// 15 are refused at their place (docs/DECISIONS.md, "Registers").
 #[derive(Clone, Copy, PartialEq, Eq)]
 pub struct Reg {
     pub number: u8,

@@ -1,4 +1,5 @@
-// The quad of an xmm in the flat array of xmm words: word j of xmm i stands at 4 * i + j.
+// The quad of an xmm in the flat array of xmm words, as C lends them (`pokchrei_run`): word j of xmm i stands at 4 * i + j. Its number is a byte
+// of the code, which is asked to be below 16 where it is used.
 
 ghost use Rattle.std.specs.Prelude.{◌≡◌, ◌<◌};
 ghost use Rattle.words.specs.Types.{quad32};

@@ -1,4 +1,5 @@
-// The carry and overflow bits of the flags word.
+// The carry and overflow bits of the flags word. Each is read and put in by a function that the source names, of one line: one function of a
+// bit's place would need a power of it at every call.
 ghost use Rattle.std.specs.Prelude.{◌≡◌};
 ghost use Rattle.words.specs.Flags as Flags;
 

@@ -28,7 +28,7 @@ pub use signed::{add_overflows, signed16, signed64};
 pub use sums::{Sum, add};
 pub use word::Word;
 
-// The two words of a product.
+// The two words of a product, by their names in a multiplication, which `Two` has not.
 #[derive(Clone, Copy)]
 pub struct Product64 {
     pub low: u64,
