@@ -1,6 +1,9 @@
 // The evaluator's cycle: a list of codes runs its instructions, enters its Blocks, and calls `eval_code` for an IfElse or a
 // While, whose parts are lists again. The codes of a list and the rounds of a While are loops, so that native depth is the
 // nesting of IfElses and Whiles.
+// A kind is the byte that stands in the code, and no enum: docs/DECISIONS.md, "A kind is a byte".
+// `chooses`, whether a code is an IfElse and no While, is a bool: one comparison of the kind's byte, as in the definitions, and all
+// that is asked of it (docs/DECISIONS.md, "An IfElse and a While are one function").
 ghost use Rattle.std.specs.Prelude.{◌≡◌, false, ◌+◌, ◌^◌, ◌≤◌, ◌<◌, length};
 ghost use Rattle.code.specs.Records.{byte_at};
 ghost use Rattle.eval.specs.Promises.{CodeAt, CodesAt, codes_from, TestedAt, test_at, BehindTest, way_from, part_fuel, Evaluates, WithLess, EvaluatesAll, WithLessAll};

@@ -1,4 +1,5 @@
-// Running: code and cells are checked, and then the state's arrays are lent to the evaluator's cycle.
+// Running: code and cells are checked, and then a copy of the start and the cells' values are lent to the evaluator's cycle.
+// What `evaluate` and `run` take stays apart, cells in three lists: README and docs/ name both, and no parameter of theirs may be narrowed.
 ghost use Rattle.std.specs.Prelude.{◌≡◌, cond, ◌+◌, ◌-◌, ◌≤◌, ◌<◌, eqb};
 ghost use Rattle.std.proofs.Math.Option.{some};
 ghost use Rattle.machine.specs.Cells.{accepted, verdict, check_cells};
