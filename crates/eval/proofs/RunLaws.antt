@@ -5,7 +5,6 @@ use mathlib.Core.Bool.{true}
 use mathlib.Core.List.{List}
 use mathlib.Core.Option.{Option}
 use native.Mathlib.Omega.{arith}
-use borrow.Author.Tests.{eq-eqb, ne_eqb}
 use lib.ListN.{length}
 use Rattle.machine.specs.Cells.{Searchable, accepted, refused, check_cells}
 use Rattle.machine.proofs.Accepting.{accepted_of, searchable_of}
@@ -21,18 +20,6 @@ use Rattle.eval.specs.LeastFuel.{is_spent}
 use Rattle.eval.specs.Promises.{how, Reached, CodesAt, RunsAll, SpendsAll}
 use Rattle.eval.specs.declared.exit.Exit.{Exit}
 use Rattle.eval.proofs.CycleLaws.{spent_too, run_one}
-
--- how an exit is named, where it is not done
-pub how_spent : (r : Exit) → (r.number ≡ 0 → ⊥) → r.number ≡ 1 → Config.spent r.place ≡ how r
-how_spent r z h = rw (ne_eqb r.number 0 z, eq-eqb r.number 1 h)
-
-pub how_stopped :
-    (r : Exit) → (r.number ≡ 0 → ⊥) → (r.number ≡ 1 → ⊥) → r.number ≡ 37 → Config.stopped r.number r.place ≡ how r
-how_stopped r z h k = rw (ne_eqb r.number 0 z, ne_eqb r.number 1 h, eq-eqb r.number 37 k)
-
-pub how_fault :
-    (r : Exit) → (r.number ≡ 0 → ⊥) → (r.number ≡ 1 → ⊥) → (r.number ≡ 37 → ⊥) → Config.fault r.number r.place ≡ how r
-how_fault r z h k = rw (ne_eqb r.number 0 z, ne_eqb r.number 1 h, ne_eqb r.number 37 k)
 
 -- accepted cells can be searched, and each has its value
 pub accepted_cells : (xs ts vs : List ℕ) → check_cells xs ts vs ≡ accepted → Searchable xs ts × (length vs ≡ length xs)

@@ -5,6 +5,8 @@ ghost use Rattle.eval.specs.declared.answer.Answer.TheVariants.{Refused};
 use machine::{Refusal, State};
 
 // How a run ended: each but a run that is done has a place. Numbers are those that C and the job program tell.
+// `Refused` holds a number and a place and no `Refusal`, as the definition's outcome does: who tells an answer tells all its cases in one
+// form, with those of a job's own rules.
 #[derive(Clone, Copy)]
 pub enum Answer {
     Done,

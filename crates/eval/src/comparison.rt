@@ -41,14 +41,13 @@ pub fn compare(lent: &Lent, at: usize, state: &State, values: &[u64]) -> Compare
     ensures { ComparesAt (env_of lent.now) lent.now.code.now at (config state.now values.now) result }
 {
     let a = load(lent, at + 1, state, values);
-    let second = a.next;
     if a.number != 0 {
         return Compared {
             how: a.number,
-            next: second,
+            next: a.next,
         };
     }
-    let b = load(lent, second, state, values);
+    let b = load(lent, a.next, state, values);
     let next = b.next;
     if b.number != 0 {
         return Compared {

@@ -18,10 +18,12 @@ pub struct Counter {
     // The steps made.
     pub steps: u64,
     // What is open: below 4, carry in bit 0 and overflow in bit 1; else the kind of the instruction that set both flags last.
+    // One word and no enum: docs/DECISIONS.md, "The watch in the evaluator".
     pub opened: u64,
     // The place of the first instruction that has read an open flag.
     pub mark: Option<usize>,
     // The least fuel with which a loop was tested; where none was, one more than the run's.
+    // No Option: docs/DECISIONS.md, "One more than the fuel, where no loop was tested".
     pub tested: u64,
 }
 

@@ -1,6 +1,9 @@
 // The evaluator's cycle: a list of codes runs its instructions, enters its Blocks, and calls `eval_code` for an IfElse or a
 // While, whose parts are lists again. The codes of a list and the rounds of a While are loops, so that native depth is the
 // nesting of IfElses and Whiles.
+// A kind is the byte that stands in the code, and no enum: docs/DECISIONS.md, "A kind is a byte".
+// `chooses`, whether a code is an IfElse and no While, is a bool: one comparison of the kind's byte, as in the definitions, and all
+// that is asked of it (docs/DECISIONS.md, "An IfElse and a While are one function").
 ghost use Rattle.std.specs.Prelude.{◌≡◌, false, ◌+◌, ◌^◌, ◌≤◌, ◌<◌, length};
 ghost use Rattle.code.specs.Records.{byte_at};
 ghost use Rattle.eval.specs.Promises.{CodeAt, CodesAt, codes_from, TestedAt, test_at, BehindTest, way_from, part_fuel, Evaluates, WithLess, EvaluatesAll, WithLessAll};
@@ -108,10 +111,7 @@ pub fn eval_codes(
             next = went.place;
         }
     }
-    Exit {
-        number: 0,
-        place: end,
-    }
+    Exit::done(end)
 }
 
 // An IfElse, which chooses between two parts and has one round, or a While, which has rounds while there is fuel and its
@@ -138,18 +138,12 @@ fn eval_code(
         counter.count_test(chooses, left);
         let compared = step_comparison(lent, test, state, values, counter);
         if 1 < compared.how {
-            return Exit {
-                number: compared.how,
-                place: test,
-            };
+            return Exit::at(compared.how, test);
         }
         state.flags = lent.fill;
         let way = way_from(lent.code, at, chooses, compared);
         if compared.how == 0 && !chooses {
-            return Exit {
-                number: 0,
-                place: way.end,
-            };
+            return Exit::done(way.end);
         }
         let given = part_fuel(chooses, left);
         let ran = eval_codes(
@@ -163,22 +157,13 @@ fn eval_code(
         );
         if ran.number != 0 {
             // Made anew, since a copy of the struct would copy the bytes between its fields too.
-            return Exit {
-                number: ran.number,
-                place: ran.place,
-            };
+            return Exit::at(ran.number, ran.place);
         }
         if chooses {
-            return Exit {
-                number: 0,
-                place: way.end,
-            };
+            return Exit::done(way.end);
         }
         left = given;
     }
     // A While without fuel: an IfElse has returned.
-    Exit {
-        number: 1,
-        place: at,
-    }
+    Exit::at(1, at)
 }

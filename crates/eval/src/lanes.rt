@@ -1,5 +1,7 @@
 // Instructions on the four words of an xmm.
 // A kind is the byte that stands in the code, and no enum: docs/DECISIONS.md, "A kind is a byte".
+// So is the number of an xmm: that its byte is below 16 each function asks of the bytes behind its kind, as `InsAt` gives it, and a type of numbers
+// below 16 would be made of the byte, by a test, at each instruction that is run.
 ghost use Rattle.std.specs.Prelude.{◌≡◌, true, List, ℕ, ◌+◌, ◌<◌, ◌≤◌, length, get_or};
 ghost use Rattle.words.specs.Types.{quad32};
 ghost use Rattle.code.specs.declared.tree.Instruction.TheVariants.{Pshufd, VPSLLDQ, Pextrq};
@@ -59,10 +61,7 @@ pub fn two_quads(lent: &Lent, at: usize, state: &mut State) -> Exit
     );
     set_xmm(&mut state.xmms, dst, q);
     state.flags = quads_flags(kind, lent.fill, state.flags);
-    Exit {
-        number: 0,
-        place: at + 3,
-    }
+    Exit::done(at + 3)
 }
 
 fn shifted(kind: u8, q: Quad32, amount: u8) -> Quad32
@@ -90,17 +89,11 @@ pub fn shift_words(lent: &Lent, at: usize, state: &mut State) -> Exit
     let dst = lent.code[at + 1];
     let amount = lent.code[at + 2];
     if 31 < amount {
-        return Exit {
-            number: 34,
-            place: at,
-        };
+        return Exit::at(34, at);
     }
     let q = shifted(lent.code[at], xmm_at(&state.xmms, dst), amount);
     set_xmm(&mut state.xmms, dst, q);
-    Exit {
-        number: 0,
-        place: at + 3,
-    }
+    Exit::done(at + 3)
 }
 
 // Pshufd.
@@ -119,10 +112,7 @@ pub fn shuffle(lent: &Lent, at: usize, state: &mut State) -> Exit
         lent.code[at + 1],
         shuffle_lanes(q, lent.code[at + 3]),
     );
-    Exit {
-        number: 0,
-        place: at + 4,
-    }
+    Exit::done(at + 4)
 }
 
 // VPSLLDQ.
@@ -136,17 +126,11 @@ pub fn shift_by_word(lent: &Lent, at: usize, state: &mut State) -> Exit
         (config state.new values) }
 {
     if lent.code[at + 3] != 4 {
-        return Exit {
-            number: 35,
-            place: at,
-        };
+        return Exit::at(35, at);
     }
     let q = xmm_at(&state.xmms, lent.code[at + 2]);
     set_xmm(&mut state.xmms, lent.code[at + 1], shift_quad(q));
-    Exit {
-        number: 0,
-        place: at + 4,
-    }
+    Exit::done(at + 4)
 }
 
 // Pextrq.
@@ -163,17 +147,11 @@ pub fn extract(lent: &Lent, at: usize, state: &mut State, values: &mut [u64]) ->
 {
     let dst = resolve(lent, at + 3, &state.regs, values);
     if 1 < dst.how {
-        return Exit {
-            number: dst.how,
-            place: at,
-        };
+        return Exit::at(dst.how, at);
     }
     let word = extract_nat64(xmm_at(&state.xmms, lent.code[at + 1]), lent.code[at + 2]);
     put(dst, word, &mut state.regs, values);
-    Exit {
-        number: 0,
-        place: dst.next,
-    }
+    Exit::done(dst.next)
 }
 
 fn inserted(kind: u8, q: Quad32, word: u64, index: u8) -> Quad32
@@ -203,10 +181,7 @@ pub fn insert(lent: &Lent, at: usize, state: &mut State, values: &[u64]) -> Exit
 {
     let src = load(lent, at + 3, state, values);
     if src.number != 0 {
-        return Exit {
-            number: src.number,
-            place: at,
-        };
+        return Exit::at(src.number, at);
     }
     let dst = lent.code[at + 1];
     let q = inserted(
@@ -216,8 +191,5 @@ pub fn insert(lent: &Lent, at: usize, state: &mut State, values: &[u64]) -> Exit
         lent.code[at + 2],
     );
     set_xmm(&mut state.xmms, dst, q);
-    Exit {
-        number: 0,
-        place: src.next,
-    }
+    Exit::done(src.next)
 }

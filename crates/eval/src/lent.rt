@@ -7,6 +7,7 @@ use crate::answer::Evaluation;
 pub struct Lent<'a> {
     pub code: &'a [u8],
     // The cells' addresses and tags, two lists as C lends them; their values, which a run changes, are lent beside.
+    // So the contracts have a clause `long`, that there are as many values: docs/DECISIONS.md, "What a run keeps stands behind one reference".
     pub addresses: &'a [u64],
     pub tags: &'a [u8],
     pub fill: u64,

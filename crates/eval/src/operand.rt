@@ -1,4 +1,5 @@
-// Operands: where a source is read, and where a destination is written.
+// Operands: where a source is read, and where a destination is written. `OperandBytes` is what `InsAt` and `OcmpAt` give of one operand: that its
+// record stands at a place in the code. A type of such places would have to hold the code too, where `lent` holds it once.
 ghost use Rattle.std.specs.Prelude.{◌≡◌, List, ℕ, ◌<◌, length};
 ghost use Rattle.machine.specs.declared.Maddr.{Maddr};
 ghost use Rattle.machine.specs.declared.Operand.TheVariants.{OMem};
@@ -71,8 +72,7 @@ pub fn load(lent: &Lent, at: usize, state: &State, values: &[u64]) -> Loaded
         Loads (env_of lent.now) (config state.now values.now) (operand_at bs at) (behind bs at) result }
 {
     let next = operand_behind(lent.code, at);
-    let form = form_at(lent.code, at);
-    match form {
+    match form_at(lent.code, at) {
         Form::Const(word) => Loaded {
             number: 0,
             word,
@@ -95,10 +95,9 @@ pub fn load(lent: &Lent, at: usize, state: &State, values: &[u64]) -> Loaded
                     next,
                 };
             }
-            let index = cell.index;
             Loaded {
                 number: 0,
-                word: values[index],
+                word: values[cell.index],
                 next,
             }
         }
@@ -124,8 +123,7 @@ pub fn resolve(lent: &Lent, at: usize, regs: &[u64; 16], values: &[u64]) -> Slot
         Resolves (env_of lent.now) (held regs.now xmms flags values.now) (operand_at bs at) (behind bs at) result }
 {
     let next = operand_behind(lent.code, at);
-    let form = form_at(lent.code, at);
-    match form {
+    match form_at(lent.code, at) {
         Form::Const(_) => nowhere(32, next),
         Form::Register(register) => {
             if register.is_rsp() {
@@ -162,8 +160,7 @@ pub fn registers_with(t: Slot, word: u64, regs: &[u64; 16]) -> [u64; 16]
 {
     let mut after = *regs;
     if t.how == 0 {
-        let index = t.index;
-        after[index] = word;
+        after[t.index] = word;
     }
     after
 }
@@ -174,10 +171,9 @@ pub fn put(t: Slot, word: u64, regs: &mut [u64; 16], values: &mut [u64])
     ensures regs_after { regs.new ≡ put_regs t word regs.old }
     ensures values_after { values.new ≡ put_values t word values.old }
 {
-    let index = t.index;
     if t.how == 0 {
-        regs[index] = word;
+        regs[t.index] = word;
     } else {
-        values[index] = word;
+        values[t.index] = word;
     }
 }

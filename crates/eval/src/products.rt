@@ -25,10 +25,7 @@ pub fn multiply(lent: &Lent, at: usize, state: &mut State, values: &[u64]) -> Ex
 {
     let src = load(lent, at + 1, state, values);
     if src.number != 0 {
-        return Exit {
-            number: src.number,
-            place: at,
-        };
+        return Exit::at(src.number, at);
     }
     let rax = Reg::RAX;
     let rdx = Reg::RDX;
@@ -38,10 +35,7 @@ pub fn multiply(lent: &Lent, at: usize, state: &mut State, values: &[u64]) -> Ex
     state.regs[low] = product.low;
     state.regs[high] = product.high;
     state.flags = lent.fill;
-    Exit {
-        number: 0,
-        place: src.next,
-    }
+    Exit::done(src.next)
 }
 
 // The high destination is resolved in the state after the low half is written, which it depends on only where
@@ -62,16 +56,10 @@ pub fn multiply_into(lent: &Lent, at: usize, state: &mut State, values: &mut [u6
     let low = resolve(lent, second, &state.regs, values);
     let src = load(lent, low.next, state, values);
     if src.number != 0 {
-        return Exit {
-            number: src.number,
-            place: at,
-        };
+        return Exit::at(src.number, at);
     }
     if 1 < low.how {
-        return Exit {
-            number: low.how,
-            place: at,
-        };
+        return Exit::at(low.how, at);
     }
     let rdx = Reg::RDX;
     let from = rdx.number as usize;
@@ -79,15 +67,9 @@ pub fn multiply_into(lent: &Lent, at: usize, state: &mut State, values: &mut [u6
     let after = registers_with(low, product.low, &state.regs);
     let high = resolve(lent, at + 1, &after, values);
     if 1 < high.how {
-        return Exit {
-            number: high.how,
-            place: at,
-        };
+        return Exit::at(high.how, at);
     }
     put(low, product.low, &mut state.regs, values);
     put(high, product.high, &mut state.regs, values);
-    Exit {
-        number: 0,
-        place: src.next,
-    }
+    Exit::done(src.next)
 }

@@ -1,4 +1,5 @@
-// Running: code and cells are checked, and then the state's arrays are lent to the evaluator's cycle.
+// Running: code and cells are checked, and then a copy of the start and the cells' values are lent to the evaluator's cycle.
+// What `evaluate` and `run` take stays apart, cells in three lists: README and docs/ name both, and no parameter of theirs may be narrowed.
 ghost use Rattle.std.specs.Prelude.{◌≡◌, cond, ◌+◌, ◌-◌, ◌≤◌, ◌<◌, eqb};
 ghost use Rattle.std.proofs.Math.Option.{some};
 ghost use Rattle.machine.specs.Cells.{accepted, verdict, check_cells};
@@ -23,18 +24,13 @@ use machine::{Refusal, State, check_cells};
 fn answer_of(ended: Exit) -> Answer
     ensures { outcome result ≡ how ended }
 {
-    let number = ended.number;
     let place = ended.place;
-    if number == 0 {
-        return Answer::Done;
+    match ended.number {
+        0 => Answer::Done,
+        1 => Answer::Spent(place),
+        37 => Answer::Stopped(37, place),
+        number => Answer::Fault(number, place),
     }
-    if number == 1 {
-        return Answer::Spent(place);
-    }
-    if number == 37 {
-        return Answer::Stopped(number, place);
-    }
-    Answer::Fault(number, place)
 }
 
 // With less than this, a loop test that found fuel would have found none. A run that is Spent needs all of its fuel.
@@ -81,16 +77,12 @@ pub fn evaluate(
     let mut state = start;
     let mut counter = Counter::new(fuel);
     let exit = eval_codes(&lent, 0, code.len(), fuel, &mut state, values, &mut counter);
-    let answer = answer_of(exit);
-    let steps = counter.steps;
-    let watch = counter.watch();
-    let needed = needed_fuel(exit, fuel, counter.tested);
     Run {
-        answer,
+        answer: answer_of(exit),
         state,
-        steps,
-        watch,
-        needed,
+        steps: counter.steps,
+        watch: counter.watch(),
+        needed: needed_fuel(exit, fuel, counter.tested),
     }
 }
 

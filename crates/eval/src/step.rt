@@ -25,10 +25,7 @@ pub fn step_instruction(
     ensures tested_none { least_tested counter.new ≡ least_tested counter.old }
 {
     if counter.used_up(lent.limit) {
-        return Exit {
-            number: 37,
-            place: at,
-        };
+        return Exit::at(37, at);
     }
     let ran = instruction(lent, at, state, values);
     if ran.number != 0 {

@@ -43,22 +43,13 @@ pub fn two_operands(lent: &Lent, at: usize, state: &mut State, values: &mut [u64
     let dst = resolve(lent, at + 1, &state.regs, values);
     let src = load(lent, dst.next, state, values);
     if src.number != 0 {
-        return Exit {
-            number: src.number,
-            place: at,
-        };
+        return Exit::at(src.number, at);
     }
     if too_far(kind, src.word) {
-        return Exit {
-            number: 33,
-            place: at,
-        };
+        return Exit::at(33, at);
     }
     if 1 < dst.how {
-        return Exit {
-            number: dst.how,
-            place: at,
-        };
+        return Exit::at(dst.how, at);
     }
     let effect = effect_of(
         kind,
@@ -70,10 +61,7 @@ pub fn two_operands(lent: &Lent, at: usize, state: &mut State, values: &mut [u64
     );
     put(dst, effect.word, &mut state.regs, values);
     state.flags = effect.flags;
-    Exit {
-        number: 0,
-        place: src.next,
-    }
+    Exit::done(src.next)
 }
 
 pub fn add_lea(lent: &Lent, at: usize, state: &mut State, values: &mut [u64]) -> Exit
@@ -91,27 +79,15 @@ pub fn add_lea(lent: &Lent, at: usize, state: &mut State, values: &mut [u64]) ->
     let one = load(lent, dst.next, state, values);
     let two = load(lent, one.next, state, values);
     if one.number != 0 {
-        return Exit {
-            number: one.number,
-            place: at,
-        };
+        return Exit::at(one.number, at);
     }
     if two.number != 0 {
-        return Exit {
-            number: two.number,
-            place: at,
-        };
+        return Exit::at(two.number, at);
     }
     if 1 < dst.how {
-        return Exit {
-            number: dst.how,
-            place: at,
-        };
+        return Exit::at(dst.how, at);
     }
     let sum = one.word.plus(two.word);
     put(dst, sum.word, &mut state.regs, values);
-    Exit {
-        number: 0,
-        place: two.next,
-    }
+    Exit::done(two.next)
 }

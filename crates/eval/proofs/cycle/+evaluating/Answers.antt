@@ -70,7 +70,7 @@ eval_codes-loop-next-preserved t c =
 pub eval_codes-returns : goal.eval_codes-returns
 eval_codes-returns t c =
     let inv = c.loop-next.invariant in
-    record { evaluates_all = search codes_done; with_less_all = codes_done_less inv.less c.loop-next-test.false }
+    rw c.done.ensures (record { evaluates_all = search codes_done; with_less_all = codes_done_less inv.less c.loop-next-test.false })
 
 -- ---- a code
 -- there is fuel for the round
@@ -153,7 +153,10 @@ eval_code-returns-then-compared-gt1 t c =
     let answer = compared t x in
     let f = fuelled t x in
     let head = c.loop-counter.invariant.runs in
-    record { evaluates = search turn_stopped; with_less = turn_stopped_less (begun t x) _ _ answer c.if-compared-gt1.true }
+    rw c.at.ensures (record {
+      evaluates = search turn_stopped;
+      with_less = turn_stopped_less (begun t x) _ _ answer c.if-compared-gt1.true;
+    })
 
 pub eval_code-way_from-way-requires-clause-behind_test : goal.eval_code-way_from-way-requires-clause-behind_test
 eval_code-way_from-way-requires-clause-behind_test t c =
@@ -164,12 +167,12 @@ pub eval_code-returns-then-not-chooses : goal.eval_code-returns-then-not-chooses
 eval_code-returns-then-not-chooses t c =
     let x = (goal.at.eval_code-returns-then-not-chooses t c).After-step_comparison-compared in
     let way_is = c.way_from-way.ensures in
-    record {
+    rw c.done.ensures (record {
       evaluates =
           turns_over _ _ _ _ _ _ _ _ _ _ _ _ _ _ c.loop-counter.invariant.runs (fuelled t x) (compared t x) _ way_is
           c.if-compared-eq0.true (ne_eqb _ _ c.if-not-chooses.true);
       with_less = turns_over_less (begun t x) _ _ (compared t x) _ way_is c.if-compared-eq0.true (ne_eqb _ _ c.if-not-chooses.true);
-    }
+    })
 
 pub eval_code-first_code-requires : goal.eval_code-first_code-requires
 eval_code-first_code-requires t c = let w = turn t (goal.at.eval_code-first_code-requires t c).Joined-else-compared-eq0 in search turn_code
@@ -184,7 +187,10 @@ eval_code-returns-then-ran-ne0 t c =
     let at = goal.at.eval_code-returns-then-ran-ne0 t c in
     let w = taking (turn t at.Joined-else-compared-eq0) c.first_code.ensures c.part_fuel-given.ensures in
     let b = begun t at.After-step_comparison-compared in
-    record { evaluates = search taken_stops; with_less = taken_stops_less b w c.eval_codes-ran.ensures.with_less_all c.if-ran-ne0.true }
+    rw c.at-then-ran-ne0.ensures (record {
+      evaluates = search taken_stops;
+      with_less = taken_stops_less b w c.eval_codes-ran.ensures.with_less_all c.if-ran-ne0.true;
+    })
 
 pub eval_code-returns-then-chooses-2 : goal.eval_code-returns-then-chooses-2
 eval_code-returns-then-chooses-2 t c =
@@ -192,10 +198,10 @@ eval_code-returns-then-chooses-2 t c =
     let w = taking (turn t at.Joined-else-compared-eq0) c.first_code.ensures c.part_fuel-given.ensures in
     let b = begun t at.After-step_comparison-compared in
     let ran = c.eval_codes-ran.ensures in
-    record {
+    rw c.done-then-chooses-2.ensures (record {
       evaluates = taken_done _ _ _ _ _ _ _ _ _ _ _ _ _ _ _ _ _ _ _ _ ran.evaluates_all _ w (eq-eqb _ _ c.if-chooses-2.true) c.if-ran-ne0.false;
       with_less = taken_done_less b w ran.with_less_all (eq-eqb _ _ c.if-chooses-2.true) c.if-ran-ne0.false;
-    }
+    })
 
 pub eval_code-loop-counter-smaller : goal.eval_code-loop-counter-smaller
 eval_code-loop-counter-smaller t c =
@@ -218,4 +224,4 @@ pub eval_code-returns : goal.eval_code-returns
 eval_code-returns t c =
     let inv = c.loop-counter.invariant in
     let looped = ne_eqb _ _ c.if-chooses.false in
-    record { evaluates = search turns_spent; with_less = turns_spent_less inv.less looped c.if-left-ne0.false }
+    rw c.at-2.ensures (record { evaluates = search turns_spent; with_less = turns_spent_less inv.less looped c.if-left-ne0.false })

@@ -1,6 +1,5 @@
 -- Each kind stands as an instruction of its family, whose function runs it. Assumes nothing.
 use mathlib.Core.Path.{refl}
-use native.Mathlib.Omega.{arith}
 use Rattle.code.specs.Families.{quads, shifts}
 use Rattle.code.proofs.Families.{in_family, inserts_kind}
 use Rattle.eval.proofs.OtherKinds.{past_15}
@@ -81,9 +80,3 @@ returns-in-24 c = let ran = c.shift_by_word.ensures c.args.values.now in search 
 
 pub returns-in-22 : goal.returns-in-22
 returns-in-22 c = search (inserts_ran, inserts_kind, past_15)
-
-pub returns-in_default : goal.returns-in_default
-returns-in_default c = absurd (omega (arith, c.in_default.if-this-lt15-own.true, c.requires.bound.0))
-
-pub returns-in_default-2 : goal.returns-in_default-2
-returns-in_default-2 c = absurd (c.in_default.in_default-own.rest.1 (omega (arith, c.in_default.if-this-lt24-own.false, c.requires.bound.1)))

@@ -8,7 +8,7 @@ pub overflow_add-at : goal.overflow_add-at
 overflow_add-at c = omega (arith, operand_starts)
 
 pub returns-then-dst-gt1 : goal.returns-then-dst-gt1
-returns-then-dst-gt1 c = let s = c.args.state.now in let dst = c.resolve-dst.ensures s.flags s.xmms in search extracts_nowhere
+returns-then-dst-gt1 c = let s = c.args.state.now in let dst = c.resolve-dst.ensures s.flags s.xmms in rw c.at.ensures (search extracts_nowhere)
 
 pub overflow_add-at-2 : goal.overflow_add-at-2
 overflow_add-at-2 c = omega (arith, operand_starts)
@@ -26,4 +26,4 @@ pub put-requires : goal.put-requires
 put-requires c = search (c.resolve-dst.ensures 0 []).bounds
 
 pub returns : goal.returns
-returns c = let s = c.args.state.now in let dst = c.resolve-dst.ensures s.flags s.xmms in search extracts
+returns c = let s = c.args.state.now in let dst = c.resolve-dst.ensures s.flags s.xmms in rw c.done.ensures (search extracts)

@@ -7,7 +7,7 @@ pub overflow_add-at : goal.overflow_add-at
 overflow_add-at c = omega (arith, operand_starts)
 
 pub returns-then-src-ne0 : goal.returns-then-src-ne0
-returns-then-src-ne0 c = search inserts_nothing
+returns-then-src-ne0 c = rw c.at.ensures (search inserts_nothing)
 
 pub overflow_add-dst : goal.overflow_add-dst
 overflow_add-dst c = omega (arith, operand_starts)
@@ -25,4 +25,4 @@ pub bounds-lent-at-3 : goal.bounds-lent-at-3
 bounds-lent-at-3 c = omega (arith, operand_starts)
 
 pub returns : goal.returns
-returns c = let kind = c.requires.at_value in search inserts
+returns c = let kind = c.requires.at_value in rw c.done.ensures (search inserts)

@@ -3,7 +3,7 @@ use Rattle.eval.proofs.LaneLaws.{shifts_fail, shifts_done}
 use Rattle.eval.proofs.lanes.shift_words.Goals as goal
 
 pub returns-then-amount-gt31 : goal.returns-then-amount-gt31
-returns-then-amount-gt31 c = search shifts_fail
+returns-then-amount-gt31 c = rw c.at.ensures (search shifts_fail)
 
 pub returns : goal.returns
-returns c = search shifts_done
+returns c = rw c.done.ensures (search shifts_done)

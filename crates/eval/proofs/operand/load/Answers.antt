@@ -11,13 +11,13 @@ cell_at-cell-requires c = search is_memory
 pub returns-then-cell-ne0 : goal.returns-then-cell-ne0
 returns-then-cell-ne0 c = search loads_none
 
-pub offset_bounds-values-index : goal.offset_bounds-values-index
-offset_bounds-values-index c =
-    source_fits _ _ _ c.form_at-form.ensures _ _ _ _ c.requires.long c.in-Memory.is _ c.if-cell-ne0.false c.cell_at-cell.ensures (search)
+pub offset_bounds-values-cell : goal.offset_bounds-values-cell
+offset_bounds-values-cell c =
+    source_fits _ _ _ c.form_at.ensures _ _ _ _ c.requires.long c.in-Memory.is _ c.if-cell-ne0.false c.cell_at-cell.ensures (search)
 
-pub bounds-values-index : goal.bounds-values-index
-bounds-values-index c =
-    source_inside _ _ _ c.form_at-form.ensures _ _ _ _ c.requires.long c.in-Memory.is _ c.if-cell-ne0.false c.cell_at-cell.ensures
+pub bounds-values-cell : goal.bounds-values-cell
+bounds-values-cell c =
+    source_inside _ _ _ c.form_at.ensures _ _ _ _ c.requires.long c.in-Memory.is _ c.if-cell-ne0.false c.cell_at-cell.ensures
 
 pub returns-in-Const : goal.returns-in-Const
 returns-in-Const c = search loads_constant

@@ -3,11 +3,11 @@ use native.Mathlib.Omega.{arith}
 use borrow.Author.Tests.{eq-eqb, ne_eqb}
 use Rattle.eval.proofs.operand.registers_with.Goals as goal
 
-pub offset_bounds-after-index : goal.offset_bounds-after-index
-offset_bounds-after-index c = omega (arith, c.requires c.if-t-eq0.true)
+pub offset_bounds-after-t : goal.offset_bounds-after-t
+offset_bounds-after-t c = omega (arith, c.requires c.if-t-eq0.true)
 
-pub bounds-after-index : goal.bounds-after-index
-bounds-after-index c = c.requires c.if-t-eq0.true
+pub bounds-after-t : goal.bounds-after-t
+bounds-after-t c = c.requires c.if-t-eq0.true
 
 pub returns-then-t-eq0 : goal.returns-then-t-eq0
 returns-then-t-eq0 c = rw (eq-eqb c.args.t.how 0 c.if-t-eq0.true)

@@ -17,11 +17,11 @@ returns-then-cell-ne0 c = search no_cell
 
 pub offset_bounds-values-index : goal.offset_bounds-values-index
 offset_bounds-values-index c =
-    destination_fits _ _ _ c.form_at-form.ensures _ _ _ _ c.requires.long c.in-Memory.is _ c.if-cell-ne0.false c.cell_at-cell.ensures (search)
+    destination_fits _ _ _ c.form_at.ensures _ _ _ _ c.requires.long c.in-Memory.is _ c.if-cell-ne0.false c.cell_at-cell.ensures (search)
 
 pub bounds-values-index : goal.bounds-values-index
 bounds-values-index c =
-    destination_inside _ _ _ c.form_at-form.ensures _ _ _ _ c.requires.long c.in-Memory.is _ c.if-cell-ne0.false c.cell_at-cell.ensures
+    destination_inside _ _ _ c.form_at.ensures _ _ _ _ c.requires.long c.in-Memory.is _ c.if-cell-ne0.false c.cell_at-cell.ensures
 
 pub returns-in-Const : goal.returns-in-Const
 returns-in-Const c = search no_constant

@@ -7,7 +7,7 @@ pub overflow_add-at : goal.overflow_add-at
 overflow_add-at c = omega (arith, operand_starts)
 
 pub returns-then-src-ne0 : goal.returns-then-src-ne0
-returns-then-src-ne0 c = search multiply_unread
+returns-then-src-ne0 c = rw c.at.ensures (search multiply_unread)
 
 pub returns : goal.returns
-returns c = search multiply_done
+returns c = rw c.done.ensures (search multiply_done)

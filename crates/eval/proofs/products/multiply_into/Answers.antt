@@ -60,10 +60,10 @@ load-src-requires c = let asked = c.requires in
     }
 
 pub returns-then-src-ne0 : goal.returns-then-src-ne0
-returns-then-src-ne0 c = let w = operands (goal.at.returns-then-src-ne0 c).After-load-src in search product_unread
+returns-then-src-ne0 c = let w = operands (goal.at.returns-then-src-ne0 c).After-load-src in rw c.at.ensures (search product_unread)
 
 pub returns-then-low-gt1 : goal.returns-then-low-gt1
-returns-then-low-gt1 c = let w = operands (goal.at.returns-then-low-gt1 c).After-load-src in search product_unwritten
+returns-then-low-gt1 c = let w = operands (goal.at.returns-then-low-gt1 c).After-load-src in rw c.at-then-low-gt1.ensures (search product_unwritten)
 
 pub registers_with-after-requires : goal.registers_with-after-requires
 registers_with-after-requires c =
@@ -76,7 +76,9 @@ pub resolve-high-requires : goal.resolve-high-requires
 resolve-high-requires c = let asked = c.requires in search rules
 
 pub returns-then-high-gt1 : goal.returns-then-high-gt1
-returns-then-high-gt1 c = let w = halves (goal.at.returns-then-high-gt1 c).After-resolve-high in search product_unresolved
+returns-then-high-gt1 c =
+    let w = halves (goal.at.returns-then-high-gt1 c).After-resolve-high in
+    rw c.at-then-high-gt1.ensures (search product_unresolved)
 
 pub put-requires : goal.put-requires
 put-requires c = let w = halves (goal.at.put-requires c).After-resolve-high in w.operands.low.bounds w.valid
@@ -86,4 +88,4 @@ put-requires-2 c =
     rw c.put.auto.values ((halves (goal.at.put-requires-2 c).After-resolve-high).high.bounds c.if-high-gt1.false)
 
 pub returns : goal.returns
-returns c = let w = halves (goal.at.returns c).After-resolve-high in search product_done
+returns c = let w = halves (goal.at.returns c).After-resolve-high in rw c.done.ensures (search product_done)

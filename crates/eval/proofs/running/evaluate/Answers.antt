@@ -11,8 +11,8 @@ invariant_of-lent c = record { searchable = (accepted_cells _ _ _ c.requires.val
 pub eval_codes-exit-requires : goal.eval_codes-exit-requires
 eval_codes-exit-requires c = record { codes_at = search accepted_codes; long = (accepted_cells _ _ _ c.requires.values_value).1 }
 
-pub needed_fuel-needed-requires : goal.needed_fuel-needed-requires
-needed_fuel-needed-requires c =
+pub needed_fuel-requires : goal.needed_fuel-requires
+needed_fuel-requires c =
     let less = c.eval_codes-exit.ensures.with_less_all in
     let begun = c.new-counter.ensures.tested in
     (less.some (omega (arith, begun)), omega (arith, begun, less.most))
@@ -24,6 +24,6 @@ returns c =
     let ran = rw begun.counted at c.eval_codes-exit.ensures.evaluates_all in
     let less = rw begun.counted at c.eval_codes-exit.ensures.with_less_all in
     record {
-      values_after = rw c.watch-watch.ensures (search run_ran);
-      needed_value = needed_is _ _ _ _ _ pre.code_value pre.values_value _ _ _ _ _ less begun.tested _ c.needed_fuel-needed.ensures;
+      values_after = rw c.watch.ensures (search run_ran);
+      needed_value = needed_is _ _ _ _ _ pre.code_value pre.values_value _ _ _ _ _ less begun.tested _ c.needed_fuel.ensures;
     }

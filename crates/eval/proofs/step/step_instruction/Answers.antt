@@ -5,7 +5,7 @@ use Rattle.eval.proofs.StepLaws.{ins_below, step_fits, ins_stopped, ins_ended, i
 use Rattle.eval.proofs.step.step_instruction.Goals as goal
 
 pub returns-then-used_up : goal.returns-then-used_up
-returns-then-used_up c = record { evaluates_step = search ins_stopped; tested_none = refl }
+returns-then-used_up c = record { evaluates_step = rw c.at.ensures (search ins_stopped); tested_none = refl }
 
 pub returns-then-ran-ne0 : goal.returns-then-ran-ne0
 returns-then-ran-ne0 c = record { evaluates_step = search ins_ended; tested_none = refl }

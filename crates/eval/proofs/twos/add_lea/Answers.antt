@@ -31,16 +31,16 @@ load-two-requires c = let asked = c.requires in
     }
 
 pub returns-then-one-ne0 : goal.returns-then-one-ne0
-returns-then-one-ne0 c = let w = operands (goal.at.returns-then-one-ne0 c).After-load-two in search sum_unread
+returns-then-one-ne0 c = let w = operands (goal.at.returns-then-one-ne0 c).After-load-two in rw c.at.ensures (search sum_unread)
 
 pub returns-then-two-ne0 : goal.returns-then-two-ne0
-returns-then-two-ne0 c = let w = operands (goal.at.returns-then-two-ne0 c).After-load-two in search sum_unread_second
+returns-then-two-ne0 c = let w = operands (goal.at.returns-then-two-ne0 c).After-load-two in rw c.at-then-two-ne0.ensures (search sum_unread_second)
 
 pub returns-then-dst-gt1 : goal.returns-then-dst-gt1
-returns-then-dst-gt1 c = let w = operands (goal.at.returns-then-dst-gt1 c).After-load-two in search sum_unwritten
+returns-then-dst-gt1 c = let w = operands (goal.at.returns-then-dst-gt1 c).After-load-two in rw c.at-then-dst-gt1.ensures (search sum_unwritten)
 
 pub put-requires : goal.put-requires
 put-requires c = search (operands (goal.at.put-requires c).After-load-two).dst.bounds
 
 pub returns : goal.returns
-returns c = let w = operands (goal.at.returns c).After-load-two in search sum_done
+returns c = let w = operands (goal.at.returns c).After-load-two in rw c.done.ensures (search sum_done)

@@ -26,13 +26,13 @@ pub load-src-requires : goal.load-src-requires
 load-src-requires c = let next = (c.resolve-dst.ensures 0 []).next in search second_there
 
 pub returns-then-src-ne0 : goal.returns-then-src-ne0
-returns-then-src-ne0 c = let w = operands (goal.at.returns-then-src-ne0 c).After-load-src in search reads_nothing
+returns-then-src-ne0 c = let w = operands (goal.at.returns-then-src-ne0 c).After-load-src in rw c.at.ensures (search reads_nothing)
 
 pub returns-then-too_far : goal.returns-then-too_far
-returns-then-too_far c = let w = operands (goal.at.returns-then-too_far c).After-load-src in search shifts_too_far
+returns-then-too_far c = let w = operands (goal.at.returns-then-too_far c).After-load-src in rw c.at-then-too_far.ensures (search shifts_too_far)
 
 pub returns-then-dst-gt1 : goal.returns-then-dst-gt1
-returns-then-dst-gt1 c = let w = operands (goal.at.returns-then-dst-gt1 c).After-load-src in search writes_nowhere
+returns-then-dst-gt1 c = let w = operands (goal.at.returns-then-dst-gt1 c).After-load-src in rw c.at-then-dst-gt1.ensures (search writes_nowhere)
 
 pub effect_of-effect-requires : goal.effect_of-effect-requires
 effect_of-effect-requires c = let w = operands (goal.at.effect_of-effect-requires c).After-load-src in search
@@ -41,4 +41,4 @@ pub put-requires : goal.put-requires
 put-requires c = search (operands (goal.at.put-requires c).After-load-src).dst.bounds
 
 pub returns : goal.returns
-returns c = let w = operands (goal.at.returns c).After-load-src in search writes
+returns c = let w = operands (goal.at.returns c).After-load-src in rw c.done.ensures (search writes)
