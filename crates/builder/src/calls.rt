@@ -8,7 +8,7 @@ ghost use Rattle.code.specs.Reached.{Begins, rest_of_all};
 ghost use Rattle.code.specs.Layout.{ocmp_layout};
 ghost use Rattle.code.specs.Writer.{bytes_of, bytes_of_ocmp};
 ghost use Rattle.builder.specs.Calls.{open_block, open_if_else, open_while, add, close, record_trouble, RecordTyped, CallTyped};
-ghost use Rattle.builder.specs.Rendered.{trouble_of, OnlyFields, Closable};
+ghost use Rattle.builder.specs.Rendered.{trouble_of, Closable};
 ghost use Rattle.builder.specs.Building.{takes_code, judge, refusal, buffer_after, opens, answer_of, left, call};
 
 use crate::build::{
@@ -18,7 +18,6 @@ use crate::record::{record_of, record_of_ocmp};
 use crate::refusal::BuildRefusal;
 use crate::write::{Bytes, copy, put_number, put_record};
 use code::{Instruction, Ocmp, read_rest};
-use machine::Rule;
 
 // The first refusal whose condition holds.
 #[tactic(auto, unfolding(crate::specs::Building::judge, crate::specs::Building::unless, crate::specs::Calls::first_of))]
@@ -47,16 +46,12 @@ fn judge(
 // The first wrong field of the record that stands from `at` on: it is judged as it stands in the bytes, by the check of code.
 #[tactic(auto, unfolding(code::specs::Reached::reach))]
 fn check_fields(bytes: &[u8], at: usize) -> Result<(), BuildRefusal>
-    requires begins { Begins is_used bytes.now (length bytes.now) at }
-    requires only_fields { OnlyFields (rest_of_all bytes.now (length bytes.now) at) }
+    requires { Begins is_used bytes.now (length bytes.now) at }
     ensures { answer_of result ≡ trouble_of (rest_of_all bytes.now (length bytes.now) at) }
 {
     match read_rest(bytes, bytes.len(), at) {
         Ok(_) => Ok(()),
-        Err(refusal) => Err(match refusal.rule {
-            Rule::Scale => BuildRefusal::NoScale,
-            _ => BuildRefusal::NoRegister,
-        }),
+        Err(refusal) => Err(BuildRefusal::Field(refusal.rule)),
     }
 }
 
