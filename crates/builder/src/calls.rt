@@ -11,9 +11,7 @@ ghost use Rattle.builder.specs.Calls.{open_block, open_if_else, open_while, add,
 ghost use Rattle.builder.specs.Rendered.{trouble_of, Closable};
 ghost use Rattle.builder.specs.Building.{takes_code, judge, refusal, buffer_after, opens, answer_of, left, call};
 
-use crate::build::{
-    Build, CODES, LAST_PART, TRUE_PART, closed, innermost, longer, opened, takes_close, takes_code,
-};
+use crate::build::{Build, CODES, LAST_PART, TRUE_PART};
 use crate::record::{record_of, record_of_ocmp};
 use crate::refusal::BuildRefusal;
 use crate::write::{Bytes, copy, put_number, put_record};
@@ -69,7 +67,7 @@ fn append(
     ensures ok { OnOk result (buffer.new ≡ sets buffer.old build.length bytes.now) }
     ensures err { OnErr result (buffer.new ≡ buffer.old) }
 {
-    let fits = takes_code(build);
+    let fits = build.takes_code();
     let depth = usize::from(build.depth) + 1;
     let length = usize::from(build.length);
     judge(fits, fields, depth, length + bytes.len(), buffer.len())?;
@@ -90,7 +88,7 @@ fn open_part(
     ensures { left build result buffer.new ≡ opens kind (answer_of fields) bytes.now build buffer.old }
 {
     append(build, buffer, bytes, fields)?;
-    Ok(opened(kind, build, bytes.len()))
+    Ok(build.opened(kind, bytes.len()))
 }
 
 // Opens a structure of this kind byte, in which 0 stands for so many bytes of lengths, and then its condition.
@@ -147,7 +145,7 @@ pub fn add(build: Build, buffer: &mut [u8], instruction: Instruction) -> Result<
     put_record(&mut bytes, record_of(instruction));
     let fields = check_fields(&bytes, 0);
     append(build, buffer, &bytes, fields)?;
-    Ok(longer(build, bytes.len()))
+    Ok(build.longer(bytes.len()))
 }
 
 // Why a close is refused. It adds no bytes.
@@ -155,7 +153,7 @@ pub fn add(build: Build, buffer: &mut [u8], instruction: Instruction) -> Result<
 fn judge_close(build: Build, room: usize) -> Result<(), BuildRefusal>
     ensures { answer_of result ≡ refusal close build room }
 {
-    let fits = takes_close(build);
+    let fits = build.takes_close();
     judge(
         fits,
         Ok(()),
@@ -171,7 +169,7 @@ fn store_length(build: Build, buffer: &mut [u8])
     requires { Closable build (length buffer.old) }
     ensures { buffer.new ≡ buffer_after close build buffer.old }
 {
-    let part = innermost(build);
+    let part = build.innermost();
     let counted = usize::from(build.length) - usize::from(part.start);
     let mut bytes = Bytes::new();
     put_number(&mut bytes, counted as u64, 4);
@@ -184,5 +182,5 @@ pub fn close(build: Build, buffer: &mut [u8]) -> Result<Build, BuildRefusal>
 {
     judge_close(build, buffer.len())?;
     store_length(build, buffer);
-    Ok(closed(build))
+    Ok(build.closed())
 }
