@@ -3,7 +3,6 @@ use Prim.Native.Nat.{ℕ, zero, suc, ◌+◌, ◌≤◌}
 use mathlib.Core.Path.{◌≡◌, refl, sym, ap, subst, subst⁻¹, ◌∙◌}
 use mathlib.Core.Bool.{Bool, true, false, not, ◌||◌}
 use mathlib.Core.List.{List, [], ◌∷◌, ◌++◌, map}
-use mathlib.Core.Logic.{inl, inr}
 use native.Mathlib.Omega.{arith}
 use borrow.Author.Tests.{leb-true, leb-false, le-ltb, lt-ltb, lt-leb}
 use lib.Dec.{ltb, leb}
@@ -26,8 +25,7 @@ use Rattle.code.proofs.Complete.{behind_structure}
 use Rattle.code.proofs.Held.{Holds, holds_from, holds_behind, split, length_bytes, length_signed, signed_held}
 use Rattle.code.proofs.ReadBack.{kind_is, count_is, parts, ends_at}
 use Rattle.builder.specs.Calls.{first_of, number_trouble, scale_trouble, byte_trouble, maddr_trouble, operand_trouble, body_trouble, operands_trouble, record_trouble, MaddrTyped, OperandTyped, ByteTyped, RecordTyped}
-use Rattle.builder.specs.Rendered.{trouble_of, OnlyFields}
-use Rattle.builder.proofs.Known.{Known, record_known}
+use Rattle.builder.specs.Rendered.{trouble_of}
 
 -- ---- the first of some claims, and the others
 pub first : (A : Type 0) (As : List (Type 0)) → All (A ∷ As) → A
@@ -46,11 +44,6 @@ operands_typed (b ∷ bytes) os h = operands_typed bytes os (others (ByteTyped b
 abbrev pub Says : Read (Unit {0}) → ℕ → ℕ → Type 0
 Says r zero m = r ≡ got tt m
 Says r (suc n) m = (p : ℕ) × (r ≡ trouble (suc n) p)
-
-says_fields : (r : Read (Unit {0})) (n m : ℕ) → Says r n m → Known n → OnlyFields r
-says_fields r zero m h k = subst⁻¹ OnlyFields h tt
-says_fields r (suc n) m h (inl z) = absurd (omega (arith, z))
-says_fields r (suc n) m h (inr w) = subst⁻¹ OnlyFields h.1 w
 
 says_number : (r : Read (Unit {0})) (n m : ℕ) → Says r n m → trouble_of r ≡ n
 says_number r zero m h = ap trouble_of h
@@ -231,12 +224,7 @@ module _ (allowed : ℕ → Bool) (used : (k : ℕ) → allowed k ≡ true → i
         kind = subst⁻¹ (λ (k : ℕ). is_used k ≡ true) held.0 (used given.kind agrees.right);
       }
 
-  module _ (typed : RecordTyped given) where
-    -- reading it finds nothing wrong but its fields
-    pub only_fields : OnlyFields (rest_of_all bytes (length bytes) at)
-    only_fields = says_fields _ _ _ (record_reads bytes allowed given agrees typed at (length bytes) held ends) (record_known given)
-
-    -- and it has its trouble
-    pub trouble_is : {r : ℕ} → r ≡ trouble_of (rest_of_all bytes (length bytes) at) → r ≡ record_trouble l
-    trouble_is h =
-        h ∙ record_says bytes allowed given agrees typed at (length bytes) held ends ∙ ap record_trouble same
+  -- and reading it finds its trouble
+  pub trouble_is : RecordTyped given → {r : ℕ} → r ≡ trouble_of (rest_of_all bytes (length bytes) at) → r ≡ record_trouble l
+  trouble_is typed h =
+      h ∙ record_says bytes allowed given agrees typed at (length bytes) held ends ∙ ap record_trouble same

@@ -8,17 +8,17 @@ use Rattle.std.proofs.lemmas.Bool.{and_parts}
 use native.Mathlib.Omega.{arith}
 use borrow.Author.Tests.{leb-true, ne_eqb}
 use lib.Dec.{leb}
+use Rattle.machine.proofs.RuleLaws.{number_pos}
 use Rattle.builder.specs.declared.build.Build.{Build}
 use Rattle.builder.specs.Calls.{first_of}
 use Rattle.builder.specs.declared.refusal.BuildRefusal.{BuildRefusal}
-use Rattle.builder.specs.declared.refusal.BuildRefusal.TheVariants.{Misfit, NoRegister, NoScale, TooDeep, NoRoom}
+use Rattle.builder.specs.declared.refusal.BuildRefusal.TheVariants.{Misfit, Field, TooDeep, NoRoom}
 use Rattle.builder.specs.Building.{number_of, unless, judge, outcome, left, answered}
 
 -- no refusal has the number 0
 pub some_number : (r : BuildRefusal) → number_of r ≡ 0 → ⊥
 some_number Misfit e = omega (arith, e)
-some_number NoRegister e = omega (arith, e)
-some_number NoScale e = omega (arith, e)
+some_number (Field rule) e = number_pos rule e
 some_number TooDeep e = omega (arith, e)
 some_number NoRoom e = omega (arith, e)
 

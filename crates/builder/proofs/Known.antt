@@ -1,4 +1,4 @@
--- The number of a wrong field is 4 or 7. Assumes nothing.
+-- The number of a wrong field is 4 or 7, so that a refusal of a field holds the rule `Register` or `Scale`. Assumes nothing.
 use Prim.Native.Nat.{ℕ, zero, suc}
 use mathlib.Core.Path.{◌≡◌, refl}
 use mathlib.Core.Bool.{Bool, true, false, cond}

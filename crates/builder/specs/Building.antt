@@ -3,9 +3,10 @@
 -- at its word.
 use Rattle.std.specs.Prelude.{ℕ, ◌+◌, ◌-◌, Bool, true, false, ◌&&◌, ◌||◌, cond, Result, Ok, Err, List, eqb, ltb, leb, length, get_or, set, replicate}
 use Rattle.std.proofs.lemmas.List.Edits.{sets}
+use Rattle.machine.specs.Rules.{rule_number}
 use Rattle.builder.specs.declared.build.Build.{Build}
 use Rattle.builder.specs.declared.refusal.BuildRefusal.{BuildRefusal}
-use Rattle.builder.specs.declared.refusal.BuildRefusal.TheVariants.{Misfit, NoRegister, NoScale, TooDeep, NoRoom}
+use Rattle.builder.specs.declared.refusal.BuildRefusal.TheVariants.{Misfit, Field, TooDeep, NoRoom}
 use Rattle.code.specs.Writer.{bytes_of}
 use Rattle.builder.specs.Calls.{Call, open_block, open_if_else, open_while, add, close, bytes_of_call, first_of, call_trouble}
 
@@ -146,8 +147,7 @@ outcome n b buffer = record { answer = n; build = b; buffer = buffer }
 -- the number of a refusal
 abbrev pub number_of : BuildRefusal → ℕ
 number_of Misfit = 51
-number_of NoRegister = 4
-number_of NoScale = 7
+number_of (Field rule) = rule_number rule
 number_of TooDeep = 53
 number_of NoRoom = 52
 

@@ -1,5 +1,5 @@
 -- What the functions below the calls promise: the layout of a record, what reading its bytes finds, and which builds are closed.
-use Rattle.std.specs.Prelude.{ℕ, ◌+◌, ◌≤◌, ◌<◌, ◌≡◌, ◌⊎◌, List, [], ◌∷◌}
+use Rattle.std.specs.Prelude.{ℕ, ◌+◌, ◌≤◌, ◌<◌, List, [], ◌∷◌}
 use Rattle.machine.specs.declared.Operand.{Operand}
 use Rattle.code.specs.Layout.{Byte, number, amount, Layout, laid}
 use Rattle.code.specs.Reader.{Read, got, trouble}
@@ -35,11 +35,6 @@ layout_of r = laid r.kind (body_of r.body) (operands_of r.operands)
 abbrev pub trouble_of : Read (Unit {0}) → ℕ
 trouble_of (got a next) = 0
 trouble_of (trouble n p) = n
-
--- a reading that finds nothing wrong but a field: a register or an xmm number (4), or a scale (7)
-abbrev pub OnlyFields : Read (Unit {0}) → Type 0
-OnlyFields (got a next) = Unit {0}
-OnlyFields (trouble n p) = (n ≡ 4) ⊎ (n ≡ 7)
 
 -- a build's innermost open part
 abbrev pub part_of : Build → Part

@@ -1,4 +1,6 @@
-// The calls. Each is judged first, and a refused one writes nothing.
+// The calls. Each is judged first, and a refused one writes nothing. A build passes by value with the buffer beside it, which is the
+// caller's: the five public calls take the two so, and what they call does too.
+// The kinds of structures (0x20, 0x21, 0x22) are bytes, and no enum: docs/DECISIONS.md, "A kind is a byte".
 ghost use Rattle.std.specs.Prelude.{◌≡◌, ◌∷◌, ◌++◌, ◌+◌, ◌≤◌, ◌-◌, length, OnOk, OnErr};
 ghost use Rattle.std.proofs.lemmas.List.Edits.{sets};
 ghost use Rattle.code.specs.Kinds.{is_used};
@@ -6,17 +8,14 @@ ghost use Rattle.code.specs.Reached.{Begins, rest_of_all};
 ghost use Rattle.code.specs.Layout.{ocmp_layout};
 ghost use Rattle.code.specs.Writer.{bytes_of, bytes_of_ocmp};
 ghost use Rattle.builder.specs.Calls.{open_block, open_if_else, open_while, add, close, record_trouble, RecordTyped, CallTyped};
-ghost use Rattle.builder.specs.Rendered.{trouble_of, OnlyFields, Closable};
+ghost use Rattle.builder.specs.Rendered.{trouble_of, Closable};
 ghost use Rattle.builder.specs.Building.{takes_code, judge, refusal, buffer_after, opens, answer_of, left, call};
 
-use crate::build::{
-    Build, CODES, LAST_PART, TRUE_PART, closed, innermost, longer, opened, takes_close, takes_code,
-};
+use crate::build::{Build, CODES, LAST_PART, TRUE_PART};
 use crate::record::{record_of, record_of_ocmp};
 use crate::refusal::BuildRefusal;
 use crate::write::{Bytes, copy, put_number, put_record};
 use code::{Instruction, Ocmp, read_rest};
-use machine::Rule;
 
 // The first refusal whose condition holds.
 #[tactic(auto, unfolding(crate::specs::Building::judge, crate::specs::Building::unless, crate::specs::Calls::first_of))]
@@ -45,16 +44,12 @@ fn judge(
 // The first wrong field of the record that stands from `at` on: it is judged as it stands in the bytes, by the check of code.
 #[tactic(auto, unfolding(code::specs::Reached::reach))]
 fn check_fields(bytes: &[u8], at: usize) -> Result<(), BuildRefusal>
-    requires begins { Begins is_used bytes.now (length bytes.now) at }
-    requires only_fields { OnlyFields (rest_of_all bytes.now (length bytes.now) at) }
+    requires { Begins is_used bytes.now (length bytes.now) at }
     ensures { answer_of result ≡ trouble_of (rest_of_all bytes.now (length bytes.now) at) }
 {
     match read_rest(bytes, bytes.len(), at) {
         Ok(_) => Ok(()),
-        Err(refusal) => Err(match refusal.rule {
-            Rule::Scale => BuildRefusal::NoScale,
-            _ => BuildRefusal::NoRegister,
-        }),
+        Err(refusal) => Err(BuildRefusal::Field(refusal.rule)),
     }
 }
 
@@ -72,7 +67,7 @@ fn append(
     ensures ok { OnOk result (buffer.new ≡ sets buffer.old build.length bytes.now) }
     ensures err { OnErr result (buffer.new ≡ buffer.old) }
 {
-    let fits = takes_code(build);
+    let fits = build.takes_code();
     let depth = usize::from(build.depth) + 1;
     let length = usize::from(build.length);
     judge(fits, fields, depth, length + bytes.len(), buffer.len())?;
@@ -93,7 +88,7 @@ fn open_part(
     ensures { left build result buffer.new ≡ opens kind (answer_of fields) bytes.now build buffer.old }
 {
     append(build, buffer, bytes, fields)?;
-    Ok(opened(kind, build, bytes.len()))
+    Ok(build.opened(kind, bytes.len()))
 }
 
 // Opens a structure of this kind byte, in which 0 stands for so many bytes of lengths, and then its condition.
@@ -150,7 +145,7 @@ pub fn add(build: Build, buffer: &mut [u8], instruction: Instruction) -> Result<
     put_record(&mut bytes, record_of(instruction));
     let fields = check_fields(&bytes, 0);
     append(build, buffer, &bytes, fields)?;
-    Ok(longer(build, bytes.len()))
+    Ok(build.longer(bytes.len()))
 }
 
 // Why a close is refused. It adds no bytes.
@@ -158,7 +153,7 @@ pub fn add(build: Build, buffer: &mut [u8], instruction: Instruction) -> Result<
 fn judge_close(build: Build, room: usize) -> Result<(), BuildRefusal>
     ensures { answer_of result ≡ refusal close build room }
 {
-    let fits = takes_close(build);
+    let fits = build.takes_close();
     judge(
         fits,
         Ok(()),
@@ -174,7 +169,7 @@ fn store_length(build: Build, buffer: &mut [u8])
     requires { Closable build (length buffer.old) }
     ensures { buffer.new ≡ buffer_after close build buffer.old }
 {
-    let part = innermost(build);
+    let part = build.innermost();
     let counted = usize::from(build.length) - usize::from(part.start);
     let mut bytes = Bytes::new();
     put_number(&mut bytes, counted as u64, 4);
@@ -187,5 +182,5 @@ pub fn close(build: Build, buffer: &mut [u8]) -> Result<Build, BuildRefusal>
 {
     judge_close(build, buffer.len())?;
     store_length(build, buffer);
-    Ok(closed(build))
+    Ok(build.closed())
 }

@@ -1,5 +1,5 @@
 // Instructions and comparisons as records, by the parts of their layouts.
-// A kind is the byte that stands in the code, and no enum: docs/DECISIONS.md, "A kind is a byte".
+// A kind is the byte that stands in the code, and no enum: docs/DECISIONS.md, "A kind is a byte" (here its second ground).
 ghost use Rattle.std.specs.Prelude.{◌≡◌, [], ◌∷◌};
 ghost use Rattle.code.specs.Layout.{laid, number, amount, layout, ocmp_layout};
 ghost use Rattle.builder.specs.Rendered.{layout_of};
@@ -7,7 +7,9 @@ ghost use Rattle.builder.specs.Rendered.{layout_of};
 use code::{Instruction, Ocmp};
 use machine::Operand;
 
-// The bodies there are: xmm numbers, then an amount or imm8.
+// The bodies there are: xmm numbers, then an amount or imm8. An enum by their length and no list, as of operands: so a record has
+// no more of either than a kind asks for, and the writers (write.rt) know by the type what room they need. Two of the bodies have two
+// bytes and are two layouts, since a number is held to 15 and an amount is not.
 #[derive(Clone, Copy)]
 pub enum Body {
     Nothing,
@@ -31,6 +33,7 @@ pub struct Record {
     pub operands: Operands,
 }
 
+// A constructor for each layout that kinds have: what they share is the struct itself.
 fn one(kind: u8, a: Operand) -> Record
     ensures { layout_of result ≡ laid kind [] (a ∷ []) }
 {
@@ -101,6 +104,7 @@ fn lane(kind: u8, a: u8, n: u8, operand: Operand) -> Record
     }
 }
 
+// The record whose layout the definition of this name gives, `layout`, and below `ocmp_layout`. No `From`: an `.into()` would name neither.
 #[tactic(auto, unfolding(code::specs::Layout::layout))]
 pub fn record_of(instruction: Instruction) -> Record
     ensures { layout_of result ≡ layout instruction }

@@ -1,5 +1,6 @@
 // Records into a short vector, from where they are copied to the buffer once the call is taken. The longest record has 40
 // bytes, and 9 stand before a comparison; the room is counted more simply, 3 bytes of body and 3 operands of 13.
+// A kind (0x40 to 0x44 are those of operands) is a byte, and no enum: docs/DECISIONS.md, "A kind is a byte".
 ghost use Rattle.std.specs.Prelude.{◌≡◌, [], ◌∷◌, ◌++◌, map, ◌+◌, ◌≤◌, length};
 ghost use Rattle.std.proofs.lemmas.List.Edits.{sets};
 ghost use Rattle.arrayvec.specs.ArrayVec.{array_vec_len};
@@ -16,7 +17,7 @@ use machine::{Maddr, Operand};
 // The bytes that a call adds.
 pub type Bytes = ArrayVec<u8, 52>;
 
-// The low bytes of a number, `count` of them.
+// The low bytes of a number, `count` of them. The index has a name for the proof: its invariant counts by it.
 pub fn put_number(out: &mut Bytes, number: u64, count: usize)
     requires { array_vec_len out.old + count ≤ 52 }
     ensures bytes { out.new.items ≡ out.old.items ++ bytes_of count number }
@@ -29,7 +30,7 @@ pub fn put_number(out: &mut Bytes, number: u64, count: usize)
     }
 }
 
-// A signed number, two's complement.
+// A signed number, two's complement, and below a scale: a line each over `put_number`, of their types and sizes.
 #[tactic(auto, unfolding(code::specs::Writer::signed_bytes))]
 fn put_offset(out: &mut Bytes, offset: i64)
     requires { array_vec_len out.old + 8 ≤ 52 }

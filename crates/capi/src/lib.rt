@@ -96,7 +96,7 @@ fn tell_watch(watch: Watch, mark: &mut usize, opened: &mut u8) -> u8
     }
 }
 
-// C names an evaluation by a number.
+// C names an evaluation by a number. An Option and no `TryFrom`: of a number that names none nothing more is told (`tell_none`).
 fn evaluation_of(number: u8) -> Option<Evaluation>
     ensures { result ≡ evaluation_given number }
 {
@@ -139,6 +139,7 @@ fn lent_state(regs: &[u64; 16], xmms: &[u32; 64], flags: u64) -> State
     }
 }
 
+// The state into its lent parts. By names, as in build.rt: a field that is an array is not stored straight from a struct.
 fn hand_back(state: State, regs: &mut [u64; 16], xmms: &mut [u32; 64], flags: &mut u64)
     ensures { lent_state regs.new xmms.new flags.new ≡ state }
 {

@@ -1,5 +1,5 @@
 // The instruction or the comparison that numbers give.
-// A kind is the byte that stands in the code, and no enum: docs/DECISIONS.md, "A kind is a byte".
+// A kind is a byte, as C gives it, and no enum: docs/DECISIONS.md, "A kind is a byte" (here its second ground).
 ghost use Rattle.std.specs.Prelude.{◌≡◌, true, List, [], ◌∷◌, ℕ, ◌≤◌};
 ghost use Rattle.code.specs.Layout.{ins_of, ocmp_of};
 ghost use Rattle.code.specs.Records.{is_ocmp};
@@ -10,7 +10,8 @@ use crate::operands::{Numbers, are_operands, operand_of};
 use code::{Class, Instruction, Ocmp, class_of, operand_count};
 use machine::Operand;
 
-// Whether the kind is an instruction's, and each of its operands has an operand's kind.
+// Whether the kind is an instruction's, and each of its operands has an operand's kind. This and `is_comparison` are each
+// over a definition of its own, and each class has a lemma of its own that there are at most three (`few_ins`, `few_ocmp`).
 #[tactic(auto, using(crate::proofs::KindsGiven::few_ins), unfolding(crate::specs::Given::is_instruction, code::specs::Kinds::class))]
 fn is_instruction(given: Numbers) -> bool
     ensures { result ≡ is_instruction given }
@@ -113,7 +114,8 @@ fn comparison(kind: u8, a: Operand, b: Operand) -> Ocmp
     }
 }
 
-// The instruction: a kind that is none of an instruction's, or of its operands', gives none.
+// The instruction: a kind that is none of an instruction's, or of its operands', gives none. An Option by the definition of that
+// name and no `TryFrom`, here and below: there is no error to tell, only that there is none.
 #[tactic(auto, unfolding(crate::specs::Values::instruction_given, crate::specs::Given::is_instruction))]
 pub fn instruction_of(given: Numbers) -> Option<Instruction>
     ensures { result ≡ instruction_given given }

@@ -12,7 +12,7 @@ use Rattle.builder.specs.Building.{call}
 use Rattle.builder.specs.Rendered.{layout_of}
 use Rattle.builder.proofs.Judged.{was_taken, taken_as, refused_as}
 use Rattle.builder.proofs.Calling.{add_refusal, add_stored, add_longer, add_fits}
-use Rattle.builder.proofs.Checked.{used_ins, begins, only_fields, trouble_is}
+use Rattle.builder.proofs.Checked.{used_ins, begins, trouble_is}
 use Rattle.builder.proofs.calls.add.Goals as goal
 
 pub check_fields-fields-requires : goal.check_fields-fields-requires
@@ -21,10 +21,7 @@ check_fields-fields-requires c =
     let same = c.record_of.ensures in
     let agrees = ins_agrees c.args.instruction in
     let bytes : c.deref.result.now ≡ bytes_of_record (layout_of c.record_of.result) = rw (c.deref.ensures.0, put.bytes, c.new-bytes.ensures) refl in
-    record {
-      begins = begins is_ins used_ins same agrees [] refl bytes;
-      only_fields = only_fields is_ins used_ins same agrees [] refl bytes put.record_typed;
-    }
+    begins is_ins used_ins same agrees [] refl bytes
 
 pub returns-in_err-append : goal.returns-in_err-append
 unfolding call bytes_of_ins

@@ -12,7 +12,7 @@ use Rattle.code.specs.Layout.{ocmp_layout}
 use Rattle.builder.specs.Calls.{record_trouble}
 use Rattle.builder.specs.Building.{opens}
 use Rattle.builder.specs.Rendered.{layout_of}
-use Rattle.builder.proofs.Checked.{used_ocmp, begins, only_fields, trouble_is}
+use Rattle.builder.proofs.Checked.{used_ocmp, begins, trouble_is}
 use Rattle.builder.proofs.calls.open_with.Goals as goal
 
 pub check_fields-fields-requires : goal.check_fields-fields-requires
@@ -24,10 +24,7 @@ check_fields-fields-requires c =
     let size : length front ≡ 1 + c.args.lengths = omega (arith, length_bytes c.args.lengths 0) in
     let bytes : c.deref.result.now ≡ front ++ bytes_of_record (layout_of c.record_of_ocmp.result) =
     rw (c.deref.ensures.0, put.bytes, c.put_number.ensures.bytes, c.push.ensures.items, c.new-bytes.ensures) refl in
-    record {
-      begins = begins is_ocmp used_ocmp same agrees front size bytes;
-      only_fields = only_fields is_ocmp used_ocmp same agrees front size bytes put.record_typed;
-    }
+    begins is_ocmp used_ocmp same agrees front size bytes
 
 pub returns-clause-opens : goal.returns-clause-opens
 unfolding bytes_of_ocmp
