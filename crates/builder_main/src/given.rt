@@ -7,7 +7,7 @@ use builder::{Build, BuildRefusal};
 use code::{Instruction, Ocmp};
 use numbered::{Numbers, comparison_of, instruction_of};
 
-// The kinds of calls in a stored file, of which close is the last.
+// The kinds of calls as the bytes that compare/ writes into a stored file, of which close is the last: `Given` is what they mean.
 pub const BEGIN: u8 = 0;
 
 pub const OPEN_BLOCK: u8 = 1;
@@ -20,7 +20,7 @@ pub const ADD: u8 = 4;
 
 pub const CLOSE: u8 = 5;
 
-// What is given is no value, as the C interface answers it.
+// What is given is no value, as the C interface answers it: a static library, of which no crate can take the constant.
 const NO_VALUE: u8 = 2;
 
 #[derive(Clone, Copy)]
@@ -33,7 +33,7 @@ pub enum Given {
     Close,
 }
 
-// What a call answers, and the build that it leaves.
+// What a call answers, and the build that it leaves. The answer is a byte of the file, 0 or a refusal's number, and is compared as one.
 #[derive(Clone, Copy, PartialEq, Eq)]
 pub struct Left {
     pub answer: u8,

@@ -105,8 +105,8 @@ impl Step {
         &self.bytes[..usize::from(self.head.count)]
     }
 
-    // The record: kind, bytes of the body (3), then of each operand kind, base and index (1), scale (2), number and offset
-    // (8).
+    // The record by its offsets in the file, as compare/ writes it: kind, bytes of the body (3), then of each operand kind, base and
+    // index (1), scale (2), number and offset (8).
     pub fn numbers(&self) -> Numbers {
         let record = &self.record;
         Numbers {

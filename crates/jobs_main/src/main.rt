@@ -13,14 +13,9 @@ ghost use Rattle.job.specs.Job.{output};
 
 use marked::{is_marked, refuses_scale};
 use part::read_part;
-use std::fs::File;
 use std::io;
 use std::io::Read;
-use std::rt::Files;
-use stored::{Tally, read_full};
-
-// No file has as many jobs or sums: a proved loop has to end, and nothing says that a file does.
-const MOST: u64 = 100_000;
+use stored::{MOST, Tally, read_full, try_file};
 
 // Whether the definition's output of a job is the stored text.
 fn agrees(input: &[u8], text: &[u8]) -> bool
@@ -85,34 +80,15 @@ fn try_all<R, F: FnMut(&mut R) -> io::Result<Option<bool>>>(
     Ok(tally)
 }
 
-// Tries a file that begins as one of its kind does.
-fn try_file<R: Files + Print + Eprint, B, F>(
-    rt: &R,
-    name: &str,
-    begins: B,
-    try_next: F,
-) -> io::Result<()>
-where
-    B: FnOnce(&mut R::File) -> io::Result<bool>,
-    F: FnMut(&mut R::File) -> io::Result<Option<bool>>,
-    requires begins { B.IsAlwaysCallable begins }
-    requires try_next { F.IsAlwaysCallable try_next }
-{
-    let mut file = match File::open(rt, name) {
-        Ok(file) => file,
-        Err(e) => return eprintln!(rt; "{name}: {e}"),
-    };
-    if !begins(&mut file)? {
-        return eprintln!(rt; "{name}: it begins otherwise");
-    }
-    let tally = try_all(&mut file, try_next)?;
-    println!(rt; "{name} {tally}")
-}
-
 fn main(rt: HostRuntime) -> io::Result<()> {
-    try_file(&rt, "systematic", |_| Ok(true), try_job)?;
-    try_file(&rt, "random", |_| Ok(true), try_job)?;
-    try_file(&rt, "scales", |_| Ok(true), try_job)?;
-    try_file(&rt, "last-years-rule", is_marked, try_marked)?;
-    try_file(&rt, "sums", |_| Ok(true), try_sum)
+    for name in ["systematic", "random", "scales"] {
+        try_file(&rt, name, |_| Ok(true), |file| try_all(file, try_job))?;
+    }
+    try_file(
+        &rt,
+        "last-years-rule",
+        is_marked,
+        |file| try_all(file, try_marked),
+    )?;
+    try_file(&rt, "sums", |_| Ok(true), |file| try_all(file, try_sum))
 }

@@ -7,6 +7,7 @@ use std::io;
 use std::io::Read;
 use stored::read_full;
 
+// 0 at the end of the file, where a part of no bytes stands for None (see `read_part`).
 fn read_length(file: &mut impl Read) -> io::Result<usize> {
     let mut four = [0u8; 4];
     if read_full(file, &mut four)? < 4 {
@@ -15,7 +16,8 @@ fn read_length(file: &mut impl Read) -> io::Result<usize> {
     Ok(number4(&four, 0))
 }
 
-// Reads the file's next part into `room` and answers it: nothing where the file has ended, or the part is too long.
+// Reads the file's next part into `room` and answers it: no bytes where the file has ended, or the part is too long. An Option would be
+// no plainer: no text is empty, so the text's length alone tells the end, and a job that is cut short is tried like any other.
 pub fn read_part<'a, R: Read>(file: &mut R, room: &'a mut [u8]) -> io::Result<&'a [u8]>
     ensures { IfOk result (λ part. length part.now ≤ length room.old) }
 {

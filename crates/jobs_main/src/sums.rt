@@ -1,7 +1,7 @@
 // A stored sum: the kind of its instruction and its evaluation, a byte each, and six words, low byte first: Rax, Rbx, flags and the
 // fill word before, and Rax and flags behind.
 
-ghost use Rattle.std.specs.Prelude.{◌≡◌, ◌≤◌, ◌↔◌, IsTrue, length};
+ghost use Rattle.std.specs.Prelude.{◌≡◌, ◌↔◌, IsTrue};
 ghost use Rattle.jobs_main.specs.Sums.{evaluation_at, Says, IsStored};
 
 use code::number8;
@@ -10,8 +10,8 @@ use machine::State;
 
 pub const ROW: usize = 50;
 
-fn evaluation_at(row: &[u8]) -> Evaluation
-    requires { 50 ≤ length row.now }
+// A byte of the file, 0 or 1 as compare/ writes it: so that no row is without a run, any other is taken for 1, in specs/Sums too.
+fn evaluation_at(row: &[u8; ROW]) -> Evaluation
     ensures { result ≡ evaluation_at row.now }
 {
     match row[1] {
@@ -21,8 +21,7 @@ fn evaluation_at(row: &[u8]) -> Evaluation
 }
 
 // The instruction alone, from Rbx to Rax.
-fn run_sum(row: &[u8]) -> Run
-    requires { 50 ≤ length row.now }
+fn run_sum(row: &[u8; ROW]) -> Run
     ensures { Says row.now result }
 {
     let code = [row[0], 0x41, 0, 0x41, 1];
@@ -44,8 +43,7 @@ fn run_sum(row: &[u8]) -> Run
 }
 
 // Whether a sum ends as it is stored.
-pub fn agrees(row: &[u8]) -> bool
-    requires { 50 ≤ length row.now }
+pub fn agrees(row: &[u8; ROW]) -> bool
     ensures { IsTrue result ↔ IsStored row.now }
 {
     let Run { answer, state, .. } = run_sum(row);

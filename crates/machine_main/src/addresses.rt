@@ -2,21 +2,20 @@
 
 ghost use Rattle.machine.specs.Operands.{RightFields};
 
+use crate::TOP;
 use machine::{Maddr, Reg, exact_address, is_scale, operand_address, register_address};
 use stored::Tally;
 
-const TOP: u64 = 18446744073709551615;
+const HALF: u64 = 1 << 63;
 
-const HALF: u64 = 9223372036854775808;
+// 8 and 4 times these are 2^64.
+const EIGHTH: u64 = 1 << 61;
 
-// 2^61 and 2^62: 8 and 4 times these are 2^64.
-const EIGHTH: u64 = 2305843009213693952;
+const QUARTER: u64 = 1 << 62;
 
-const QUARTER: u64 = 4611686018427387904;
+const LEAST: i64 = i64::MIN;
 
-const LEAST: i64 = -9223372036854775808;
-
-const MOST: i64 = 9223372036854775807;
+const MOST: i64 = i64::MAX;
 
 // Counts the addresses of these bases and offsets.
 fn from_base(cases: &[(u64, i64, Option<u64>)]) -> Tally {

@@ -2,12 +2,12 @@
 
 ghost use Rattle.std.specs.Prelude.{◌≤◌, length};
 
+use crate::TOP;
 use machine::Refusal;
 use stored::Tally;
 
-const TOP: u64 = 18446744073709551615;
-
 // The answer that is told: nothing, or a number and an index. Numbers are written out, and not taken from `Rule`, which is tried too.
+// The program code_main has its own `told`: the crate that programs share knows no refusals.
 pub type Told = Result<(), (u8, usize)>;
 
 pub fn told(checked: Result<(), Refusal>) -> Told {

@@ -10,6 +10,9 @@ mod xmms;
 use std::io;
 use stored::Tally;
 
+// The last address, and the largest word.
+const TOP: u64 = u64::MAX;
+
 fn tell(rt: &impl Print, name: &str, tally: Tally) -> io::Result<()> {
     println!(rt; "{name}: {tally}")
 }

@@ -2,10 +2,9 @@
 
 ghost use Rattle.machine.specs.Operands.{RightFields};
 
+use crate::TOP;
 use machine::{Maddr, NoCell, Reg, cell_of, check_cells, find_cell};
 use stored::Tally;
-
-const TOP: u64 = 18446744073709551615;
 
 // Counts the searches of these cells for these addresses. A search asks for cells that ascend: accepted ones do.
 fn among(addresses: &[u64], tags: &[u8], values: &[u64], cases: &[(u64, Option<usize>)]) -> Tally {
@@ -128,7 +127,7 @@ pub fn tops() -> Tally {
 }
 
 // The cell of an operand, of cells that the check accepts. Rax is 1000, Rdx 3 and R15 the largest word.
-fn named(m: Maddr, addresses: &[u64], tags: &[u8], values: &[u64]) -> Result<usize, NoCell>
+fn cell(m: Maddr, addresses: &[u64], tags: &[u8], values: &[u64]) -> Result<usize, NoCell>
     requires { RightFields m }
 {
     let regs = [1000, 0, 0, 3, 0, 0, 0, 0, 0, 0, 0, 0, 0, 0, 0, TOP];
@@ -142,7 +141,7 @@ fn operand(tally: &mut Tally, m: Maddr, expected: Result<usize, NoCell>)
     requires { RightFields m }
 {
     let addresses = [0, 992, 1000, 1008, TOP - 7];
-    let got = named(m, &addresses, &[64, 64, 64, 32, 64], &[1, 2, 3, 4, 5]);
+    let got = cell(m, &addresses, &[64, 64, 64, 32, 64], &[1, 2, 3, 4, 5]);
     tally.count(got == expected);
 }
 
@@ -230,7 +229,7 @@ pub fn empties() -> Tally {
     let mut tally = Tally::new();
     tally.count(find(&[], &[], &[], 0) == None);
     tally.count(find(&[], &[], &[], TOP) == None);
-    let got = named(Maddr::MConst(0), &[], &[], &[]);
+    let got = cell(Maddr::MConst(0), &[], &[], &[]);
     tally.count(got == Err(NoCell::Absent));
     tally
 }

@@ -4,21 +4,27 @@
 ghost use Rattle.std.specs.Prelude.{◌<◌, ◌≤◌, length};
 ghost use Rattle.machine.specs.Cells.{SameLengths};
 
+use crate::TOP;
 use crate::cells::{Told, told};
 use machine::{Refusal, Wide, check_cells, check_from};
 use stored::Tally;
 
-const TOP: u64 = 18446744073709551615;
-
-// Four cells, and the ends that none, one, .. four of them leave, in two words each. Where a front is refused, its end is not
-// looked at.
+// Four cells, and the ends that none, one, .. four of them leave. Where a front is refused, its end is not looked at. The cells are
+// three lists, as they are lent (docs/DECISIONS.md, "Cells are three lists").
 #[derive(Clone, Copy)]
 struct Cells {
     addresses: [u64; 4],
     tags: [u8; 4],
     values: [u64; 4],
-    low: [u64; 5],
-    high: [u64; 5],
+    ends: [Wide; 5],
+}
+
+// 2^64.
+const BEHIND_TOP: Wide = Wide { high: 1, low: 0 };
+
+// Ends that are words.
+fn low_ends(words: [u64; 5]) -> [Wide; 5] {
+    words.map(Wide::from)
 }
 
 // The answer of a refused front, or of the rest behind an accepted one, which ends at `left`.
@@ -31,8 +37,8 @@ fn in_two(c: &Cells, at: usize, left: Wide) -> Result<(), Refusal>
 
 // Every split has the answer of all the cells: with none of them in the front first, and all of them last.
 fn every_split(tally: &mut Tally, c: &Cells, expected: Told) {
-    for (at, (&high, &low)) in c.high.iter().zip(&c.low).enumerate() {
-        tally.count(told(in_two(c, at, Wide { high, low })) == expected);
+    for (at, &left) in c.ends.iter().enumerate() {
+        tally.count(told(in_two(c, at, left)) == expected);
     }
 }
 
@@ -43,24 +49,27 @@ pub fn accepted() -> Tally {
         addresses: [0, 1, 3, 7],
         tags: [8, 16, 32, 64],
         values: [255, 65535, 4294967295, TOP],
-        low: [0, 1, 3, 7, 15],
-        high: [0; 5],
+        ends: low_ends([0, 1, 3, 7, 15]),
     };
     every_split(&mut tally, &close, Ok(()));
     let apart = Cells {
         addresses: [5, 100, 4096, 9223372036854775808],
         tags: [64, 8, 16, 32],
         values: [0; 4],
-        low: [0, 13, 101, 4098, 9223372036854775812],
-        high: [0; 5],
+        ends: low_ends([0, 13, 101, 4098, 9223372036854775812]),
     };
     every_split(&mut tally, &apart, Ok(()));
     let to_the_end = Cells {
         addresses: [0, TOP - 16, TOP - 8, TOP - 7],
         tags: [8, 64, 8, 64],
         values: [0; 4],
-        low: [0, 1, TOP - 8, TOP - 7, 0],
-        high: [0, 0, 0, 0, 1],
+        ends: [
+            Wide::from(0),
+            Wide::from(1),
+            Wide::from(TOP - 8),
+            Wide::from(TOP - 7),
+            BEHIND_TOP,
+        ],
     };
     every_split(&mut tally, &to_the_end, Ok(()));
     tally
@@ -80,8 +89,7 @@ fn broken(tally: &mut Tally, at: usize, address: u64, tag: u8, value: u64, numbe
         addresses,
         tags,
         values,
-        low: [0, 24, 32, 40, 48],
-        high: [0; 5],
+        ends: low_ends([0, 24, 32, 40, 48]),
     };
     every_split(tally, &words, Err((number, at)));
 }
@@ -134,8 +142,13 @@ fn behind(tally: &mut Tally, address: u64, tag: u8, value: u64, number: u8) {
         addresses: [0, TOP - 7, address, 0],
         tags: [64, 64, tag, 64],
         values: [0, 0, value, 0],
-        low: [0, 8, 0, 0, 0],
-        high: [0, 0, 1, 0, 0],
+        ends: [
+            Wide::from(0),
+            Wide::from(8),
+            BEHIND_TOP,
+            Wide::from(0),
+            Wide::from(0),
+        ],
     };
     every_split(tally, &top, Err((number, 2)));
 }
@@ -158,16 +171,14 @@ pub fn orders() -> Tally {
         addresses: [0, 7, 8, 16],
         tags: [64, 64, 9, 64],
         values: [0; 4],
-        low: [0, 8, 0, 0, 0],
-        high: [0; 5],
+        ends: low_ends([0, 8, 0, 0, 0]),
     };
     every_split(&mut tally, &overlap, Err((15, 1)));
     let large = Cells {
         addresses: [0, 8, 16, 16],
         tags: [64, 64, 8, 64],
         values: [0, 0, 256, 0],
-        low: [0, 8, 16, 0, 0],
-        high: [0; 5],
+        ends: low_ends([0, 8, 16, 0, 0]),
     };
     every_split(&mut tally, &large, Err((14, 2)));
     tally

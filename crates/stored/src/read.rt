@@ -12,6 +12,7 @@ pub fn read_full<R: Read>(file: &mut R, buf: &mut [u8]) -> io::Result<usize>
     ensures full { IfOk result (λ n. n < length buf.new → IsAtEnd (R.remaining file.new)) }
 {
     let mut done = 0;
+    // No index: it counts what each read gives, which may be any part of what is left.
     while done < buf.len() {
         let n = file.read(&mut buf[done..])?;
         if n == 0 {

@@ -1,6 +1,6 @@
-ghost use Rattle.std.specs.Prelude.{◌≡◌, ◌+◌, ◌%◌, ◌^◌, None};
+ghost use Rattle.std.specs.Prelude.{◌≡◌, ◌+◌, ◌%◌, ◌^◌, None, Some};
 ghost use Rattle.std.specs.Int.{from_bool};
-ghost use Rattle.stored.specs.Counting.{first_of};
+ghost use Rattle.stored.specs.Counting.{first_of, told};
 
 use std::fmt;
 use std::fmt::{Display, Formatter, Write};
@@ -41,6 +41,8 @@ impl Tally {
 
 // AGREE of TRIED, and the index of the first that does not agree.
 impl Display for Tally {
+    ghost output = { λ t. Some (told t.agree t.tried t.first) };
+
     fn fmt<W: Write>(&self, f: &mut Formatter<W>) -> fmt::Result {
         write!(f, "{} of {}", self.agree, self.tried)?;
         match self.first {
