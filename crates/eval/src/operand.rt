@@ -1,5 +1,6 @@
-// Operands: where a source is read, and where a destination is written. `OperandBytes` is what `InsAt` and `OcmpAt` give of one operand: that its
-// record stands at a place in the code. A type of such places would have to hold the code too, where `lent` holds it once.
+// Operands: where a source is read, and where a destination is written. `OperandBytes` (and `OperandsFrom`, of some in a
+// row) is what `InsAt` and `OcmpAt` give of an operand: that its record stands at a place in the code. A type of such places would have to
+// hold the code too, where `lent` holds it once.
 ghost use Rattle.std.specs.Prelude.{◌≡◌, List, ℕ, ◌<◌, length};
 ghost use Rattle.machine.specs.declared.Maddr.{Maddr};
 ghost use Rattle.machine.specs.declared.Operand.TheVariants.{OMem};
