@@ -53,7 +53,8 @@ impl Trial {
     }
 }
 
-// A file ends where no whole step is left; one that lends more than there is ends it too.
+// A file ends where no whole step is left; one that lends more than there is ends it too. Not the loop of jobs_main, which counts a case
+// a turn: a step may be none, and every step counts for MOST.
 fn try_all<R: Read>(file: &mut R) -> io::Result<Tally> {
     // More bytes than any list lends.
     let mut buffer = [0u8; 65_600];

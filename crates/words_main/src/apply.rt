@@ -2,6 +2,7 @@
 // carry or flag in s. The result is two words.
 use words::{Double32, Four, Quad32, Sum, Two, Word};
 
+// A type of its own, and not words' `Two<u64>`: the program does not lean on what it tests, and writes `From` for it.
 #[derive(Clone, Copy, PartialEq, Eq)]
 pub struct Pair {
     pub lo: u64,
