@@ -1,6 +1,6 @@
 // The calls. Each is judged first, and a refused one writes nothing. A build passes by value with the buffer beside it, which is the
 // caller's: the five public calls take the two so, and what they call does too.
-// The kinds of structures (0x20, 0x21, 0x22) are bytes, and no enum: docs/DECISIONS.md, "A kind is a byte".
+// The kinds of structures (0x20, 0x21, 0x22) are bytes, and no enum, which would have each name beside its byte: docs/DECISIONS.md, "A kind is a byte".
 ghost use Rattle.std.specs.Prelude.{◌≡◌, ◌∷◌, ◌++◌, ◌+◌, ◌≤◌, ◌-◌, length, OnOk, OnErr};
 ghost use Rattle.std.proofs.lemmas.List.Edits.{sets};
 ghost use Rattle.code.specs.Kinds.{is_used};

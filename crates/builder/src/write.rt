@@ -1,6 +1,6 @@
 // Records into a short vector, from where they are copied to the buffer once the call is taken. The longest record has 40
 // bytes, and 9 stand before a comparison; the room is counted more simply, 3 bytes of body and 3 operands of 13.
-// A kind (0x40 to 0x44 are those of operands) is a byte, and no enum: docs/DECISIONS.md, "A kind is a byte".
+// A kind (0x40 to 0x44 are those of operands) is a byte, and no enum, which would have each name beside its byte: docs/DECISIONS.md, "A kind is a byte".
 ghost use Rattle.std.specs.Prelude.{◌≡◌, [], ◌∷◌, ◌++◌, map, ◌+◌, ◌≤◌, length};
 ghost use Rattle.std.proofs.lemmas.List.Edits.{sets};
 ghost use Rattle.arrayvec.specs.ArrayVec.{array_vec_len};

@@ -33,7 +33,7 @@ pub enum Given {
     Close,
 }
 
-// What a call answers, and the build that it leaves. The answer is a byte of the file, 0 or a refusal's number, and is compared as one.
+// What a call answers, and the build that it leaves. The answer is a byte of the file, 0, NO_VALUE or a refusal's number, and is compared as one.
 #[derive(Clone, Copy, PartialEq, Eq)]
 pub struct Left {
     pub answer: u8,

@@ -56,7 +56,7 @@ fn addition(evaluation: Evaluation, fill: u64, flags: u64, a: u64, b: u64, carry
     }
 }
 
-// Adox64. One function of this and `carry_addition` would be told a flag's reader, its writer and the definitions of both, for two lines.
+// Adox64. One function of this and `carry_addition` would be told how the flag is written and the definition of that, for two lines.
 fn overflow_addition(flags: u64, a: u64, b: u64) -> Effect
     ensures { IsEffect (sum_mod 64 (a + b + bit (Flags.overflow flags)))
         (Flags.update_of flags (sum_carry 64 (a + b + bit (Flags.overflow flags)))) result }

@@ -3,7 +3,7 @@ ghost use Rattle.std.specs.Prelude.{◌≡◌};
 
 // 0, and the place behind the code that was done; 1, and the place of a While that found no fuel; 37, and the place of
 // what found the step limit used up; or the number of the check that failed, and its place.
-// Checks have no names here, 31 to 36, since README, the definitions and C call them by their numbers.
+// Checks have no names here, 31 to 36, nor has the limit, 37: the definitions that this is held to have their numbers. C has names for them.
 // A number beside the values and no Result: docs/DECISIONS.md, "Numbers that come back".
 #[derive(Clone, Copy)]
 pub struct Exit {

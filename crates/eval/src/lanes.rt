@@ -1,7 +1,7 @@
 // Instructions on the four words of an xmm.
 // A kind is the byte that stands in the code, and no enum: docs/DECISIONS.md, "A kind is a byte".
-// So is the number of an xmm: that its byte is below 16 each function asks of the bytes behind its kind, as `InsAt` gives it, and a type of numbers
-// below 16 would be made of the byte, by a test, at each instruction that is run.
+// So is the number of an xmm: that its byte is below 16 each function asks of the bytes behind its kind, as `InsAt` gives it of code and place. A
+// type of numbers below 16 would be made of the byte in each of them, by the same fact, and read nowhere else.
 ghost use Rattle.std.specs.Prelude.{◌≡◌, true, List, ℕ, ◌+◌, ◌<◌, ◌≤◌, length, get_or};
 ghost use Rattle.words.specs.Types.{quad32};
 ghost use Rattle.code.specs.declared.tree.Instruction.TheVariants.{Pshufd, VPSLLDQ, Pextrq};

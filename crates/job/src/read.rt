@@ -1,5 +1,5 @@
 // The fields of a job's bytes, low byte first. How many bytes there are is asked of the input by each that reads (`Complete` where cells and code
-// are read too), and was tested once, by `check_job`.
+// are read too), and was tested once, by `check_job`. No struct carries it: a job is read once, by these functions, in one order.
 ghost use Rattle.std.specs.Prelude.{◌≡◌, ◌+◌, ◌*◌, ◌≤◌, length};
 ghost use Rattle.machine.specs.Cells.{verdict};
 ghost use Rattle.eval.specs.declared.answer.Evaluation.TheVariants.{Base};

@@ -1,5 +1,5 @@
-// The page that is printed on: bytes, words and decimal numbers behind what stands there. By hand, and not by `write!`: the library crates are
-// bought by size, and have none of the library's formatting in them. A word is bytes, as the definitions have it.
+// The page that is printed on: bytes, words and decimal numbers behind what stands there. By hand, and not by `write!`: the code of the
+// library crates is to stay small (docs/COST.md), and has none of the library's formatting in it. A word is bytes, as the definitions have it.
 ghost use Rattle.std.specs.Prelude.{◌≡◌, [], ◌∷◌, length};
 ghost use Rattle.job.specs.Text.{decimal, field};
 ghost use Rattle.job.specs.Written.{HasRoom, Wrote};

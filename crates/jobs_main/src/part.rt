@@ -17,7 +17,7 @@ fn read_length(file: &mut impl Read) -> io::Result<usize> {
 }
 
 // Reads the file's next part into `room` and answers it: no bytes where the file has ended, or the part is too long. An Option would be
-// no plainer: no text is empty, so the text's length alone tells the end, and a job that is cut short is tried like any other.
+// no plainer: no text is empty, so the text's length alone tells the end, and a job that is too long for the room is tried as one of no bytes.
 pub fn read_part<'a, R: Read>(file: &mut R, room: &'a mut [u8]) -> io::Result<&'a [u8]>
     ensures { IfOk result (λ part. length part.now ≤ length room.old) }
 {

@@ -50,7 +50,7 @@ pub fn exact_address(base: u64, scale: i16, index: u64, offset: i64) -> Option<u
     moved(plus(times(scale as u64, index), base), offset)
 }
 
-// The address of a memory operand whose fields are right. That they are is asked of the operand as it stands in accepted code, by the three that
+// The address of a memory operand whose fields are right. That they are is asked of the operand as it stands in accepted code, by those that
 // take one (`RightFields`): an operand that a builder is given may have any.
 pub fn operand_address(m: Maddr, regs: &[u64; 16]) -> Option<u64>
     requires { RightFields m }

@@ -93,7 +93,8 @@ pub fn check_cells(addresses: &[u64], tags: &[u8], values: &[u64]) -> Result<(),
 
 // The one index where an address can stand, before `above`: halves the part that is left, one comparison each. Both ends move,
 // so that this is compiled to a branch, which a kernel's loop makes predictable, and not to a chain of conditional moves: in the
-// library's `binary_search` one end moves, and the other follows. It also has one comparison a step, of the 13 that a search may take.
+// library's `binary_search` one end moves, and the other follows. Which is
+// quicker was not measured with today's compiler; the library's also tells what is not found from what is, which nothing here asks.
 fn only_place(addresses: &[u64], address: u64, above: usize) -> usize
     requires ascending { Ascending addresses.now }
     requires part { Part addresses.now address 0 above }

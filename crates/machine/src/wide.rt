@@ -7,7 +7,7 @@ ghost use Rattle.machine.specs.Wide.{number};
 
 use words::{Word, mul_wide};
 
-// high * 2^64 + low
+// high * 2^64 + low. A number, whose operations are below, where `Product64` of `words` is two words.
 #[derive(Clone, Copy)]
 pub struct Wide {
     pub high: u64,

@@ -1,5 +1,5 @@
 // A record as numbers, and its operands.
-// A kind (0x41 to 0x44 are those of operands) is a byte, as C gives it, and no enum: docs/DECISIONS.md, "A kind is a byte".
+// A kind (0x40 to 0x44 are those of operands) is a byte, as C gives it, and no enum: docs/DECISIONS.md, "A kind is a byte".
 ghost use Rattle.std.specs.Prelude.{◌≡◌, ◌<◌, ◌≤◌};
 ghost use Rattle.numbered.specs.Given.{operand_of, operand_given, operands_given};
 

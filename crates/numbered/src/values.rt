@@ -114,8 +114,8 @@ fn comparison(kind: u8, a: Operand, b: Operand) -> Ocmp
     }
 }
 
-// The instruction: a kind that is none of an instruction's, or of its operands', gives none. An Option by the definition of that
-// name and no `TryFrom`, here and below: there is no error to tell, only that there is none.
+// The instruction: a kind that is none of an instruction's, or of its operands', gives none. An Option by the definition
+// (`instruction_given`) and no `TryFrom`, here and below: there is no error to tell, only that there is none.
 #[tactic(auto, unfolding(crate::specs::Values::instruction_given, crate::specs::Given::is_instruction))]
 pub fn instruction_of(given: Numbers) -> Option<Instruction>
     ensures { result ≡ instruction_given given }

@@ -1,5 +1,5 @@
 // The carry and overflow bits of the flags word. Each is read and put in by a function that the source names, of one line: one function of a
-// bit's place would need a power of it at every call.
+// bit's weight would be called by these four, which would be no shorter.
 ghost use Rattle.std.specs.Prelude.{◌≡◌};
 ghost use Rattle.words.specs.Flags as Flags;
 
