@@ -47,18 +47,19 @@ use Rattle.eval.specs.Running.{run_of}
 use Rattle.eval.specs.Instructions.{checks_amount, two_word, two_flags, inserts_word, run_ins}
 use Rattle.eval.specs.Promises.{environment, held, CodeAt, CodesAt, InsAt, OcmpAt, codes_from, Loads, Seeks, Resolves, no_slot, put_regs, put_values, comparison, Compares, how, Ran, StepsIns, DecidesAt, TestedAt, test_at, BehindTest, part_fuel, way_from, Runs, RunsIns, RunsAll, Spends, SpendsAll}
 use Rattle.eval.specs.declared.answer.Watch.{Watch}
-use Rattle.eval.specs.declared.exit.Exit.{Exit}
+use Rattle.eval.specs.Promises.{Exit}
+use Rattle.eval.specs.declared.exit.Stop.{Stop}
 use Rattle.eval.specs.declared.operand.Sought.{Sought}
 use Rattle.eval.specs.declared.operand.Loaded.{Loaded}
 use Rattle.eval.specs.declared.operand.Slot.{Slot}
 use Rattle.eval.specs.declared.comparison.Compared.{Compared}
 use Rattle.eval.specs.declared.cycle.Way.{Way}
 use Rattle.eval.proofs.OperandLaws.{load_constant, load_register, load_cell, load_none, resolve_constant, resolve_rsp, resolve_register, resolve_cell, resolve_none, cell_inside}
-use Rattle.eval.proofs.InstructionLaws.{exit, ran_stood, load_at, slot_at, two_unread, two_amount, two_unwritten, two_done, lea_unread, lea_unread_second, lea_unwritten, lea_done, mul_unread, mul_done, mulx_unread, mulx_unwritten, mulx_unresolved, mulx_done}
+use Rattle.eval.proofs.InstructionLaws.{exit, err_ok, ok_is, ran_stood, load_at, slot_at, two_unread, two_amount, two_unwritten, two_done, lea_unread, lea_unread_second, lea_unwritten, lea_done, mul_unread, mul_done, mulx_unread, mulx_unwritten, mulx_unresolved, mulx_done}
 use Rattle.eval.proofs.LaneLaws.{extract_unwritten, extract_done, inserts_unread, inserts_done}
 use Rattle.eval.proofs.ComparisonLaws.{stands_inside, first_unread, second_unread, compared}
 use Rattle.eval.proofs.RunLaws.{code_refused, cells_refused}
-use Rattle.eval.proofs.CycleLaws.{code_frame, starts, has_length, Choice, choice_inside, loop_inside, how_done, ins_ran, codes_past, Going, next_there, next_past, if_stops, Chosen, chosen_there, chosen_ran, chosen_spends, Looping, looped, looped_spends, loop_spent, loop_stopped, Round, round_over, round_there, round_spends, round_goes, round_stops}
+use Rattle.eval.proofs.CycleLaws.{code_frame, starts, has_length, Choice, choice_inside, loop_inside, ins_ran, codes_past, Going, next_there, next_past, if_stops, Chosen, chosen_there, chosen_ran, chosen_spends, Looping, looped, looped_spends, loop_spent, loop_stopped, Round, round_over, round_there, round_spends, round_goes, round_stops}
 
 -- ---- an operand, of which a form was decoded, and the place next behind it
 abbrev Finds : Env → List ℕ → List ℕ → ℕ → ℕ → Sought → Type 0
@@ -252,7 +253,7 @@ module _ (env : Env) (s : Config) (bs : List ℕ) (at : ℕ) where
     pub multiply_done :
         r.number ≡ 0 →
         (lo hi : ℕ) → lo ≡ mul_mod 64 (get_or s.regs 0 0) r.word → hi ≡ mul_div 64 (get_or s.regs 0 0) r.word →
-        Mul (exit 0 r.next) (held (set (set s.regs 0 lo) 3 hi) s.xmms env.fill s.values)
+        Mul (Ok r.next) (held (set (set s.regs 0 lo) 3 hi) s.xmms env.fill s.values)
     multiply_done h lo hi = mul_done env s at _ _ r src h lo hi
 
   module _ (t : Slot) (dst : Resolved_at env s bs (at + 3) t) where
@@ -267,7 +268,7 @@ module _ (env : Env) (s : Config) (bs : List ℕ) (at : ℕ) where
         (x : Quad32) (v : ℕ) (regs' values' : List ℕ) →
         quad32 x ≡ xmm_at s.xmms (byte_at bs (at + 1)) → v ≡ extract_nat64 (quad32 x) (byte_at bs (at + 2) % 2) →
         regs' ≡ put_regs t v s.regs → values' ≡ put_values t v s.values →
-        Extract (exit 0 t.next) (held regs' s.xmms s.flags values')
+        Extract (Ok t.next) (held regs' s.xmms s.flags values')
     extracts h = extract_done env s at _ _ _ _ t dst h
 
   module _ (is : is_inserts (byte_at bs at) ≡ true) (r : Loaded) (src : Loaded_at env s bs (at + 3) r) where
@@ -285,7 +286,7 @@ module _ (env : Env) (s : Config) (bs : List ℕ) (at : ℕ) where
         quad32 x ≡ xmm_at s.xmms (byte_at bs (at + 1)) →
         quad32 q ≡ inserts_word (byte_at bs at) (quad32 x) r.word (byte_at bs (at + 2)) →
         xmms' ≡ set_xmm s.xmms (byte_at bs (at + 1)) (quad32 q) →
-        Insert (exit 0 r.next) (held s.regs xmms' s.flags s.values)
+        Insert (Ok r.next) (held s.regs xmms' s.flags s.values)
     inserts h = inserts_done env s at _ is _ _ _ _ r src h
 
   -- a destination and a source
@@ -312,7 +313,7 @@ module _ (env : Env) (s : Config) (bs : List ℕ) (at : ℕ) where
             (regs' values' : List ℕ) (v f : ℕ) →
             regs' ≡ put_regs t v s.regs → values' ≡ put_values t v s.values →
             v ≡ two_word (byte_at bs at) s.flags t.word r.word → f ≡ two_flags (byte_at bs at) env.rule env.fill s.flags t.word r.word →
-            Two (exit 0 r.next) (held regs' s.xmms f values')
+            Two (Ok r.next) (held regs' s.xmms f values')
         writes = two_done env s at _ w.kind _ _ _ _ t r w.dst two_src found (sym is_far ∙ near)
 
   -- a destination and two sources
@@ -341,7 +342,7 @@ module _ (env : Env) (s : Config) (bs : List ℕ) (at : ℕ) where
             t.how ≤ 1 →
             (regs' values' : List ℕ) (v : ℕ) →
             regs' ≡ put_regs t v s.regs → values' ≡ put_values t v s.values → v ≡ sum_mod 64 (q.word + r.word) →
-            Lea (exit 0 r.next) (held regs' s.xmms s.flags values')
+            Lea (Ok r.next) (held regs' s.xmms s.flags values')
         sum_done h regs' values' v a b c = lea_done env s at _ _ _ _ _ _ t q r w.dst lea_one lea_two there found h regs' values' v a b c
 
   -- two destinations and a source
@@ -372,7 +373,7 @@ module _ (env : Env) (s : Config) (bs : List ℕ) (at : ℕ) where
         (regs' values' regs'' values'' : List ℕ) →
         regs' ≡ put_regs t lo s.regs → values' ≡ put_values t lo s.values →
         regs'' ≡ put_regs u hi regs' → values'' ≡ put_values u hi values' →
-        Mulx t r w.operands (exit 0 r.next) (held regs'' s.xmms s.flags values'')
+        Mulx t r w.operands (Ok r.next) (held regs'' s.xmms s.flags values'')
     product_done h regs' values' regs'' values'' a b c d =
         mulx_done env s at _ _ _ _ _ t r (mulx_low t r w.operands) (mulx_src t r w.operands)
         w.found w.valid lo hi w.is_lo w.is_hi w.after values' w.is_after b _ u w.high
@@ -507,12 +508,12 @@ module _ (env : Env) (limit : Option ℕ) (bs : List ℕ) (from e fuel : ℕ) (s
   block_less = omega (arith, inside)
 
   -- what was run leaves less of the list
-  pub rest_less : (r : Exit) (t : Config) (l : Counted) → Runs env limit bs at fuel s k r t l → r.number ≡ 0 → e - r.place < e - at
-  rest_less r t l ran z = let p = next_past env limit bs from e fuel s₀ k₀ at s k g r t l ran inside z in omega (arith, p.0, p.1)
+  pub rest_less : (r : Exit) (t : Config) (l : Counted) → Runs env limit bs at fuel s k r t l → (q : ℕ) → r ≡ Ok q → e - q < e - at
+  rest_less r t l ran q z = let p = next_past env limit bs from e fuel s₀ k₀ at s k g r t l ran inside q z in omega (arith, p.0, p.1)
 
   pub rest_less_ins :
-      (r : Exit) (t : Config) (l : Counted) → StepsIns env limit bs at s k r t l → byte_at bs at < 0x20 → r.number ≡ 0 → e - r.place < e - at
-  rest_less_ins r t l ran kind z = rest_less r t l (ins_ran env limit bs at fuel s k r t l kind ran) z
+      (r : Exit) (t : Config) (l : Counted) → StepsIns env limit bs at s k r t l → byte_at bs at < 0x20 → (q : ℕ) → r ≡ Ok q → e - q < e - at
+  rest_less_ins r t l ran kind q z = rest_less r t l (ins_ran env limit bs at fuel s k r t l kind ran) q z
 
 -- a structure that is no Block
 pub past_block : (k : ℕ) → 0x20 ≤ k → (k ≡ 0x20 → ⊥) → 0x21 ≤ k
@@ -653,10 +654,10 @@ module _ (env : Env) (limit : Option ℕ) (bs : List ℕ) (at fuel : ℕ) (s₀ 
     pub turns_over :
         (chooses : Bool) → Head chooses → (chooses ≡ false → left ≡ 0 → ⊥) → DecidesAt env limit bs test s k x j →
         (way : Way) → way ≡ way_from bs at chooses x → x.how ≡ 0 → chooses ≡ false →
-        Runs env limit bs at fuel s₀ k₀ (exit 0 way.end) (with_flags env.fill s) j
+        Runs env limit bs at fuel s₀ k₀ (Ok way.end) (with_flags env.fill s) j
     turns_over true w some_fuel compared way is z c = absurd (true≢false c)
     turns_over false w some_fuel compared way is z c =
-        looped env limit bs at fuel s₀ k₀ left s k w.looping (exit 0 way.end) (with_flags env.fill s) j
+        looped env limit bs at fuel s₀ k₀ left s k w.looping (Ok way.end) (with_flags env.fill s) j
         (round_over env limit bs at left s k x j way.end (round_at w some_fuel compared (omega (arith, z)) way is) z)
 
 -- by the loop's test a While has fuel for the round, and by the test behind its comparison that holds
@@ -772,7 +773,7 @@ module _ (env : Env) (limit : Option ℕ) (bs : List ℕ) (at fuel m : ℕ) (s�
   -- the part has ended in r
   module _ (r : Exit) (t : Config) (l : Counted) (ran : RunsAll env limit bs p way.behind given (with_flags env.fill s) j r t l) where
     chosen_exit :
-        Takes true → (r' : Exit) → how r' ≡ how r → (r'.number ≡ 0 → r'.place ≡ way.end) → Runs env limit bs at fuel s₀ k₀ r' t l
+        Takes true → (r' : Exit) → how r' ≡ how r → ((q : ℕ) → r' ≡ Ok q → q ≡ way.end) → Runs env limit bs at fuel s₀ k₀ r' t l
     chosen_exit w r' o n =
         let chosen = as_chosen env limit bs at fuel m s₀ k₀ test left s k x j way w.turn in
         looped env limit bs at fuel s₀ k₀ left s k w.turn.head.looping r' t l
@@ -785,23 +786,23 @@ module _ (env : Env) (limit : Option ℕ) (bs : List ℕ) (at fuel m : ℕ) (s�
     body_ran w =
         let q = as_round env limit bs at fuel m s₀ k₀ test left s k x j way w.turn in rw (w.begins, w.fuel_is, q.1, q.2) at ran
 
-    pub taken_stops : (chooses : Bool) → Takes chooses → (r.number ≡ 0 → ⊥) → Runs env limit bs at fuel s₀ k₀ r t l
-    taken_stops true w h = chosen_exit w r refl (λ z. absurd (h z))
-    taken_stops false w h =
-        looped env limit bs at fuel s₀ k₀ left s k w.turn.head.looping r t l
-        (round_stops env limit bs at left s k x j way.end (round_of w) (w.turn.holds refl) r t l (body_ran w) h)
+    pub taken_stops : (chooses : Bool) → Takes chooses → (st : Stop) → r ≡ Err st → Runs env limit bs at fuel s₀ k₀ (Err st) t l
+    taken_stops true w st h = chosen_exit w (Err st) (ap (λ (o : Exit). how o) (sym h)) (λ q z. absurd (err_ok z))
+    taken_stops false w st h =
+        looped env limit bs at fuel s₀ k₀ left s k w.turn.head.looping (Err st) t l
+        (round_stops env limit bs at left s k x j way.end (round_of w) (w.turn.holds refl) r t l (body_ran w) st h)
 
-    pub taken_done : (chooses : Bool) → Takes chooses → chooses ≡ true → r.number ≡ 0 → Runs env limit bs at fuel s₀ k₀ (exit 0 way.end) t l
-    taken_done true w c h = chosen_exit w (exit 0 way.end) (sym (how_done r h)) (λ _. refl)
-    taken_done false w c h = absurd (true≢false (sym c))
+    pub taken_done : (chooses : Bool) → Takes chooses → chooses ≡ true → (q : ℕ) → r ≡ Ok q → Runs env limit bs at fuel s₀ k₀ (Ok way.end) t l
+    taken_done true w c q h = chosen_exit w (Ok way.end) (ap (λ (o : Exit). how o) (sym h)) (λ p z. ok_is z)
+    taken_done false w c q h = absurd (true≢false (sym c))
 
     pub taken_goes :
-        (chooses : Bool) → Takes chooses → chooses ≡ false → r.number ≡ 0 → length t.values ≡ length s.values →
+        (chooses : Bool) → Takes chooses → chooses ≡ false → (q : ℕ) → r ≡ Ok q → length t.values ≡ length s.values →
         Testing env limit bs at fuel s₀ k₀ chooses test given t l
-    taken_goes true w c h long = absurd (true≢false c)
-    taken_goes false w c h long =
+    taken_goes true w c q h long = absurd (true≢false c)
+    taken_goes false w c q h long =
         let head = w.turn.head in
-        let goes = round_goes env limit bs at left s k x j way.end (round_of w) (w.turn.holds refl) r t l (body_ran w) h in
+        let goes = round_goes env limit bs at left s k x j way.end (round_of w) (w.turn.holds refl) r t l (body_ran w) q h in
         let again : Looping env limit bs at fuel s₀ k₀ (left - 1) t l = record {
           same = λ d e y. head.looping.same d e y ∙ goes d e y;
           long = long ∙ head.looping.long;

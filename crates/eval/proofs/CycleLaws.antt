@@ -7,7 +7,7 @@ use mathlib.Core.Option.{Option}
 use mathlib.Core.Logic.{◌⊎◌, ⊎_elim}
 use native.Mathlib.Omega.{arith}
 use native.Mathlib.Numerals.{sub-one}
-use borrow.Author.Tests.{eq-eqb, ne_eqb, eqb-true}
+use borrow.Author.Tests.{eqb-true}
 use lib.Dec.{eqb}
 use lib.ListN.{length}
 use Rattle.code.specs.declared.tree.Ocmp.{Ocmp}
@@ -23,9 +23,11 @@ use Rattle.eval.specs.Counted.{Counted, Ended, ended, Part, continue, and_then}
 use Rattle.eval.specs.Running.{decide, rounds, run_code, run_codes}
 use Rattle.eval.specs.LeastFuel.{is_spent}
 use Rattle.eval.specs.Promises.{how, Reached, StepsIns, Decides, DecidesAt, CodeAt, CodesAt, codes_from, Runs, RunsAll, Spends, SpendsAll}
-use Rattle.eval.specs.declared.exit.Exit.{Exit}
+use Rattle.eval.specs.Promises.{Exit}
+use Rattle.std.specs.Prelude.{Ok, Err}
+use Rattle.eval.specs.declared.exit.Stop.{Stop}
 use Rattle.eval.specs.declared.comparison.Compared.{Compared}
-use Rattle.eval.proofs.InstructionLaws.{exit}
+use Rattle.eval.proofs.InstructionLaws.{exit, err_ok, ok_is}
 
 pub code_frame : (bs : List ℕ) (at : ℕ) (c : CodeAt bs at) → Frame bs at c.end
 code_frame bs at c = frame c.code bs at c.end c.spelled
@@ -68,21 +70,18 @@ stops_there true c n p s k f = refl
 stops_there false true n p s k f = refl
 stops_there false false n p s k f = refl
 
-pub how_done : (r : Exit) → r.number ≡ 0 → how r ≡ done
-how_done r h = rw (eq-eqb r.number 0 h)
-
-pub how_stops :
-    (r : Exit) (s : Config) (k : Counted) (f : Part) → (r.number ≡ 0 → ⊥) → continue (how r) s k f ≡ ended (how r) s k
-how_stops r s k f h = rw (ne_eqb r.number 0 h) (stops_there (eqb r.number 1) (eqb r.number 37) r.number r.place s k f)
+how_stops : (st : Stop) (s : Config) (k : Counted) (f : Part) → continue (how (Err st)) s k f ≡ ended (how (Err st)) s k
+how_stops st s k f = stops_there (eqb st.number 1) (eqb st.number 37) st.number st.place s k f
 
 module _ (e : Ended) (m : ℕ) (r : Exit) (t : Config) (l : Counted) (ran : Reached e m r t l) (f : Part) where
-  goes_on : r.number ≡ 0 → and_then e f ≡ f t l
+  goes_on : (q : ℕ) → r ≡ Ok q → and_then e f ≡ f t l
   unfolding continue
-  goes_on h =
-      ap (λ (x : Ended). and_then x f) (sym ran.ends) ∙ ap (λ (o : Outcome). continue o t l f) (how_done r h)
+  goes_on q h =
+      ap (λ (x : Ended). and_then x f) (sym ran.ends) ∙ ap (λ (o : Exit). continue (how o) t l f) h
 
-  stops : (r.number ≡ 0 → ⊥) → and_then e f ≡ ended (how r) t l
-  stops h = ap (λ (x : Ended). and_then x f) (sym ran.ends) ∙ how_stops r t l f h
+  stops : (st : Stop) → r ≡ Err st → and_then e f ≡ ended (how (Err st)) t l
+  stops st h =
+      ap (λ (x : Ended). and_then x f) (sym ran.ends) ∙ ap (λ (o : Exit). continue (how o) t l f) h ∙ how_stops st t l f
 
 -- nor does anything follow what is spent
 still_spent : (o : Outcome) (s : Config) (k : Counted) (f : Part) → is_spent o ≡ true → is_spent (continue o s k f).end.how ≡ true
@@ -223,13 +222,13 @@ module _ (env : Env) (limit : Option ℕ) (bs : List ℕ) (from e fuel : ℕ) (s
       let w = first_there g.there.0 bs at e g.there.1 l in
       record { code = w.first; end = w.mid; spelled = w.spelled; inside = omega (arith, w.within) }
 
-  pub codes_done : e ≤ at → RunsAll env limit bs from e fuel s₀ k₀ (exit 0 e) s k
+  pub codes_done : e ≤ at → RunsAll env limit bs from e fuel s₀ k₀ (Ok e) s k
   unfolding run_codes
   codes_done l cs h =
       let w = g.same cs h in
       record {
         ends = sym (w.2 ∙ ap (λ (x : Codes). run_codes env limit x fuel s k) (none_there w.0 bs at e w.1 l));
-        next = λ _. refl;
+        next = λ q y. ok_is y;
       }
 
   -- a Block is entered
@@ -254,38 +253,38 @@ module _ (env : Env) (limit : Option ℕ) (bs : List ℕ) (from e fuel : ℕ) (s
       (still_spent c.end.how c.end.config c.counted (run_codes env limit f.rest fuel) (out f.first f.mid f.spelled))
 
   module _ (r : Exit) (t : Config) (l : Counted) (ran : Runs env limit bs at fuel s k r t l) (inside : at < e) where
-    pub next_past : r.number ≡ 0 → (at < r.place) × (r.place ≤ e)
-    next_past z =
+    pub next_past : (q : ℕ) → r ≡ Ok q → (at < q) × (q ≤ e)
+    next_past q z =
         let w = first_there g.there.0 bs at e g.there.1 inside in
-        let x : r.place ≡ w.mid = (ran w.first w.mid w.spelled).next z in
+        let x : q ≡ w.mid = (ran w.first w.mid w.spelled).next q z in
         (omega (arith, w.past, x), omega (arith, w.within, x))
 
-    pub codes_go : r.number ≡ 0 → length t.values ≡ length s.values → Going env limit bs from e fuel s₀ k₀ r.place t l
+    pub codes_go : (q : ℕ) → r ≡ Ok q → length t.values ≡ length s.values → Going env limit bs from e fuel s₀ k₀ q t l
     unfolding run_codes
-    codes_go z v =
-        let rests : (cs : Codes) (m : ℕ) → r.place ≡ m → SpellsAll cs bs m e → SpellsAll cs bs r.place e =
+    codes_go q z v =
+        let rests : (cs : Codes) (m : ℕ) → q ≡ m → SpellsAll cs bs m e → SpellsAll cs bs q e =
         λ cs m x h. subst (λ (y : ℕ). SpellsAll cs bs y e) (sym x) h
         in
         let w = first_there g.there.0 bs at e g.there.1 inside in
         record {
-          there = (w.rest, rests w.rest w.mid ((ran w.first w.mid w.spelled).next z) w.spelled_rest);
+          there = (w.rest, rests w.rest w.mid ((ran w.first w.mid w.spelled).next q z) w.spelled_rest);
           same = λ cs h.
               let u = g.same cs h in
               let f = first_there u.0 bs at e u.1 inside in
               let went = ran f.first f.mid f.spelled in (
                 f.rest,
-                rests f.rest f.mid (went.next z) f.spelled_rest,
+                rests f.rest f.mid (went.next q z) f.spelled_rest,
                 u.2
                     ∙ ap (λ (x : Codes). run_codes env limit x fuel s k) f.is
-                    ∙ goes_on (run_code env limit f.first fuel s k) f.mid r t l went (run_codes env limit f.rest fuel) z,
+                    ∙ goes_on (run_code env limit f.first fuel s k) f.mid r t l went (run_codes env limit f.rest fuel) q z,
               );
           long = v ∙ g.long;
-          past = omega (arith, (next_past z).0, g.past);
+          past = omega (arith, (next_past q z).0, g.past);
         }
 
-    pub codes_stop : (r.number ≡ 0 → ⊥) → RunsAll env limit bs from e fuel s₀ k₀ r t l
+    pub codes_stop : (st : Stop) → r ≡ Err st → RunsAll env limit bs from e fuel s₀ k₀ (Err st) t l
     unfolding run_codes
-    codes_stop z cs h =
+    codes_stop st z cs h =
         let u = g.same cs h in
         let f = first_there u.0 bs at e u.1 inside in
         record {
@@ -294,8 +293,8 @@ module _ (env : Env) (limit : Option ℕ) (bs : List ℕ) (from e fuel : ℕ) (s
               (u.2
               ∙ ap (λ (x : Codes). run_codes env limit x fuel s k) f.is
               ∙ stops (run_code env limit f.first fuel s k) f.mid r t l (ran f.first f.mid f.spelled)
-              (run_codes env limit f.rest fuel) z);
-          next = λ y. absurd (z y);
+              (run_codes env limit f.rest fuel) st z);
+          next = λ q y. absurd (err_ok y);
         }
 
 -- ---- the way that a comparison decides on
@@ -309,7 +308,7 @@ module _ (env : Env) (limit : Option ℕ) (q : ℕ) (c : Ocmp) (s : Config) (k :
   unfolding decide
   ocmp_stops h =
       ap (λ (e : Ended). and_then e (cond (eval_ocmp env c s) f g)) (w.stops h)
-      ∙ how_stops (exit x.how q) s l _ (λ z. omega (arith, z, h))
+      ∙ how_stops (record { number = x.how; place = q }) s l _
 
   ocmp_holds : x.how ≤ 1 → (x.how ≡ 0 → ⊥) → decide env limit q c f g s k ≡ f (with_flags env.fill s) l
   unfolding decide continue
@@ -351,7 +350,7 @@ module _ (env : Env) (limit : Option ℕ) (bs : List ℕ) (at fuel : ℕ) (s : C
             (if_starts c e sp
             ∙ ocmp_stops env limit (at + 9) (ocmp_at bs (at + 9)) s k w.mid x j (compared w.mid w.stands)
             (run_code env limit w.yes_part fuel) (run_code env limit w.no_part fuel) h);
-        next = λ z. absurd (omega arith);
+        next = λ q z. absurd (err_ok z);
       }
 
   -- the part that it goes on with, from its place to the place behind it
@@ -419,14 +418,14 @@ module _ (env : Env) (limit : Option ℕ) (bs : List ℕ) (at fuel : ℕ) (s : C
         RunsAll env limit bs (codes_from bs part) behind fuel (with_flags env.fill s) j r t l →
         (r' : Exit) →
         how r' ≡ how r →
-        (r'.number ≡ 0 → r'.place ≡ end) →
+        ((q : ℕ) → r' ≡ Ok q → q ≡ end) →
         Runs env limit bs at fuel s k r' t l
     if_ran r t l ran r' o n c e sp =
         let w = if_goes c e sp in
         let ran_part = part_ran bs part env limit behind fuel (with_flags env.fill s) j r t l ran w.0 w.1 in
         record {
           ends = ap (λ (h : Outcome). ended h t l) o ∙ ran_part.ends ∙ sym w.2;
-          next = λ z. n z ∙ sym (parts c e sp).1;
+          next = λ q z. n q z ∙ sym (parts c e sp).1;
         }
 
     if_spends : SpendsAll env limit bs (codes_from bs part) behind fuel (with_flags env.fill s) j → Spends env limit bs at fuel s k
@@ -454,7 +453,7 @@ module _ (env : Env) (limit : Option ℕ) (bs : List ℕ) (at fuel : ℕ) (s : C
   -- the exit of the part, with another place where it is done
   pub chosen_ran :
       (r : Exit) (t : Config) (l : Counted) → RunsAll env limit bs (codes_from bs part) behind fuel (with_flags env.fill s) j r t l →
-      (r' : Exit) → how r' ≡ how r → (r'.number ≡ 0 → r'.place ≡ end) → Runs env limit bs at fuel s k r' t l
+      (r' : Exit) → how r' ≡ how r → ((q : ℕ) → r' ≡ Ok q → q ≡ end) → Runs env limit bs at fuel s k r' t l
   chosen_ran =
       if_ran env limit bs at fuel s k w.kind x j w.compared w.read w.mid end part behind w.mid_is w.end_is w.way
 
@@ -490,10 +489,10 @@ spends_of env limit bs at fuel s k t l ran c e h = spent_too _ _ (sym (ran c e h
 
 -- a run that is not done says nothing of the place behind
 unfinished :
-    (env : Env) (limit : Option ℕ) (bs : List ℕ) (at left : ℕ) (s : Config) (k : Counted) (r : Exit) (t : Config) (l : Counted) →
-    (r.number ≡ 0 → ⊥) → ((c : Code) (e : ℕ) → Spells c bs at e → run_code env limit c left s k ≡ ended (how r) t l) →
-    Runs env limit bs at left s k r t l
-unfinished env limit bs at left s k r t l z g c e h = record { ends = sym (g c e h); next = λ y. absurd (z y) }
+    (env : Env) (limit : Option ℕ) (bs : List ℕ) (at left : ℕ) (s : Config) (k : Counted) (st : Stop) (t : Config) (l : Counted) →
+    ((c : Code) (e : ℕ) → Spells c bs at e → run_code env limit c left s k ≡ ended (how (Err st)) t l) →
+    Runs env limit bs at left s k (Err st) t l
+unfinished env limit bs at left s k st t l g c e h = record { ends = sym (g c e h); next = λ q y. absurd (err_ok y) }
 
 module _ (env : Env) (limit : Option ℕ) (body : ℕ → Part) (p q : ℕ) (c : Ocmp) (s : Config) (k : Counted) where
   rounds_spent : (left : ℕ) → left ≡ 0 → rounds env limit body p q c left s k ≡ ended (spent p) s k
@@ -514,7 +513,7 @@ module _ (env : Env) (limit : Option ℕ) (bs : List ℕ) (at left : ℕ) (s : C
   pub loop_spent : left ≡ 0 → Runs env limit bs at left s k (exit 1 at) s k
   unfolding run_code
   loop_spent z =
-      unfinished env limit bs at left s k (exit 1 at) s k (λ y. omega (arith, y))
+      unfinished env limit bs at left s k (record { number = 1; place = at }) s k
       (λ c e h.
       let w = while_there c bs at e h kind in
       ap (λ (b : Code). run_code env limit b left s k) w.is
@@ -538,7 +537,7 @@ module _ (env : Env) (limit : Option ℕ) (bs : List ℕ) (at left : ℕ) (s : C
 
     pub loop_stopped : 1 < x.how → Runs env limit bs at left s k (exit x.how (at + 5)) s j
     loop_stopped z =
-        unfinished env limit bs at left s k (exit x.how (at + 5)) s j (λ y. omega (arith, y, z))
+        unfinished env limit bs at left s k (record { number = x.how; place = at + 5 }) s j
         (λ c e h.
         let w = while_there c bs at e h kind in
         tested c e h
@@ -610,22 +609,22 @@ module _ (env : Env) (limit : Option ℕ) (bs : List ℕ) (at left : ℕ) (s : C
             part_ran bs x.next env limit end (left - 1) (with_flags env.fill s) j r t l ran w.body (body_spelled c e h).2
 
         loop_goes :
-            r.number ≡ 0 → (c : Code) (e : ℕ) → Spells c bs at e → run_code env limit c left s k ≡ run_code env limit c (left - 1) t l
+            (q : ℕ) → r ≡ Ok q → (c : Code) (e : ℕ) → Spells c bs at e → run_code env limit c left s k ≡ run_code env limit c (left - 1) t l
         unfolding run_code
-        loop_goes z c e h =
+        loop_goes q z c e h =
             let w = while_there c bs at e h kind in
             body_ran y c e h
             ∙ goes_on (run_code env limit w.body (left - 1) (with_flags env.fill s) j) end r t l (body_exit c e h)
-            (rounds env limit (run_code env limit w.body) at (at + 5) w.test (left - 1)) z
+            (rounds env limit (run_code env limit w.body) at (at + 5) w.test (left - 1)) q z
             ∙ ap (λ (b : Code). run_code env limit b (left - 1) t l) (sym w.is)
 
         loop_stops :
-            (r.number ≡ 0 → ⊥) → (c : Code) (e : ℕ) → Spells c bs at e → run_code env limit c left s k ≡ ended (how r) t l
-        loop_stops z c e h =
+            (st : Stop) → r ≡ Err st → (c : Code) (e : ℕ) → Spells c bs at e → run_code env limit c left s k ≡ ended (how (Err st)) t l
+        loop_stops st z c e h =
             let w = while_there c bs at e h kind in
             body_ran y c e h
             ∙ stops (run_code env limit w.body (left - 1) (with_flags env.fill s) j) end r t l (body_exit c e h)
-            (rounds env limit (run_code env limit w.body) at (at + 5) w.test (left - 1)) z
+            (rounds env limit (run_code env limit w.body) at (at + 5) w.test (left - 1)) st z
 
 -- a round of a While whose comparison has answered x and left j counted, and where the While ends
 pub record Round (env : Env) (limit : Option ℕ) (bs : List ℕ) (at left : ℕ) (s : Config) (k : Counted) (x : Compared) (j : Counted) (end : ℕ)
@@ -639,11 +638,11 @@ pub record Round (env : Env) (limit : Option ℕ) (bs : List ℕ) (at left : ℕ
 module _ (env : Env) (limit : Option ℕ) (bs : List ℕ) (at left : ℕ) (s : Config) (k : Counted) (x : Compared) (j : Counted) (end : ℕ)
     (w : Round env limit bs at left s k x j end) where
   -- its comparison does not hold
-  pub round_over : x.how ≡ 0 → Runs env limit bs at left s k (exit 0 end) (with_flags env.fill s) j
+  pub round_over : x.how ≡ 0 → Runs env limit bs at left s k (Ok end) (with_flags env.fill s) j
   round_over z c e h =
       record {
         ends = sym (loop_done env limit bs at left s k w.kind w.some_fuel x j w.compared z c e h);
-        next = λ _. loop_ends env limit bs at left s k w.kind w.some_fuel x j w.compared w.read end w.end_is c e h;
+        next = λ q y. ok_is y ∙ loop_ends env limit bs at left s k w.kind w.some_fuel x j w.compared w.read end w.end_is c e h;
       }
 
   pub round_there : CodeAt bs at → CodeAt bs x.next × CodesAt bs (codes_from bs x.next) end × (at + 5 < x.next)
@@ -655,10 +654,10 @@ module _ (env : Env) (limit : Option ℕ) (bs : List ℕ) (at left : ℕ) (s : C
 
   module _ (y : x.how ≡ 0 → ⊥) (r : Exit) (t : Config) (l : Counted)
       (ran : RunsAll env limit bs (codes_from bs x.next) end (left - 1) (with_flags env.fill s) j r t l) where
-    pub round_goes : r.number ≡ 0 → (c : Code) (e : ℕ) → Spells c bs at e → run_code env limit c left s k ≡ run_code env limit c (left - 1) t l
+    pub round_goes : (q : ℕ) → r ≡ Ok q → (c : Code) (e : ℕ) → Spells c bs at e → run_code env limit c left s k ≡ run_code env limit c (left - 1) t l
     round_goes = loop_goes env limit bs at left s k w.kind w.some_fuel x j w.compared w.read end w.end_is y r t l ran
 
-    pub round_stops : (r.number ≡ 0 → ⊥) → Runs env limit bs at left s k r t l
-    round_stops z =
-        unfinished env limit bs at left s k r t l z
-        (loop_stops env limit bs at left s k w.kind w.some_fuel x j w.compared w.read end w.end_is y r t l ran z)
+    pub round_stops : (st : Stop) → r ≡ Err st → Runs env limit bs at left s k (Err st) t l
+    round_stops st z =
+        unfinished env limit bs at left s k st t l
+        (loop_stops env limit bs at left s k w.kind w.some_fuel x j w.compared w.read end w.end_is y r t l ran st z)

@@ -22,7 +22,9 @@ use Rattle.code.proofs.Families.{after, Stood, same_two}
 use Rattle.eval.specs.Config.{Env, Config, with_regs, with_values, with_flags, End, ends, done, check}
 use Rattle.eval.specs.Instructions.{checks_amount, two_word, two_flags, valid_operand, eval_operand, valid_dst_operand, update_operand, act, run_ins}
 use Rattle.eval.specs.Promises.{held, Loads, Resolves, put_regs, put_values, how, Ran, RunsIns}
-use Rattle.eval.specs.declared.exit.Exit.{Exit}
+use Rattle.eval.specs.Promises.{Exit}
+use Rattle.std.specs.Prelude.{Ok, Err, IsErrAnd}
+use Rattle.eval.specs.declared.exit.Stop.{Stop}
 use Rattle.eval.specs.declared.operand.Loaded.{Loaded}
 use Rattle.eval.specs.declared.operand.Slot.{Slot}
 use Rattle.eval.proofs.Shapes.{read_check, write_check, write}
@@ -30,22 +32,33 @@ use Rattle.eval.proofs.OperandLaws.{passes, fails, above_one, valid_whatever}
 
 -- an exit with a number and a place
 abbrev pub exit : ℕ → ℕ → Exit
-exit n p = record { number = n; place = p }
+exit n p = Err (record { number = n; place = p })
+
+pub err_ok : {st : Stop} {p : ℕ} → ◌≡◌ {A = Exit} (Err st) (Ok p) → ⊥
+err_ok y = let z : ◌≡◌ {A = ℕ} 0 1 = cc in omega arith
+
+pub ok_is : {p q : ℕ} → ◌≡◌ {A = Exit} (Ok p) (Ok q) → q ≡ p
+ok_is y = cc
+
+-- what `?` hands on is what it found
+pub handed_on : (r : Exit) (y : Stop) → IsErrAnd r (λ z. z ≡ y) → r ≡ Err y
+handed_on (Ok x) y h = absurd h
+handed_on (Err z) y h = ap Err h
 
 -- a check that fails with a number from 2 to 36 ends the run with it
 pub check_fails :
     (b : Bool) (m n p : ℕ) (s : Config) (k : End) → b ≡ false → n ≡ m → 1 < n → m < 37 → check b m p s k ≡ ends (how (exit n p)) s
 unfolding check
 check_fails b m n p s k e is l h =
-    rw (e, ← is, ne_eqb n 0 (λ z. omega (arith, z, l)), ne_eqb n 1 (λ z. omega (arith, z, l)), ne_eqb n 37 (λ z. omega (arith, z, is, h)))
+    rw (e, ← is, ne_eqb n 1 (λ z. omega (arith, z, l)), ne_eqb n 37 (λ z. omega (arith, z, is, h)))
 
 -- the exit of a check that failed
 pub failed : (e : End) (b n p : ℕ) (s : Config) → e ≡ ends (how (exit n p)) s → (n ≡ 0 → ⊥) → Ran e b (exit n p) s
-failed e b n p s h z = record { ends = sym h; next = λ y. absurd (z y) }
+failed e b n p s h z = record { ends = sym h; next = λ q y. absurd (err_ok y) }
 
 -- the exit of an instruction that is done
-pub finished : (e : End) (b q p : ℕ) (t : Config) → e ≡ ends done t → q ≡ b → Ran e b (exit 0 q) t
-finished e b q p t h z = record { ends = sym h; next = λ _. z }
+pub finished : (e : End) (b q p : ℕ) (t : Config) → e ≡ ends done t → q ≡ b → Ran e b (Ok q) t
+finished e b q p t h z = record { ends = sym h; next = λ x y. ok_is y ∙ z }
 
 -- a check of a source or of a destination, by what was found
 module _ (env : Env) (s : Config) (p : ℕ) (o : Operand) (n : ℕ) (r : Loaded) (loads : Loads env s o n r) (k : End) where
@@ -145,7 +158,7 @@ module _ (env : Env) (s : Config) (p : ℕ) where
             values' ≡ put_values t v s.values →
             v ≡ two_word k s.flags t.word r.word →
             f ≡ two_flags k env.rule env.fill s.flags t.word r.word →
-            Two (exit 0 r.next) (held regs' s.xmms f values')
+            Two (Ok r.next) (held regs' s.xmms f values')
         two_done h regs' values' v f a b c d =
             finished _ n r.next p _
             (rw (a, b, c, d, (resolves.writes h).word, loads.word found) (two_passes ∙ wrote env s p dst m t resolves h _ _))
@@ -186,7 +199,7 @@ module _ (env : Env) (s : Config) (p : ℕ) where
             regs' ≡ put_regs t v s.regs →
             values' ≡ put_values t v s.values →
             v ≡ sum_mod 64 (q.word + r.word) →
-            Lea (exit 0 r.next) (held regs' s.xmms s.flags values')
+            Lea (Ok r.next) (held regs' s.xmms s.flags values')
         lea_done h regs' values' v a b c =
             finished _ n r.next p _
             (rw (a, b, c, first.word there, second.word found) (lea_passes ∙ wrote env s p dst l t resolves h _ _))
@@ -212,7 +225,7 @@ module _ (env : Env) (s : Config) (p : ℕ) where
     pub mul_done :
         r.number ≡ 0 →
         (lo hi : ℕ) → lo ≡ mul_mod 64 (get_or s.regs 0 0) r.word → hi ≡ mul_div 64 (get_or s.regs 0 0) r.word →
-        Mul (exit 0 r.next) (held (set (set s.regs 0 lo) 3 hi) s.xmms env.fill s.values)
+        Mul (Ok r.next) (held (set (set s.regs 0 lo) 3 hi) s.xmms env.fill s.values)
     mul_done h lo hi a b =
         finished _ n r.next p _ (rw (a, b, loads.word h) (mul_shape ∙ read_passes env s p src n r loads _ h)) loads.next
 
@@ -273,7 +286,7 @@ module _ (env : Env) (s : Config) (p : ℕ) where
               (regs'' values'' : List ℕ) →
               regs'' ≡ put_regs u hi regs' →
               values'' ≡ put_values u hi values' →
-              Mulx (exit 0 r.next) (held regs'' s.xmms s.flags values'')
+              Mulx (Ok r.next) (held regs'' s.xmms s.flags values'')
           unfolding check
           mulx_done h regs'' values'' c d =
               finished _ n r.next p _

@@ -18,6 +18,7 @@ use Rattle.code.proofs.Families.{by_quads_ins, by_shifts_ins, by_inserts_ins}
 use Rattle.eval.specs.Config.{Env, Config, check}
 use Rattle.eval.specs.Instructions.{quads_word, quads_flags, shifts_word, inserts_word, eval_operand, act, run_ins}
 use Rattle.eval.specs.Promises.{held, Loads, Resolves, put_regs, put_values, Ran}
+use Rattle.std.specs.Prelude.{Ok}
 use Rattle.eval.specs.declared.operand.Loaded.{Loaded}
 use Rattle.eval.specs.declared.operand.Slot.{Slot}
 use Rattle.eval.proofs.Shapes.{read_check, write_xmm}
@@ -27,7 +28,7 @@ use Rattle.eval.proofs.InstructionLaws.{exit, failed, finished, read_passes, rea
 module _ (env : Env) (s : Config) (p : ℕ) where
   -- an instruction that is done, with q in an xmm
   module _ (i : Instruction) (b dst : ℕ) (q : Quad32) (xmms' : List ℕ) (f : ℕ) (is : xmms' ≡ set_xmm s.xmms dst (quad32 q)) where
-    in_xmm : run_ins env p i s ≡ write_xmm env p dst (quad32 q) f s → Ran (run_ins env p i s) b (exit 0 b) (held s.regs xmms' f s.values)
+    in_xmm : run_ins env p i s ≡ write_xmm env p dst (quad32 q) f s → Ran (run_ins env p i s) b (Ok b) (held s.regs xmms' f s.values)
     in_xmm h = finished _ b b p _ (h ∙ rw is) refl
 
   module _ (dst src : ℕ) where
@@ -48,7 +49,7 @@ module _ (env : Env) (s : Config) (p : ℕ) where
         quad32 q ≡ quads_word k (quad32 x) (quad32 y) →
         xmms' ≡ set_xmm s.xmms dst (quad32 q) →
         f ≡ quads_flags k env.fill s.flags →
-        Ran (run_ins env p (quads_ins k dst src) s) b (exit 0 b) (held s.regs xmms' f s.values)
+        Ran (run_ins env p (quads_ins k dst src) s) b (Ok b) (held s.regs xmms' f s.values)
     quads_done k h b x y q xmms' f ax ay c d e =
         in_xmm (quads_ins k dst src) b dst q xmms' f d (rw (e, c, ax, ay) (quads_shape k h))
 
@@ -57,7 +58,7 @@ module _ (env : Env) (s : Config) (p : ℕ) where
         quad32 x ≡ xmm_at s.xmms src →
         quad32 q ≡ shuffle_lanes (quad32 x) imm8 →
         xmms' ≡ set_xmm s.xmms dst (quad32 q) →
-        Ran (run_ins env p (Pshufd dst src imm8) s) b (exit 0 b) (held s.regs xmms' s.flags s.values)
+        Ran (run_ins env p (Pshufd dst src imm8) s) b (Ok b) (held s.regs xmms' s.flags s.values)
     unfolding run_ins act
     shuffle_done imm8 b x q xmms' a c d = in_xmm (Pshufd dst src imm8) b dst q xmms' s.flags d (rw (c, a))
 
@@ -68,7 +69,7 @@ module _ (env : Env) (s : Config) (p : ℕ) where
           quad32 x ≡ xmm_at s.xmms src →
           quad32 q ≡ shift_quad (quad32 x) →
           xmms' ≡ set_xmm s.xmms dst (quad32 q) →
-          Ran (run_ins env p (VPSLLDQ dst src count) s) b (exit 0 b) (held s.regs xmms' s.flags s.values)
+          Ran (run_ins env p (VPSLLDQ dst src count) s) b (Ok b) (held s.regs xmms' s.flags s.values)
       unfolding run_ins act check
       word_shift_done x q xmms' e a c d = in_xmm (VPSLLDQ dst src count) b dst q xmms' s.flags d (rw (e, c, a))
 
@@ -91,7 +92,7 @@ module _ (env : Env) (s : Config) (p : ℕ) where
         quad32 x ≡ xmm_at s.xmms dst →
         quad32 q ≡ shifts_word k (quad32 x) amount →
         xmms' ≡ set_xmm s.xmms dst (quad32 q) →
-        Ran (run_ins env p (shifts_ins k dst amount) s) b (exit 0 b) (held s.regs xmms' s.flags s.values)
+        Ran (run_ins env p (shifts_ins k dst amount) s) b (Ok b) (held s.regs xmms' s.flags s.values)
     unfolding check
     shifts_done x q xmms' l a c d =
         in_xmm (shifts_ins k dst amount) b dst q xmms' s.flags d (shifts_shape ∙ rw (lt-ltb amount 32 (omega arith), c, a))
@@ -112,7 +113,7 @@ module _ (env : Env) (s : Config) (p : ℕ) where
         v ≡ extract_nat64 (quad32 x) (index % 2) →
         regs' ≡ put_regs t v s.regs →
         values' ≡ put_values t v s.values →
-        Ran (run_ins env p (Pextrq dst src index) s) n (exit 0 t.next) (held regs' s.xmms s.flags values')
+        Ran (run_ins env p (Pextrq dst src index) s) n (Ok t.next) (held regs' s.xmms s.flags values')
     unfolding run_ins act
     extract_done h x v regs' values' a b e f =
         finished _ n t.next p _ (rw (e, f, b, a, extract_nat64_is) (wrote env s p dst n t resolves h _ _)) resolves.next
@@ -137,7 +138,7 @@ module _ (env : Env) (s : Config) (p : ℕ) where
         quad32 x ≡ xmm_at s.xmms dst →
         quad32 q ≡ inserts_word k (quad32 x) r.word index →
         xmms' ≡ set_xmm s.xmms dst (quad32 q) →
-        Ran (run_ins env p (inserts_ins k dst src index) s) n (exit 0 r.next) (held s.regs xmms' s.flags s.values)
+        Ran (run_ins env p (inserts_ins k dst src index) s) n (Ok r.next) (held s.regs xmms' s.flags s.values)
     inserts_done h x q xmms' a b c =
         finished _ n r.next p _
         (rw (c, b, a, loads.word h) (inserts_shape ∙ read_passes env s p src n r loads _ h)) loads.next

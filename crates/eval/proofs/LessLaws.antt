@@ -13,7 +13,9 @@ use Rattle.code.specs.Records.{byte_at}
 use Rattle.eval.specs.Config.{Env, Config, with_flags}
 use Rattle.eval.specs.Counted.{Counted}
 use Rattle.eval.specs.Promises.{StepsIns, DecidesAt, CodeAt, CodesAt, test_at, part_fuel, way_from, Runs, RunsAll, Spends, SpendsAll, tested_with, LessFuel}
-use Rattle.eval.specs.declared.exit.Exit.{Exit}
+use Rattle.eval.specs.Promises.{Exit}
+use Rattle.std.specs.Prelude.{Ok, Err}
+use Rattle.eval.specs.declared.exit.Stop.{Stop}
 use Rattle.eval.specs.declared.comparison.Compared.{Compared}
 use Rattle.eval.specs.declared.cycle.Way.{Way}
 use Rattle.eval.proofs.LeastLaws.{below_or_not}
@@ -85,7 +87,7 @@ going_starts_less env limit bs from e fuel s k was w = record { less = less_none
 
 module _ {env : Env} {limit : Option ℕ} {bs : List ℕ} {from e fuel : ℕ} {s₀ : Config} {k₀ : Counted} {was at : ℕ} {s : Config} {k : Counted} {mid : ℕ}
     (g : GoingLess env limit bs from e fuel s₀ k₀ was at s k mid) where
-  pub codes_done_less : e ≤ at → AllLess env limit bs from e fuel s₀ k₀ was (exit 0 e) s k mid
+  pub codes_done_less : e ≤ at → AllLess env limit bs from e fuel s₀ k₀ was (Ok e) s k mid
   codes_done_less l = less_map (λ d w. codes_done env limit bs from e (fuel - d) s₀ k₀ at s k w l) g.less
 
   pub block_goes_less : byte_at bs at ≡ 0x20 → at < e → GoingLess env limit bs from e fuel s₀ k₀ was (at + 5) s k mid
@@ -95,16 +97,16 @@ module _ {env : Env} {limit : Option ℕ} {bs : List ℕ} {from e fuel : ℕ} {s
   module _ (inside : at < e) {r : Exit} {t : Config} {l : Counted} {is : ℕ} where
     -- the code that is next has ended
     module _ (ran : OneLess env limit bs at fuel s k mid r t l is) where
-      pub codes_go_less : r.number ≡ 0 → length t.values ≡ length s.values → GoingLess env limit bs from e fuel s₀ k₀ was r.place t l is
-      codes_go_less z v = record {
+      pub codes_go_less : (q : ℕ) → r ≡ Ok q → length t.values ≡ length s.values → GoingLess env limit bs from e fuel s₀ k₀ was q t l is
+      codes_go_less q z v = record {
         less =
-            less_then (λ d w x. codes_go env limit bs from e (fuel - d) s₀ k₀ at s k w r t l x inside z v)
+            less_then (λ d w x. codes_go env limit bs from e (fuel - d) s₀ k₀ at s k w r t l x inside q z v)
             (λ d w out. codes_spend env limit bs from e (fuel - d) s₀ k₀ at s k w inside out) g.less ran;
       }
 
-      pub codes_stop_less : (r.number ≡ 0 → ⊥) → AllLess env limit bs from e fuel s₀ k₀ was r t l is
-      codes_stop_less z =
-          less_then (λ d w x. codes_stop env limit bs from e (fuel - d) s₀ k₀ at s k w r t l x inside z)
+      pub codes_stop_less : (st : Stop) → r ≡ Err st → AllLess env limit bs from e fuel s₀ k₀ was (Err st) t l is
+      codes_stop_less st z =
+          less_then (λ d w x. codes_stop env limit bs from e (fuel - d) s₀ k₀ at s k w r t l x inside st z)
           (λ d w out. codes_spend env limit bs from e (fuel - d) s₀ k₀ at s k w inside out) g.less ran
 
     -- it is an instruction, which tests nothing
@@ -112,10 +114,10 @@ module _ {env : Env} {limit : Option ℕ} {bs : List ℕ} {from e fuel : ℕ} {s
       ins_less : OneLess env limit bs at fuel s k mid r t l is
       ins_less = less_none none (λ d. ins_ran env limit bs at (fuel - d) s k r t l kind ran)
 
-      pub ins_goes_less : r.number ≡ 0 → length t.values ≡ length s.values → GoingLess env limit bs from e fuel s₀ k₀ was r.place t l is
+      pub ins_goes_less : (q : ℕ) → r ≡ Ok q → length t.values ≡ length s.values → GoingLess env limit bs from e fuel s₀ k₀ was q t l is
       ins_goes_less = codes_go_less ins_less
 
-      pub ins_stops_less : (r.number ≡ 0 → ⊥) → AllLess env limit bs from e fuel s₀ k₀ was r t l is
+      pub ins_stops_less : (st : Stop) → r ≡ Err st → AllLess env limit bs from e fuel s₀ k₀ was (Err st) t l is
       ins_stops_less = codes_stop_less ins_less
 
 -- ---- an IfElse or a While: what holds at the head of the loop over rounds
@@ -162,7 +164,7 @@ module _ {env : Env} {limit : Option ℕ} {bs : List ℕ} {at fuel : ℕ} {s₀ 
 
       pub turns_over_less :
           (way : Way) → way ≡ way_from bs at chooses x → x.how ≡ 0 → chooses ≡ false →
-          OneLess env limit bs at fuel s₀ k₀ was (exit 0 way.end) (with_flags env.fill s) j mid
+          OneLess env limit bs at fuel s₀ k₀ was (Ok way.end) (with_flags env.fill s) j mid
       turns_over_less way is z c =
           less_map (λ e v. turns_over env limit bs at (fuel - e) s₀ k₀ test (left - e) s k x j chooses v.0 v.1 compared way is z c) w.less
 
@@ -200,18 +202,18 @@ module _ {env : Env} {limit : Option ℕ} {bs : List ℕ} {at fuel : ℕ} {s₀ 
             less_then f (λ e u out. taken_spends env limit bs at (fuel - e) _ s₀ k₀ test (left - e) s k x j way p (given - e) chooses u out)
             (less_map taken_with w.less) ran
 
-        pub taken_stops_less : (r.number ≡ 0 → ⊥) → OneLess env limit bs at fuel s₀ k₀ was r t l is
-        taken_stops_less h =
-            behind_part (λ e u ran. taken_stops env limit bs at (fuel - e) _ s₀ k₀ test (left - e) s k x j way p (given - e) r t l ran chooses u h)
+        pub taken_stops_less : (st : Stop) → r ≡ Err st → OneLess env limit bs at fuel s₀ k₀ was (Err st) t l is
+        taken_stops_less st h =
+            behind_part (λ e u ran. taken_stops env limit bs at (fuel - e) _ s₀ k₀ test (left - e) s k x j way p (given - e) r t l ran chooses u st h)
 
-        pub taken_done_less : chooses ≡ true → r.number ≡ 0 → OneLess env limit bs at fuel s₀ k₀ was (exit 0 way.end) t l is
-        taken_done_less c h =
-            behind_part (λ e u ran. taken_done env limit bs at (fuel - e) _ s₀ k₀ test (left - e) s k x j way p (given - e) r t l ran chooses u c h)
+        pub taken_done_less : chooses ≡ true → (q : ℕ) → r ≡ Ok q → OneLess env limit bs at fuel s₀ k₀ was (Ok way.end) t l is
+        taken_done_less c q h =
+            behind_part (λ e u ran. taken_done env limit bs at (fuel - e) _ s₀ k₀ test (left - e) s k x j way p (given - e) r t l ran chooses u c q h)
 
         pub taken_goes_less :
-            chooses ≡ false → r.number ≡ 0 → length t.values ≡ length s.values →
+            chooses ≡ false → (q : ℕ) → r ≡ Ok q → length t.values ≡ length s.values →
             TestingLess env limit bs at fuel s₀ k₀ was chooses test given t l is
-        taken_goes_less c h long = record {
+        taken_goes_less c q h long = record {
           less =
-              behind_part (λ e u ran. taken_goes env limit bs at (fuel - e) _ s₀ k₀ test (left - e) s k x j way p (given - e) r t l ran chooses u c h long);
+              behind_part (λ e u ran. taken_goes env limit bs at (fuel - e) _ s₀ k₀ test (left - e) s k x j way p (given - e) r t l ran chooses u c q h long);
         }

@@ -7,23 +7,22 @@ use mathlib.Core.List.{List}
 use mathlib.Core.Option.{Option}
 use mathlib.Core.Logic.{⊎_elim}
 use native.Mathlib.Omega.{arith}
-use borrow.Author.Tests.{eqb-true, eqb-false, ne_eqb, eq-eqb}
 use lib.Dec.{eqb}
 use lib.ListN.{length}
 use Rattle.machine.specs.Cells.{accepted, verdict, check_cells}
-use Rattle.std.specs.Prelude.{Result, Err}
+use Rattle.std.specs.Prelude.{Result, Ok, Err}
 use Rattle.machine.specs.Continuing.{and_then}
 use Rattle.machine.specs.Rules.{rule_number}
 use Rattle.machine.specs.declared.refusal.Refusal.{Refusal}
 use Rattle.code.specs.Reader.{check_code}
 use Rattle.eval.specs.FlagRule.{FlagRule}
-use Rattle.eval.specs.Config.{Env, Config, done, fault, stopped, refused}
+use Rattle.eval.specs.Config.{Env, Config, fault, stopped, spent, refused}
 use Rattle.eval.specs.Watch.{nothing_open}
 use Rattle.eval.specs.Counted.{Counted, nothing_counted, Ended, ended}
 use Rattle.eval.specs.Running.{run_of}
 use Rattle.eval.specs.LeastFuel.{is_spent, least_fuel}
-use Rattle.eval.specs.Promises.{environment, how, RunsAll, SpendsAll, LessFuel}
-use Rattle.eval.specs.declared.exit.Exit.{Exit}
+use Rattle.eval.specs.Promises.{environment, how, ends_spent, RunsAll, SpendsAll, LessFuel}
+use Rattle.eval.specs.Promises.{Exit}
 use Rattle.eval.proofs.LeastLaws.{below_or_not, least_is}
 use Rattle.eval.proofs.RunLaws.{run_ran, run_spends}
 use Rattle.eval.proofs.Asked.{refused_run}
@@ -45,15 +44,12 @@ module _ (bs addresses tags : List ℕ) (fill : ℕ) (rule : FlagRule) (fuel : �
       (refused_run bs addresses tags fill rule 0 limit s v is y e nothing_open refl)
 
 -- which exits are spent
-is_spent_how : (r : Exit) → r.number ≡ 1 → is_spent (how r) ≡ true
+spent_how : (r : Exit) → is_spent (how r) ≡ ends_spent r
 unfolding is_spent
-is_spent_how r h = rw (ne_eqb r.number 0 (λ z. omega (arith, z, h)), eq-eqb r.number 1 h)
-
-not_spent_how : (r : Exit) → (r.number ≡ 1 → ⊥) → is_spent (how r) ≡ false
-unfolding is_spent
-not_spent_how r h = rw (ne_eqb r.number 1 h) (go (eqb r.number 0) (eqb r.number 37) r.number r.place)
+spent_how (Ok p) = refl
+spent_how (Err st) = go (eqb st.number 1) (eqb st.number 37) st.number st.place
   where
-    go : (b c : Bool) (n p : ℕ) → is_spent (cond b done (cond c (stopped n p) (fault n p))) ≡ false
+    go : (b c : Bool) (n p : ℕ) → is_spent (cond b (spent p) (cond c (stopped n p) (fault n p))) ≡ b
     go true c n p = refl
     go false true n p = refl
     go false false n p = refl
@@ -78,18 +74,18 @@ module _ (bs : List ℕ) (env : Env) (fuel : ℕ) (limit : Option ℕ) (s : Conf
       run_spends bs env f limit s here cells
       (subst (λ g. SpendsAll env limit bs 0 (length bs) g s nothing_counted) back (less.spent (fuel - f) m (omega (arith, whole))))
 
-  pub needed_is : (n : ℕ) → n ≡ cond (eqb r.number 1) fuel (fuel + 1 - is) → n ≡ least_fuel run fuel
-  needed_is n e = go (eqb r.number 1) refl e
+  pub needed_is : (n : ℕ) → n ≡ cond (ends_spent r) fuel (fuel + 1 - is) → n ≡ least_fuel run fuel
+  needed_is n e = go (ends_spent r) refl e
     where
-      go : (b : Bool) → eqb r.number 1 ≡ b → n ≡ cond b fuel (fuel + 1 - is) → n ≡ least_fuel run fuel
+      go : (b : Bool) → ends_spent r ≡ b → n ≡ cond b fuel (fuel + 1 - is) → n ≡ least_fuel run fuel
       go true h e =
           let all : (g : ℕ) → g < n → is_spent (run g).end.how ≡ true =
           λ g m.
           let b : g ≤ fuel = omega (arith, m, e) in
-          ⊎_elim (λ k. at_least g b k ∙ is_spent_how r (eqb-true _ _ h)) (too_little g b) (below_or_not (fuel - g) is)
+          ⊎_elim (λ k. at_least g b k ∙ (spent_how r ∙ h)) (too_little g b) (below_or_not (fuel - g) is)
           in
           sym (least_is run fuel n (omega (arith, e)) all (λ m. absurd (omega (arith, m, e))))
       go false h e =
           let some = less.some (omega (arith, whole)) in
           sym (least_is run fuel n (omega (arith, e, some)) (λ g m. too_little g (omega (arith, m, e, some)) (omega (arith, m, e, some)))
-          (λ m. at_least n (omega (arith, m)) (omega (arith, e, some)) ∙ not_spent_how r (eqb-false _ _ h)))
+          (λ m. at_least n (omega (arith, m)) (omega (arith, e, some)) ∙ (spent_how r ∙ h)))

@@ -18,7 +18,7 @@ use Rattle.eval.specs.Counted.{Counted, nothing_counted, Ended, ended}
 use Rattle.eval.specs.Running.{run_codes, run_checked, run_read, run_of}
 use Rattle.eval.specs.LeastFuel.{is_spent}
 use Rattle.eval.specs.Promises.{how, Reached, CodesAt, RunsAll, SpendsAll}
-use Rattle.eval.specs.declared.exit.Exit.{Exit}
+use Rattle.eval.specs.Promises.{Exit}
 use Rattle.eval.proofs.CycleLaws.{spent_too, run_one}
 
 -- accepted cells can be searched, and each has its value

@@ -1,12 +1,12 @@
 -- An instruction or a comparison as a step: it stops where the limit is used up, and else ends as it does by itself, counted where it is done.
 -- Assumes nothing.
 use Prim.Native.Nat.{ℕ, ◌+◌, ◌*◌, ◌^◌, ◌≤◌, ◌<◌}
-use mathlib.Core.Path.{◌≡◌, refl, sym, ap, ◌∙◌}
+use mathlib.Core.Path.{◌≡◌, refl, sym, ap, subst, ◌∙◌}
 use mathlib.Core.Bool.{Bool, true, false, cond}
 use mathlib.Core.List.{List, []}
 use mathlib.Core.Option.{Option, some}
 use native.Mathlib.Omega.{arith}
-use borrow.Author.Tests.{leb-false, ne_eqb}
+use borrow.Author.Tests.{leb-false}
 use mir.Syntax.{w64}
 use mir.Val.{Fits}
 use lib.Dec.{eqb}
@@ -27,10 +27,11 @@ use Rattle.eval.specs.Running.{run_ocmp}
 use Rattle.eval.specs.Promises.{how, InsAt, RunsIns, Compares, ComparesAt, tally, StepsIns, DecidesAt}
 use Rattle.eval.specs.declared.answer.Watch.{Watch}
 use Rattle.eval.specs.declared.counted.Counter.{Counter}
-use Rattle.eval.specs.declared.exit.Exit.{Exit}
+use Rattle.eval.specs.Promises.{Exit}
+use Rattle.std.specs.Prelude.{Ok, Err}
+use Rattle.eval.specs.declared.exit.Stop.{Stop}
 use Rattle.eval.specs.declared.comparison.Compared.{Compared}
-use Rattle.eval.proofs.InstructionLaws.{exit, check_fails}
-use Rattle.eval.proofs.CycleLaws.{how_done}
+use Rattle.eval.proofs.InstructionLaws.{exit, err_ok, check_fails}
 
 -- ---- what the number of a comparison says: v is whether it passes its check, whose number is m, and h whether it holds
 module _ (v h : Bool) (m n : ℕ) (above : 1 < m) (e : n ≡ cond v (cond h 1 0) m) where
@@ -105,8 +106,8 @@ uncounted true c n p sees k = refl
 uncounted false true n p sees k = refl
 uncounted false false n p sees k = refl
 
-pub not_counted : (r : Exit) (sees : Watch → Watch) (k : Counted) → (r.number ≡ 0 → ⊥) → count (how r) sees k ≡ k
-not_counted r sees k h = rw (ne_eqb r.number 0 h) (uncounted (eqb r.number 1) (eqb r.number 37) r.number r.place sees k)
+pub not_counted : (r : Stop) (sees : Watch → Watch) (k : Counted) → count (how (Err r)) sees k ≡ k
+not_counted r sees k = uncounted (eqb r.number 1) (eqb r.number 37) r.number r.place sees k
 
 -- where the limit is not used up, one step more is a word
 pub step_fits : (limit : ℕ) (k : Counter) (b : Bool) → b ≡ used_up (some limit) (tally k) → b ≡ false → Fits w64 limit → k.steps + 1 < 2 ^ 64
@@ -116,7 +117,7 @@ step_fits limit k b is h f = let l = leb-false limit k.steps (sym is ∙ h) in o
 -- ---- the limit was tested, with the answer b, before what stands at a place was tried
 module _ (env : Env) (limit : Option ℕ) (bs : List ℕ) (at : ℕ) (s : Config) (k : Counted) (b : Bool) (is : b ≡ used_up limit k) where
   pub ins_stopped : b ≡ true → StepsIns env limit bs at s k (exit 37 at) s k
-  ins_stopped h e stands = record { ends = sym (step_stopped limit at _ _ s k (sym is ∙ h)); next = λ z. absurd (omega (arith, z)) }
+  ins_stopped h e stands = record { ends = sym (step_stopped limit at _ _ s k (sym is ∙ h)); next = λ q z. absurd (err_ok z) }
 
   pub ocmp_stopped : b ≡ true → DecidesAt env limit bs at s k (record { how = 37; next = at }) k
   ocmp_stopped h e stands = record {
@@ -128,23 +129,25 @@ module _ (env : Env) (limit : Option ℕ) (bs : List ℕ) (at : ℕ) (s : Config
 
   module _ (h : b ≡ false) where
     module _ (r : Exit) (t : Config) (ran : RunsIns env bs at s r t) where
-      pub ins_ended : (r.number ≡ 0 → ⊥) → StepsIns env limit bs at s k r t k
-      ins_ended z e stands =
-          let w = ran e stands in
+      pub ins_ended : (st : Stop) → r ≡ Err st → StepsIns env limit bs at s k (Err st) t k
+      ins_ended st z e stands =
+          let w = (subst (λ (x : Exit). RunsIns env bs at s x t) z ran) e stands in
           record {
-            ends = ap (λ (l : Counted). ended (how r) t l) (sym (not_counted r _ k z)) ∙ sym (step_tried limit at _ _ s k (sym is ∙ h) (how r) t w.ends);
+            ends =
+                ap (λ (l : Counted). ended (how (Err st)) t l) (sym (not_counted st _ k))
+                ∙ sym (step_tried limit at _ _ s k (sym is ∙ h) (how (Err st)) t w.ends);
             next = w.next;
           }
 
       pub ins_counted :
-          r.number ≡ 0 → (l : Counted) → l ≡ count done (watched env.rule (byte_at bs at) at) k → StepsIns env limit bs at s k r t l
-      ins_counted z l more e stands =
-          let w = ran e stands in
+          (q : ℕ) → r ≡ Ok q → (l : Counted) → l ≡ count done (watched env.rule (byte_at bs at) at) k → StepsIns env limit bs at s k (Ok q) t l
+      ins_counted q z l more e stands =
+          let w = (subst (λ (x : Exit). RunsIns env bs at s x t) z ran) e stands in
           record {
             ends =
-                ap (λ (l : Counted). ended (how r) t l)
-                (more ∙ rw (how_done r z) (ap (λ n. count done (watched env.rule n at) k) (sym (ins_kind bs at e stands))))
-                ∙ sym (step_tried limit at _ _ s k (sym is ∙ h) (how r) t w.ends);
+                ap (λ (l : Counted). ended done t l)
+                (more ∙ ap (λ n. count done (watched env.rule n at) k) (sym (ins_kind bs at e stands)))
+                ∙ sym (step_tried limit at _ _ s k (sym is ∙ h) done t w.ends);
             next = w.next;
           }
 
@@ -156,7 +159,7 @@ module _ (env : Env) (limit : Option ℕ) (bs : List ℕ) (at : ℕ) (s : Config
           record {
             stops = λ _.
                 step_tried limit at _ _ s k (sym is ∙ h) (how (exit x.how at)) s (sym ends_so)
-                ∙ ap (λ (l : Counted). ended (how (exit x.how at)) s l) (not_counted (exit x.how at) _ k (λ z. omega (arith, z, l)));
+                ∙ ap (λ (l : Counted). ended (how (exit x.how at)) s l) (not_counted (record { number = x.how; place = at }) _ k);
             goes = λ m. absurd (omega (arith, l, m));
             holds = λ m. absurd (omega (arith, l, m));
             next = λ m. absurd (omega (arith, l, m));

@@ -1,6 +1,6 @@
 -- What the functions of the evaluator promise: the contracts below `run`, of an operand, a comparison, an instruction, a step, a code and a list of codes.
 -- They are said of the parts that are lent: addresses and tags, code bytes, registers, xmm words, flags, values, and what is counted.
-use Rattle.std.specs.Prelude.{ℕ, ◌+◌, ◌-◌, ◌/◌, ◌%◌, ◌≤◌, ◌<◌, min, ◌≡◌, Bool, true, false, not, cond, List, [], ◌∷◌, eqb, ltb, leb, length, get_or, set}
+use Rattle.std.specs.Prelude.{ℕ, ◌+◌, ◌-◌, ◌/◌, ◌%◌, ◌≤◌, ◌<◌, min, ◌≡◌, Bool, true, false, not, cond, List, [], ◌∷◌, eqb, ltb, leb, length, get_or, set, Result, Ok, Err}
 use Rattle.std.proofs.Math.Option.{Option, some}
 use Rattle.std.specs.Borrow.{Bor, MutBor}
 use denote.Triple.Both.{Both}
@@ -25,7 +25,7 @@ use Rattle.eval.specs.LeastFuel.{is_spent}
 use Rattle.eval.specs.declared.answer.Watch.{Watch}
 use Rattle.eval.specs.declared.counted.Counter.{Counter}
 use Rattle.eval.specs.declared.lent.Lent.{Lent}
-use Rattle.eval.specs.declared.exit.Exit.{Exit}
+use Rattle.eval.specs.declared.exit.Stop.{Stop}
 use Rattle.eval.specs.declared.operand.Sought.{Sought}
 use Rattle.eval.specs.declared.operand.Loaded.{Loaded}
 use Rattle.eval.specs.declared.operand.Slot.{Slot}
@@ -97,17 +97,23 @@ pub record IsEffect (word flags : ℕ) (e : Effect) : Type 0 where
   pub word_is : e.word ≡ word
   pub flags_is : e.flags ≡ flags
 
--- what an Exit says: 0 is done, 1 is spent, 37 is stopped, and any other number is a fault
+-- what an Exit says: done, or 1 is spent, 37 is stopped, and any other number is a fault
+abbrev pub Exit : Type 0
+Exit = Result ℕ Stop
+
 abbrev pub how : Exit → Outcome
-how r =
-    cond (eqb r.number 0) done
-    (cond (eqb r.number 1) (spent r.place)
-    (cond (eqb r.number 37) (stopped r.number r.place) (fault r.number r.place)))
+how (Ok p) = done
+how (Err s) = cond (eqb s.number 1) (spent s.place) (cond (eqb s.number 37) (stopped s.number s.place) (fault s.number s.place))
+
+-- whether it is spent
+abbrev pub ends_spent : Exit → Bool
+ends_spent (Ok p) = false
+ends_spent (Err s) = eqb s.number 1
 
 -- an exit that leaves t ends as a run does, and goes on at the place behind
 pub record Ran (end : End) (behind : ℕ) (r : Exit) (t : Config) : Type 0 where
   pub ends : Config.ends (how r) t ≡ end
-  pub next : r.number ≡ 0 → r.place ≡ behind
+  pub next : (p : ℕ) → r ≡ Ok p → p ≡ behind
 
 -- an instruction stands at a place, inside the bytes
 abbrev pub InsAt : List ℕ → ℕ → Type 0
@@ -188,7 +194,7 @@ pub record Kept (rule : FlagRule) (k was r : ℕ) : Type 0 where
 -- an exit that leaves t, with l counted, ends as a part of a run does, and goes on at the place behind
 pub record Reached (end : Ended) (behind : ℕ) (r : Exit) (t : Config) (l : Counted) : Type 0 where
   pub ends : ended (how r) t l ≡ end
-  pub next : r.number ≡ 0 → r.place ≡ behind
+  pub next : (p : ℕ) → r ≡ Ok p → p ≡ behind
 
 -- an exit from s and k to t and l is that of the instruction that stands at a place, as a step
 abbrev pub StepsIns : Env → Option ℕ → List ℕ → ℕ → Config → Counted → Exit → Config → Counted → Type 0
@@ -198,7 +204,7 @@ StepsIns env limit bs at s k r t l =
 -- what a Compared says of a comparison at q, as a step from s and k that leaves l counted: 1 where it holds, 0 where it does not, or the number with which
 -- the run ends there; where it goes on, with the flags that it sets, the place behind
 pub record Decides (env : Env) (limit : Option ℕ) (s : Config) (k : Counted) (c : Ocmp) (q end : ℕ) (r : Compared) (l : Counted) : Type 0 where
-  pub stops : 1 < r.how → step_ocmp env limit q c s k ≡ ended (how (record { number = r.how; place = q })) s l
+  pub stops : 1 < r.how → step_ocmp env limit q c s k ≡ ended (how (Err (record { number = r.how; place = q }))) s l
   pub goes : r.how ≤ 1 → step_ocmp env limit q c s k ≡ ended done (with_flags env.fill s) l
   pub holds : r.how ≤ 1 → r.how ≡ cond (eval_ocmp env c s) 1 0
   pub next : r.how ≤ 1 → r.next ≡ end

@@ -10,7 +10,7 @@ ghost use Rattle.eval.specs.Promises.{CodeAt, CodesAt, codes_from, TestedAt, tes
 
 use crate::comparison::Compared;
 use crate::counted::Counter;
-use crate::exit::Exit;
+use crate::exit::{Exit, Stop};
 use crate::lent::Lent;
 use crate::step::{step_comparison, step_instruction};
 use code::number4;
@@ -96,22 +96,14 @@ pub fn eval_codes(
     while next < end {
         let kind = lent.code[next];
         if kind < 0x20 {
-            let ran = step_instruction(lent, next, state, values, counter);
-            if ran.number != 0 {
-                return ran;
-            }
-            next = ran.place;
+            next = step_instruction(lent, next, state, values, counter)?;
         } else if kind == 0x20 {
             next += 5;
         } else {
-            let went = eval_code(lent, next, fuel, state, values, counter);
-            if went.number != 0 {
-                return went;
-            }
-            next = went.place;
+            next = eval_code(lent, next, fuel, state, values, counter)?;
         }
     }
-    Exit::done(end)
+    Ok(end)
 }
 
 // An IfElse, which chooses between two parts and has one round, or a While, which has rounds while there is fuel and its
@@ -138,15 +130,15 @@ fn eval_code(
         counter.count_test(chooses, left);
         let compared = step_comparison(lent, test, state, values, counter);
         if 1 < compared.how {
-            return Exit::at(compared.how, test);
+            return Stop::at(compared.how, test);
         }
         state.flags = lent.fill;
         let way = way_from(lent.code, at, chooses, compared);
         if compared.how == 0 && !chooses {
-            return Exit::done(way.end);
+            return Ok(way.end);
         }
         let given = part_fuel(chooses, left);
-        let ran = eval_codes(
+        eval_codes(
             lent,
             first_code(lent.code, way.part),
             way.behind,
@@ -154,16 +146,12 @@ fn eval_code(
             state,
             values,
             counter,
-        );
-        if ran.number != 0 {
-            // Made anew, since a copy of the struct would copy the bytes between its fields too.
-            return Exit::at(ran.number, ran.place);
-        }
+        )?;
         if chooses {
-            return Exit::done(way.end);
+            return Ok(way.end);
         }
         left = given;
     }
     // A While without fuel: an IfElse has returned.
-    Exit::at(1, at)
+    Stop::at(1, at)
 }

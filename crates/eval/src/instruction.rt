@@ -30,7 +30,7 @@ fn lane_instruction(lent: &Lent, at: usize, state: &mut State, values: &mut [u64
         0x16 | 0x17 => insert(lent, at, state, values),
         0x18 => shift_by_word(lent, at, state),
         // No other kind comes here.
-        _ => Exit::done(at),
+        _ => Ok(at),
     }
 }
 
@@ -51,6 +51,6 @@ pub fn instruction(lent: &Lent, at: usize, state: &mut State, values: &mut [u64]
         0x08 => multiply(lent, at, state, values),
         0x09 => multiply_into(lent, at, state, values),
         // No other kind comes here.
-        _ => Exit::done(at),
+        _ => Ok(at),
     }
 }

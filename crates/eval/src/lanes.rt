@@ -12,7 +12,7 @@ ghost use Rattle.eval.specs.Config.{config};
 ghost use Rattle.eval.specs.Instructions.{quads_word, quads_flags, shifts_word, inserts_word, run_ins};
 ghost use Rattle.eval.specs.Promises.{env_of, Ran};
 
-use crate::exit::Exit;
+use crate::exit::{Exit, Stop};
 use crate::lent::Lent;
 use crate::operand::{load, put, resolve};
 use machine::{State, set_xmm, xmm_at};
@@ -61,7 +61,7 @@ pub fn two_quads(lent: &Lent, at: usize, state: &mut State) -> Exit
     );
     set_xmm(&mut state.xmms, dst, q);
     state.flags = quads_flags(kind, lent.fill, state.flags);
-    Exit::done(at + 3)
+    Ok(at + 3)
 }
 
 fn shifted(kind: u8, q: Quad32, amount: u8) -> Quad32
@@ -89,11 +89,11 @@ pub fn shift_words(lent: &Lent, at: usize, state: &mut State) -> Exit
     let dst = lent.code[at + 1];
     let amount = lent.code[at + 2];
     if 31 < amount {
-        return Exit::at(34, at);
+        return Stop::at(34, at);
     }
     let q = shifted(lent.code[at], xmm_at(&state.xmms, dst), amount);
     set_xmm(&mut state.xmms, dst, q);
-    Exit::done(at + 3)
+    Ok(at + 3)
 }
 
 // Pshufd.
@@ -112,7 +112,7 @@ pub fn shuffle(lent: &Lent, at: usize, state: &mut State) -> Exit
         lent.code[at + 1],
         shuffle_lanes(q, lent.code[at + 3]),
     );
-    Exit::done(at + 4)
+    Ok(at + 4)
 }
 
 // VPSLLDQ.
@@ -126,11 +126,11 @@ pub fn shift_by_word(lent: &Lent, at: usize, state: &mut State) -> Exit
         (config state.new values) }
 {
     if lent.code[at + 3] != 4 {
-        return Exit::at(35, at);
+        return Stop::at(35, at);
     }
     let q = xmm_at(&state.xmms, lent.code[at + 2]);
     set_xmm(&mut state.xmms, lent.code[at + 1], shift_quad(q));
-    Exit::done(at + 4)
+    Ok(at + 4)
 }
 
 // Pextrq.
@@ -147,11 +147,11 @@ pub fn extract(lent: &Lent, at: usize, state: &mut State, values: &mut [u64]) ->
 {
     let dst = resolve(lent, at + 3, &state.regs, values);
     if 1 < dst.how {
-        return Exit::at(dst.how, at);
+        return Stop::at(dst.how, at);
     }
     let word = extract_nat64(xmm_at(&state.xmms, lent.code[at + 1]), lent.code[at + 2]);
     put(dst, word, &mut state.regs, values);
-    Exit::done(dst.next)
+    Ok(dst.next)
 }
 
 fn inserted(kind: u8, q: Quad32, word: u64, index: u8) -> Quad32
@@ -181,7 +181,7 @@ pub fn insert(lent: &Lent, at: usize, state: &mut State, values: &[u64]) -> Exit
 {
     let src = load(lent, at + 3, state, values);
     if src.number != 0 {
-        return Exit::at(src.number, at);
+        return Stop::at(src.number, at);
     }
     let dst = lent.code[at + 1];
     let q = inserted(
@@ -191,5 +191,5 @@ pub fn insert(lent: &Lent, at: usize, state: &mut State, values: &[u64]) -> Exit
         lent.code[at + 2],
     );
     set_xmm(&mut state.xmms, dst, q);
-    Exit::done(src.next)
+    Ok(src.next)
 }

@@ -7,7 +7,7 @@ ghost use Rattle.eval.specs.Instructions.{run_ins};
 ghost use Rattle.eval.specs.Config.{config};
 ghost use Rattle.eval.specs.Promises.{env_of, Ran};
 
-use crate::exit::Exit;
+use crate::exit::{Exit, Stop};
 use crate::lent::Lent;
 use crate::operand::{load, put, registers_with, resolve};
 use code::operand_behind;
@@ -25,7 +25,7 @@ pub fn multiply(lent: &Lent, at: usize, state: &mut State, values: &[u64]) -> Ex
 {
     let src = load(lent, at + 1, state, values);
     if src.number != 0 {
-        return Exit::at(src.number, at);
+        return Stop::at(src.number, at);
     }
     let rax = Reg::RAX;
     let rdx = Reg::RDX;
@@ -35,7 +35,7 @@ pub fn multiply(lent: &Lent, at: usize, state: &mut State, values: &[u64]) -> Ex
     state.regs[low] = product.low;
     state.regs[high] = product.high;
     state.flags = lent.fill;
-    Exit::done(src.next)
+    Ok(src.next)
 }
 
 // The high destination is resolved in the state after the low half is written, which it depends on only where
@@ -56,10 +56,10 @@ pub fn multiply_into(lent: &Lent, at: usize, state: &mut State, values: &mut [u6
     let low = resolve(lent, second, &state.regs, values);
     let src = load(lent, low.next, state, values);
     if src.number != 0 {
-        return Exit::at(src.number, at);
+        return Stop::at(src.number, at);
     }
     if 1 < low.how {
-        return Exit::at(low.how, at);
+        return Stop::at(low.how, at);
     }
     let rdx = Reg::RDX;
     let from = rdx.number as usize;
@@ -67,9 +67,9 @@ pub fn multiply_into(lent: &Lent, at: usize, state: &mut State, values: &mut [u6
     let after = registers_with(low, product.low, &state.regs);
     let high = resolve(lent, at + 1, &after, values);
     if 1 < high.how {
-        return Exit::at(high.how, at);
+        return Stop::at(high.how, at);
     }
     put(low, product.low, &mut state.regs, values);
     put(high, product.high, &mut state.regs, values);
-    Exit::done(src.next)
+    Ok(src.next)
 }

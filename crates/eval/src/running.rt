@@ -1,6 +1,6 @@
 // Running: code and cells are checked, and then a copy of the start and the cells' values are lent to the evaluator's cycle.
 // What `evaluate` and `run` take stays apart, cells in three lists: README and docs/ name both, and no parameter of theirs may be narrowed.
-ghost use Rattle.std.specs.Prelude.{◌≡◌, cond, ◌+◌, ◌-◌, ◌≤◌, ◌<◌, eqb};
+ghost use Rattle.std.specs.Prelude.{◌≡◌, cond, ◌+◌, ◌-◌, ◌≤◌, ◌<◌};
 ghost use Rattle.std.proofs.Math.Option.{some};
 ghost use Rattle.machine.specs.Cells.{accepted, verdict, check_cells};
 ghost use Rattle.machine.specs.Continuing.{and_then};
@@ -10,7 +10,7 @@ ghost use Rattle.eval.specs.Config.{config, outcome};
 ghost use Rattle.eval.specs.Counted.{ended_of};
 ghost use Rattle.eval.specs.Running.{run_of};
 ghost use Rattle.eval.specs.LeastFuel.{least_fuel};
-ghost use Rattle.eval.specs.Promises.{environment, how};
+ghost use Rattle.eval.specs.Promises.{environment, how, ends_spent};
 ghost use Rattle.eval.specs.Inputs.{IsInput};
 
 use crate::answer::{Answer, Run, Setting};
@@ -25,21 +25,31 @@ use machine::{Refusal, State, check_cells};
 fn answer_of(ended: Exit) -> Answer
     ensures { outcome result ≡ how ended }
 {
-    let place = ended.place;
-    match ended.number {
-        0 => Answer::Done,
-        1 => Answer::Spent(place),
-        37 => Answer::Stopped(37, place),
-        number => Answer::Fault(number, place),
+    match ended {
+        Ok(_) => Answer::Done,
+        Err(stop) => match stop.number {
+            1 => Answer::Spent(stop.place),
+            37 => Answer::Stopped(37, stop.place),
+            number => Answer::Fault(number, stop.place),
+        },
+    }
+}
+
+fn ends_spent(ended: Exit) -> bool
+    ensures { result ≡ ends_spent ended }
+{
+    match ended {
+        Ok(_) => false,
+        Err(stop) => stop.number == 1,
     }
 }
 
 // With less than this, a loop test that found fuel would have found none. A run that is Spent needs all of its fuel.
 fn needed_fuel(ended: Exit, fuel: u32, tested: u64) -> u32
     requires { (0 < tested) × (tested ≤ fuel + 1) }
-    ensures { result ≡ cond (eqb ended.number 1) fuel (fuel + 1 - tested) }
+    ensures { result ≡ cond (ends_spent ended) fuel (fuel + 1 - tested) }
 {
-    if ended.number == 1 {
+    if ends_spent(ended) {
         return fuel;
     }
     (fuel as u64 + 1 - tested) as u32

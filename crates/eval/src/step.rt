@@ -7,7 +7,7 @@ ghost use Rattle.eval.specs.Promises.{env_of, tally, least_tested, InsAt, OcmpAt
 
 use crate::comparison::{Compared, compare};
 use crate::counted::Counter;
-use crate::exit::Exit;
+use crate::exit::{Exit, Stop};
 use crate::instruction::instruction;
 use crate::lent::Lent;
 use machine::State;
@@ -25,14 +25,11 @@ pub fn step_instruction(
     ensures tested_none { least_tested counter.new ≡ least_tested counter.old }
 {
     if counter.used_up(lent.limit) {
-        return Exit::at(37, at);
+        return Stop::at(37, at);
     }
-    let ran = instruction(lent, at, state, values);
-    if ran.number != 0 {
-        return ran;
-    }
+    let place = instruction(lent, at, state, values)?;
     counter.count_instruction(lent.code[at], at, lent.evaluation);
-    ran
+    Ok(place)
 }
 
 // The comparison of an IfElse or a While. It changes the count alone: where it completes, its caller sets flags to the fill

@@ -10,7 +10,7 @@ ghost use Rattle.eval.specs.Config.{config};
 ghost use Rattle.eval.specs.Promises.{env_of, Ran};
 
 use crate::arithmetic::effect_of;
-use crate::exit::Exit;
+use crate::exit::{Exit, Stop};
 use crate::lent::Lent;
 use crate::operand::{load, put, resolve};
 use machine::State;
@@ -43,13 +43,13 @@ pub fn two_operands(lent: &Lent, at: usize, state: &mut State, values: &mut [u64
     let dst = resolve(lent, at + 1, &state.regs, values);
     let src = load(lent, dst.next, state, values);
     if src.number != 0 {
-        return Exit::at(src.number, at);
+        return Stop::at(src.number, at);
     }
     if too_far(kind, src.word) {
-        return Exit::at(33, at);
+        return Stop::at(33, at);
     }
     if 1 < dst.how {
-        return Exit::at(dst.how, at);
+        return Stop::at(dst.how, at);
     }
     let effect = effect_of(
         kind,
@@ -61,7 +61,7 @@ pub fn two_operands(lent: &Lent, at: usize, state: &mut State, values: &mut [u64
     );
     put(dst, effect.word, &mut state.regs, values);
     state.flags = effect.flags;
-    Exit::done(src.next)
+    Ok(src.next)
 }
 
 pub fn add_lea(lent: &Lent, at: usize, state: &mut State, values: &mut [u64]) -> Exit
@@ -79,15 +79,15 @@ pub fn add_lea(lent: &Lent, at: usize, state: &mut State, values: &mut [u64]) ->
     let one = load(lent, dst.next, state, values);
     let two = load(lent, one.next, state, values);
     if one.number != 0 {
-        return Exit::at(one.number, at);
+        return Stop::at(one.number, at);
     }
     if two.number != 0 {
-        return Exit::at(two.number, at);
+        return Stop::at(two.number, at);
     }
     if 1 < dst.how {
-        return Exit::at(dst.how, at);
+        return Stop::at(dst.how, at);
     }
     let sum = one.word.plus(two.word);
     put(dst, sum.word, &mut state.regs, values);
-    Exit::done(two.next)
+    Ok(two.next)
 }

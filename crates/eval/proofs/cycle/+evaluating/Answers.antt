@@ -6,6 +6,7 @@ use Rattle.code.specs.Records.{byte_at}
 use Rattle.eval.specs.Config.{config}
 use Rattle.eval.specs.Promises.{env_of, tally, least_tested, DecidesAt}
 use Rattle.eval.proofs.CycleLaws.{ins_ran, going_starts, block_goes, codes_go, codes_stop, codes_done}
+use Rattle.eval.proofs.InstructionLaws.{handed_on}
 use Rattle.eval.proofs.Asked.{next_code, next_ins, next_less, rest_less, rest_less_ins, past_block, test_stands, testing_starts, some_fuel, goes_round, turn_stopped, behind_test, turns_over, turns_spent, Turn, turn_code, taking, taken_codes, taken_long, taken_less, taken_falls, taken_stops, taken_done, taken_goes}
 use Rattle.eval.proofs.LessLaws.{going_starts_less, ins_goes_less, ins_stops_less, block_goes_less, codes_go_less, codes_stop_less, codes_done_less, testing_starts_less, turns_spent_less, BegunLess, begins_less, turn_stopped_less, turns_over_less, taken_stops_less, taken_done_less, taken_goes_less}
 use Rattle.eval.proofs.cycle.+evaluating.Goals as goal
@@ -15,29 +16,31 @@ use Rattle.eval.proofs.cycle.+evaluating.Goals.{eval_code-After-step_comparison-
 pub eval_codes-loop-next-init : goal.eval_codes-loop-next-init
 eval_codes-loop-next-init t c = record { runs = search going_starts; less = search going_starts_less }
 
-pub eval_codes-step_instruction-ran-requires-clause-ins_at : goal.eval_codes-step_instruction-ran-requires-clause-ins_at
-eval_codes-step_instruction-ran-requires-clause-ins_at t c = let g = c.loop-next.invariant.runs in search next_ins
+pub eval_codes-step_instruction-requires-clause-ins_at : goal.eval_codes-step_instruction-requires-clause-ins_at
+eval_codes-step_instruction-requires-clause-ins_at t c = let g = c.loop-next.invariant.runs in search next_ins
 
-pub eval_codes-returns-then-ran-ne0 : goal.eval_codes-returns-then-ran-ne0
-eval_codes-returns-then-ran-ne0 t c =
+pub eval_codes-returns-in_err-next : goal.eval_codes-returns-in_err-next
+eval_codes-returns-in_err-next t c =
     let inv = c.loop-next.invariant in
-    let ran = c.step_instruction-ran.ensures in
-    record {
+    let ran = c.step_instruction.ensures in
+    let was = c.in_err-next.was in
+    rw (handed_on _ _ c.from_residual.ensures.1) (record {
       evaluates_all = search (codes_stop, ins_ran);
-      with_less_all = ins_stops_less inv.less c.loop-next-test.true c.if-kind-lt32.true ran.evaluates_step ran.tested_none c.if-ran-ne0.true;
-    }
+      with_less_all = ins_stops_less inv.less c.loop-next-test.true c.if-kind-lt32.true ran.evaluates_step ran.tested_none _ was;
+    })
 
 pub eval_codes-loop-next-smaller-then-kind-lt32 : goal.eval_codes-loop-next-smaller-then-kind-lt32
-eval_codes-loop-next-smaller-then-kind-lt32 t c = let g = c.loop-next.invariant.runs in search rest_less_ins
+eval_codes-loop-next-smaller-then-kind-lt32 t c = let g = c.loop-next.invariant.runs in let was = c.in_ok-next.was in search rest_less_ins
 
 pub eval_codes-loop-next-preserved-then-kind-lt32 : goal.eval_codes-loop-next-preserved-then-kind-lt32
 eval_codes-loop-next-preserved-then-kind-lt32 t c =
     let inv = c.loop-next.invariant in
-    let ran = c.step_instruction-ran.ensures in
+    let ran = c.step_instruction.ensures in
+    let was = c.in_ok-next.was in
     record {
       runs = search (codes_go, ins_ran);
-      less = ins_goes_less inv.less c.loop-next-test.true c.if-kind-lt32.true ran.evaluates_step ran.tested_none c.if-ran-ne0.false
-          c.step_instruction-ran.auto.values;
+      less = ins_goes_less inv.less c.loop-next-test.true c.if-kind-lt32.true ran.evaluates_step ran.tested_none _ was
+          c.step_instruction.auto.values;
     }
 
 pub eval_codes-loop-next-preserved-then-kind-eq32 : goal.eval_codes-loop-next-preserved-then-kind-eq32
@@ -45,32 +48,35 @@ eval_codes-loop-next-preserved-then-kind-eq32 t c =
     let inv = c.loop-next.invariant in
     record { runs = search block_goes; less = block_goes_less inv.less c.if-kind-eq32.true c.loop-next-test.true }
 
-pub eval_codes-eval_code-went-requires : goal.eval_codes-eval_code-went-requires
-eval_codes-eval_code-went-requires t c =
+pub eval_codes-eval_code-requires : goal.eval_codes-eval_code-requires
+eval_codes-eval_code-requires t c =
     let g = c.loop-next.invariant.runs in (search next_less, (search next_code, (search past_block, search)))
 
-pub eval_codes-returns-then-went-ne0 : goal.eval_codes-returns-then-went-ne0
-eval_codes-returns-then-went-ne0 t c =
+pub eval_codes-returns-in_err-next-2 : goal.eval_codes-returns-in_err-next-2
+eval_codes-returns-in_err-next-2 t c =
     let inv = c.loop-next.invariant in
-    let went = c.eval_code-went.ensures in
-    record { evaluates_all = search codes_stop; with_less_all = codes_stop_less inv.less c.loop-next-test.true went.with_less c.if-went-ne0.true }
+    let went = c.eval_code.ensures in
+    let was = c.in_err-next-2.was in
+    rw (handed_on _ _ c.from_residual-in_err-next-2.ensures.1)
+    (record { evaluates_all = search codes_stop; with_less_all = codes_stop_less inv.less c.loop-next-test.true went.with_less _ was })
 
 pub eval_codes-loop-next-smaller : goal.eval_codes-loop-next-smaller
-eval_codes-loop-next-smaller t c = let g = c.loop-next.invariant.runs in search rest_less
+eval_codes-loop-next-smaller t c = let g = c.loop-next.invariant.runs in let was = c.in_ok-next-2.was in search rest_less
 
 pub eval_codes-loop-next-preserved : goal.eval_codes-loop-next-preserved
 eval_codes-loop-next-preserved t c =
     let inv = c.loop-next.invariant in
-    let went = c.eval_code-went.ensures in
+    let went = c.eval_code.ensures in
+    let was = c.in_ok-next-2.was in
     record {
       runs = search codes_go;
-      less = codes_go_less inv.less c.loop-next-test.true went.with_less c.if-went-ne0.false c.eval_code-went.auto.values;
+      less = codes_go_less inv.less c.loop-next-test.true went.with_less _ was c.eval_code.auto.values;
     }
 
 pub eval_codes-returns : goal.eval_codes-returns
 eval_codes-returns t c =
     let inv = c.loop-next.invariant in
-    rw c.done.ensures (record { evaluates_all = search codes_done; with_less_all = codes_done_less inv.less c.loop-next-test.false })
+    record { evaluates_all = search codes_done; with_less_all = codes_done_less inv.less c.loop-next-test.false }
 
 -- ---- a code
 -- there is fuel for the round
@@ -167,29 +173,30 @@ pub eval_code-returns-then-not-chooses : goal.eval_code-returns-then-not-chooses
 eval_code-returns-then-not-chooses t c =
     let x = (goal.at.eval_code-returns-then-not-chooses t c).After-step_comparison-compared in
     let way_is = c.way_from-way.ensures in
-    rw c.done.ensures (record {
+    record {
       evaluates =
           turns_over _ _ _ _ _ _ _ _ _ _ _ _ _ _ c.loop-counter.invariant.runs (fuelled t x) (compared t x) _ way_is
           c.if-compared-eq0.true (ne_eqb _ _ c.if-not-chooses.true);
       with_less = turns_over_less (begun t x) _ _ (compared t x) _ way_is c.if-compared-eq0.true (ne_eqb _ _ c.if-not-chooses.true);
-    })
+    }
 
 pub eval_code-first_code-requires : goal.eval_code-first_code-requires
 eval_code-first_code-requires t c = let w = turn t (goal.at.eval_code-first_code-requires t c).Joined-else-compared-eq0 in search turn_code
 
-pub eval_code-eval_codes-ran-requires : goal.eval_code-eval_codes-ran-requires
-eval_code-eval_codes-ran-requires t c =
-    let w = taking (turn t (goal.at.eval_code-eval_codes-ran-requires t c).Joined-else-compared-eq0) c.first_code.ensures c.part_fuel-given.ensures in
+pub eval_code-eval_codes-requires : goal.eval_code-eval_codes-requires
+eval_code-eval_codes-requires t c =
+    let w = taking (turn t (goal.at.eval_code-eval_codes-requires t c).Joined-else-compared-eq0) c.first_code.ensures c.part_fuel-given.ensures in
     (search taken_less, (search taken_codes, search taken_long))
 
-pub eval_code-returns-then-ran-ne0 : goal.eval_code-returns-then-ran-ne0
-eval_code-returns-then-ran-ne0 t c =
-    let at = goal.at.eval_code-returns-then-ran-ne0 t c in
+pub eval_code-returns-in_err-eval_codes : goal.eval_code-returns-in_err-eval_codes
+eval_code-returns-in_err-eval_codes t c =
+    let at = goal.at.eval_code-returns-in_err-eval_codes t c in
     let w = taking (turn t at.Joined-else-compared-eq0) c.first_code.ensures c.part_fuel-given.ensures in
     let b = begun t at.After-step_comparison-compared in
-    rw c.at-then-ran-ne0.ensures (record {
+    let was = c.in_err-eval_codes.was in
+    rw (handed_on _ _ c.from_residual.ensures.1) (record {
       evaluates = search taken_stops;
-      with_less = taken_stops_less b w c.eval_codes-ran.ensures.with_less_all c.if-ran-ne0.true;
+      with_less = taken_stops_less b w c.eval_codes.ensures.with_less_all _ was;
     })
 
 pub eval_code-returns-then-chooses-2 : goal.eval_code-returns-then-chooses-2
@@ -197,11 +204,11 @@ eval_code-returns-then-chooses-2 t c =
     let at = goal.at.eval_code-returns-then-chooses-2 t c in
     let w = taking (turn t at.Joined-else-compared-eq0) c.first_code.ensures c.part_fuel-given.ensures in
     let b = begun t at.After-step_comparison-compared in
-    let ran = c.eval_codes-ran.ensures in
-    rw c.done-then-chooses-2.ensures (record {
-      evaluates = taken_done _ _ _ _ _ _ _ _ _ _ _ _ _ _ _ _ _ _ _ _ ran.evaluates_all _ w (eq-eqb _ _ c.if-chooses-2.true) c.if-ran-ne0.false;
-      with_less = taken_done_less b w ran.with_less_all (eq-eqb _ _ c.if-chooses-2.true) c.if-ran-ne0.false;
-    })
+    let ran = c.eval_codes.ensures in let was = c.in_ok-eval_codes.was in
+    record {
+      evaluates = taken_done _ _ _ _ _ _ _ _ _ _ _ _ _ _ _ _ _ _ _ _ ran.evaluates_all _ w (eq-eqb _ _ c.if-chooses-2.true) _ was;
+      with_less = taken_done_less b w ran.with_less_all (eq-eqb _ _ c.if-chooses-2.true) _ was;
+    }
 
 pub eval_code-loop-counter-smaller : goal.eval_code-loop-counter-smaller
 eval_code-loop-counter-smaller t c =
@@ -213,11 +220,11 @@ eval_code-loop-counter-preserved t c =
     let at = goal.at.eval_code-loop-counter-preserved t c in
     let w = taking (turn t at.Joined-else-compared-eq0) c.first_code.ensures c.part_fuel-given.ensures in
     let b = begun t at.After-step_comparison-compared in
-    let ran = c.eval_codes-ran.ensures in
-    let same = c.eval_codes-ran.auto.values in
+    let ran = c.eval_codes.ensures in let was = c.in_ok-eval_codes.was in
+    let same = c.eval_codes.auto.values in
     record {
-      runs = taken_goes _ _ _ _ _ _ _ _ _ _ _ _ _ _ _ _ _ _ _ _ ran.evaluates_all _ w (ne_eqb _ _ c.if-chooses-2.false) c.if-ran-ne0.false same;
-      less = taken_goes_less b w ran.with_less_all (ne_eqb _ _ c.if-chooses-2.false) c.if-ran-ne0.false same;
+      runs = taken_goes _ _ _ _ _ _ _ _ _ _ _ _ _ _ _ _ _ _ _ _ ran.evaluates_all _ w (ne_eqb _ _ c.if-chooses-2.false) _ was same;
+      less = taken_goes_less b w ran.with_less_all (ne_eqb _ _ c.if-chooses-2.false) _ was same;
     }
 
 pub eval_code-returns : goal.eval_code-returns

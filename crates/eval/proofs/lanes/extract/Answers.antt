@@ -26,4 +26,4 @@ pub put-requires : goal.put-requires
 put-requires c = search (c.resolve-dst.ensures 0 []).bounds
 
 pub returns : goal.returns
-returns c = let s = c.args.state.now in let dst = c.resolve-dst.ensures s.flags s.xmms in rw c.done.ensures (search extracts)
+returns c = let s = c.args.state.now in let dst = c.resolve-dst.ensures s.flags s.xmms in search extracts

@@ -25,4 +25,4 @@ pub bounds-lent-at-3 : goal.bounds-lent-at-3
 bounds-lent-at-3 c = omega (arith, operand_starts)
 
 pub returns : goal.returns
-returns c = let kind = c.requires.at_value in rw c.done.ensures (search inserts)
+returns c = let kind = c.requires.at_value in search inserts

@@ -6,4 +6,4 @@ pub returns-then-lent-at-ne4 : goal.returns-then-lent-at-ne4
 returns-then-lent-at-ne4 c = rw c.at.ensures (search word_shift_fails)
 
 pub returns : goal.returns
-returns c = rw c.done.ensures (search word_shift_done)
+returns c = search word_shift_done

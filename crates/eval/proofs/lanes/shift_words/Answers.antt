@@ -6,4 +6,4 @@ pub returns-then-amount-gt31 : goal.returns-then-amount-gt31
 returns-then-amount-gt31 c = rw c.at.ensures (search shifts_fail)
 
 pub returns : goal.returns
-returns c = rw c.done.ensures (search shifts_done)
+returns c = search shifts_done

@@ -3,4 +3,4 @@ use Rattle.eval.proofs.LaneLaws.{shuffle_done}
 use Rattle.eval.proofs.lanes.shuffle.Goals as goal
 
 pub returns : goal.returns
-returns c = rw c.done.ensures (search shuffle_done)
+returns c = search shuffle_done

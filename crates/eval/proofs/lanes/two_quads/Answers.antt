@@ -3,4 +3,4 @@ use Rattle.eval.proofs.LaneLaws.{quads_done}
 use Rattle.eval.proofs.lanes.two_quads.Goals as goal
 
 pub returns : goal.returns
-returns c = rw c.done.ensures (search quads_done)
+returns c = search quads_done

@@ -10,4 +10,4 @@ pub returns-then-src-ne0 : goal.returns-then-src-ne0
 returns-then-src-ne0 c = rw c.at.ensures (search multiply_unread)
 
 pub returns : goal.returns
-returns c = rw c.done.ensures (search multiply_done)
+returns c = search multiply_done

@@ -88,4 +88,4 @@ put-requires-2 c =
     rw c.put.auto.values ((halves (goal.at.put-requires-2 c).After-resolve-high).high.bounds c.if-high-gt1.false)
 
 pub returns : goal.returns
-returns c = let w = halves (goal.at.returns c).After-resolve-high in rw c.done.ensures (search product_done)
+returns c = let w = halves (goal.at.returns c).After-resolve-high in search product_done

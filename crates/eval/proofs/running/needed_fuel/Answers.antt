@@ -1,9 +1,9 @@
 -- `needed_fuel` meets its contract: a run that is Spent needs all of its fuel. Assumes nothing.
-use borrow.Author.Tests.{eq-eqb, ne_eqb}
+use mathlib.Core.Path.{sym, ◌∙◌}
 use Rattle.eval.proofs.running.needed_fuel.Goals as goal
 
-pub returns-then-ended-eq1 : goal.returns-then-ended-eq1
-returns-then-ended-eq1 c = rw (eq-eqb c.args.ended.number 1 c.if-ended-eq1.true)
+pub returns-then-ends_spent : goal.returns-then-ends_spent
+returns-then-ends_spent c = rw (sym c.ends_spent.ensures ∙ c.if-ends_spent.true)
 
 pub returns : goal.returns
-returns c = rw (ne_eqb c.args.ended.number 1 c.if-ended-eq1.false)
+returns c = rw (sym c.ends_spent.ensures ∙ c.if-ends_spent.false)

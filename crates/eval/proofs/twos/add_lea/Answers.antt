@@ -43,4 +43,4 @@ pub put-requires : goal.put-requires
 put-requires c = search (operands (goal.at.put-requires c).After-load-two).dst.bounds
 
 pub returns : goal.returns
-returns c = let w = operands (goal.at.returns c).After-load-two in rw c.done.ensures (search sum_done)
+returns c = let w = operands (goal.at.returns c).After-load-two in search sum_done

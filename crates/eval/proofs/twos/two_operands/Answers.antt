@@ -41,4 +41,4 @@ pub put-requires : goal.put-requires
 put-requires c = search (operands (goal.at.put-requires c).After-load-src).dst.bounds
 
 pub returns : goal.returns
-returns c = let w = operands (goal.at.returns c).After-load-src in rw c.done.ensures (search writes)
+returns c = let w = operands (goal.at.returns c).After-load-src in search writes
