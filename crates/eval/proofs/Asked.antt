@@ -2,7 +2,7 @@
 -- instructions, structures and checks, in this order. Assumes nothing.
 use Prim.Native.Nat.{ℕ, ◌+◌, ◌-◌, ◌*◌, ◌%◌, ◌^◌, ◌≤◌, ◌<◌}
 use mathlib.Core.Path.{◌≡◌, refl, sym, ap, subst, ◌∙◌}
-use mathlib.Core.Bool.{Bool, true, false, ◌&&◌, cond, true≢false}
+use mathlib.Core.Bool.{Bool, true, false, ◌&&◌, cond, not, true≢false}
 use mathlib.Core.List.{List, []}
 use mathlib.Core.Option.{Option}
 use mathlib.Core.Logic.{◌⊎◌, inl, inr, ⊎_elim}
@@ -52,12 +52,13 @@ use Rattle.eval.specs.declared.exit.Stop.{Stop}
 use Rattle.eval.specs.declared.operand.Sought.{Sought}
 use Rattle.eval.specs.declared.operand.Loaded.{Loaded}
 use Rattle.eval.specs.declared.operand.Slot.{Slot}
-use Rattle.eval.specs.declared.comparison.Compared.{Compared}
+use Rattle.eval.specs.Promises.{Compared}
+use Rattle.std.specs.Result.{IsErrAnd}
 use Rattle.eval.specs.declared.cycle.Way.{Way}
 use Rattle.eval.proofs.OperandLaws.{load_constant, load_register, load_cell, load_none, resolve_constant, resolve_rsp, resolve_register, resolve_cell, resolve_none, cell_inside}
 use Rattle.eval.proofs.InstructionLaws.{exit, err_ok, ok_is, ran_stood, load_at, slot_at, two_unread, two_amount, two_unwritten, two_done, lea_unread, lea_unread_second, lea_unwritten, lea_done, mul_unread, mul_done, mulx_unread, mulx_unwritten, mulx_unresolved, mulx_done}
 use Rattle.eval.proofs.LaneLaws.{extract_unwritten, extract_done, inserts_unread, inserts_done}
-use Rattle.eval.proofs.ComparisonLaws.{stands_inside, first_unread, second_unread, compared}
+use Rattle.eval.proofs.ComparisonLaws.{stands_inside, first_unread, first_above, second_unread, second_above, compared}
 use Rattle.eval.proofs.RunLaws.{code_refused, cells_refused}
 use Rattle.eval.proofs.CycleLaws.{code_frame, starts, has_length, Choice, choice_inside, loop_inside, ins_ran, codes_past, Going, next_there, next_past, if_stops, Chosen, chosen_there, chosen_ran, chosen_spends, Looping, looped, looped_spends, loop_spent, loop_stopped, Round, round_over, round_there, round_spends, round_goes, round_stops}
 
@@ -183,22 +184,58 @@ module _ (bs : List ℕ) (at : ℕ) (o : OcmpAt bs at) where
     inside : e ≤ length bs
     inside = stands_inside bs at o.0 o.1 o.2 e stands
 
-    pub says_unread : (a.number ≡ 0 → ⊥) → Says a.number a.next
+    pub says_unread : (a.number ≡ 0 → ⊥) → Says a.number 0
     says_unread h = first_unread env s bs at e stands inside a one h
 
+    unread_above_one : (a.number ≡ 0 → ⊥) → 1 < a.number
+    unread_above_one h = first_above env s bs at e stands inside a one h
+
     module _ (x : a.number ≡ 0) (b : Loaded) (two : Loaded_at env s bs a.next b) where
-      pub says_unread_second : (b.number ≡ 0 → ⊥) → Says b.number b.next
+      pub says_unread_second : (b.number ≡ 0 → ⊥) → Says b.number 0
       says_unread_second h = second_unread env s bs at e stands inside a b one two x h
 
+      unread_second_above : (b.number ≡ 0 → ⊥) → 1 < b.number
+      unread_second_above h = second_above env s bs at e stands inside a b one two x h
+
       module _ (y : b.number ≡ 0) (h : Bool) (is : h ≡ comparison (byte_at bs at) a.word b.word) where
-        says : Says (cond h 1 0) b.next
+        pub says : Says (cond h 1 0) b.next
         says = compared env s bs at e stands inside a b one two x y h (sym is)
 
-        pub says_holds : h ≡ true → Says 1 b.next
-        says_holds k = rw k at says
+-- a number that is refused with is above one
+module _ (bs : List ℕ) (at : ℕ) (o : OcmpAt bs at) (env : Env) (s : Config) (a : Loaded) (one : Loaded_at env s bs (at + 1) a) where
+  pub above_first : (a.number ≡ 0 → ⊥) → 1 < a.number
+  above_first h = unread_above_one bs at o env s o.0 o.1 a one h
 
-        pub says_fails : h ≡ false → Says 0 b.next
-        says_fails k = rw k at says
+  module _ (x : a.number ≡ 0) (b : Loaded) (two : Loaded_at env s bs a.next b) where
+    pub above_second : (b.number ≡ 0 → ⊥) → 1 < b.number
+    above_second h = unread_second_above bs at o env s o.0 o.1 a one x b two h
+
+-- ---- whether a comparison holds, as a number
+pub told_below : (b : Bool) → cond b 1 0 ≤ 1
+told_below true = omega arith
+told_below false = omega arith
+
+-- what `?` hands on is what it found
+pub passed_on : {T : Type 0} (r : Result T ℕ) (y : ℕ) → IsErrAnd r (λ z. z ≡ y) → r ≡ Err y
+passed_on (Ok x) y h = absurd h
+passed_on (Err z) y h = ap Err h
+
+abbrev pub refused_with : ℕ → Compared
+refused_with n = record { how = n; next = 0 }
+
+pub told_one : (b : Bool) → b ≡ true → ◌≡◌ {A = ℕ} (cond b 1 0) 1
+told_one b h = rw h
+
+pub told_zero : (b : Bool) → b ≡ false → ◌≡◌ {A = ℕ} (cond b 1 0) 0
+told_zero b h = rw h
+
+pub told_fails : (b : Bool) → not b ≡ true → ◌≡◌ {A = ℕ} (cond b 1 0) 0
+told_fails true h = absurd (true≢false (sym h))
+told_fails false h = refl
+
+pub told_holds : (b : Bool) → not b ≡ false → ◌≡◌ {A = ℕ} (cond b 1 0) 0 → ⊥
+told_holds true h z = omega (arith, z)
+told_holds false h z = true≢false h
 
 -- ---- instructions, from what was loaded and resolved of their operands
 -- the operands that stand behind a kind byte

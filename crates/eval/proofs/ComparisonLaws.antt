@@ -1,5 +1,5 @@
 -- What a comparison's record says, of the words of its two operands: the six kinds are taken once. Assumes nothing.
-use Prim.Native.Nat.{ℕ, ◌+◌, ◌≤◌}
+use Prim.Native.Nat.{ℕ, ◌+◌, ◌≤◌, ◌<◌}
 use mathlib.Core.Path.{◌≡◌, refl, subst, ◌∙◌}
 use mathlib.Core.Bool.{Bool, true, ◌&&◌, cond}
 use mathlib.Core.List.{List, [], ◌∷◌}
@@ -60,13 +60,18 @@ module _ (env : Env) (s : Config) (bs : List ℕ) (at e : ℕ) (stands : Stands 
   -- the answer of a check that fails is its number
   pub first_unread :
       (a : Loaded) → Loads env s one (behind bs (at + 1)) a → (a.number ≡ 0 → ⊥) →
-      Compares env s (ocmp_at bs at) e (record { how = a.number; next = a.next })
+      Compares env s (ocmp_at bs at) e (record { how = a.number; next = 0 })
   first_unread a la h =
       let w = fails (valid_operand env one s) a.number _ la.number h in
       record {
         how = rw ((said refl).0, (said refl).1, unread_here valid s.regs one (other ∷ []) w.0, w.0) w.1;
         next = λ l. absurd (omega (arith, l, w.1, wild_or_above 31 one s.regs (omega arith)));
       }
+
+  pub first_above : (a : Loaded) → Loads env s one (behind bs (at + 1)) a → (a.number ≡ 0 → ⊥) → 1 < a.number
+  first_above a la h =
+      let w = fails (valid_operand env one s) a.number _ la.number h in
+      omega (arith, w.1, wild_or_above 31 one s.regs (omega arith))
 
   module _ (a b : Loaded) (la : Loads env s one (behind bs (at + 1)) a)
       (lb : Loads env s (operand_at bs a.next) (behind bs a.next) b) (x : a.number ≡ 0) where
@@ -79,14 +84,19 @@ module _ (env : Env) (s : Config) (bs : List ℕ) (at e : ℕ) (stands : Stands 
     one_read : valid_operand env one s ≡ true
     one_read = passes (valid_operand env one s) a.number _ la.number (above_one (wild_or_above 31 one s.regs (omega arith))) x
 
-    pub second_unread : (b.number ≡ 0 → ⊥) → Compares env s (ocmp_at bs at) e (record { how = b.number; next = b.next })
+    pub second_unread : (b.number ≡ 0 → ⊥) → Compares env s (ocmp_at bs at) e (record { how = b.number; next = 0 })
     second_unread h =
         let w = fails (valid_operand env other s) b.number _ second.number h in
         let number = unread_later valid s.regs one (other ∷ []) one_read ∙ unread_here valid s.regs other [] w.0 in
         record {
           how = rw ((said refl).0, (said refl).1, number, one_read, w.0) w.1;
-          next = λ _. ends_there;
+          next = λ l. absurd (omega (arith, l, w.1, wild_or_above 31 other s.regs (omega arith)));
         }
+
+    pub second_above : (b.number ≡ 0 → ⊥) → 1 < b.number
+    second_above h =
+        let w = fails (valid_operand env other s) b.number _ second.number h in
+        omega (arith, w.1, wild_or_above 31 other s.regs (omega arith))
 
     pub compared :
         b.number ≡ 0 →

@@ -26,7 +26,7 @@ use Rattle.eval.specs.Promises.{how, Reached, StepsIns, Decides, DecidesAt, Code
 use Rattle.eval.specs.Promises.{Exit}
 use Rattle.std.specs.Prelude.{Ok, Err}
 use Rattle.eval.specs.declared.exit.Stop.{Stop}
-use Rattle.eval.specs.declared.comparison.Compared.{Compared}
+use Rattle.eval.specs.Promises.{Compared}
 use Rattle.eval.proofs.InstructionLaws.{exit, err_ok, ok_is}
 
 pub code_frame : (bs : List ℕ) (at : ℕ) (c : CodeAt bs at) → Frame bs at c.end

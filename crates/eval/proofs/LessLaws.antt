@@ -16,7 +16,7 @@ use Rattle.eval.specs.Promises.{StepsIns, DecidesAt, CodeAt, CodesAt, test_at, p
 use Rattle.eval.specs.Promises.{Exit}
 use Rattle.std.specs.Prelude.{Ok, Err}
 use Rattle.eval.specs.declared.exit.Stop.{Stop}
-use Rattle.eval.specs.declared.comparison.Compared.{Compared}
+use Rattle.eval.specs.Promises.{Compared}
 use Rattle.eval.specs.declared.cycle.Way.{Way}
 use Rattle.eval.proofs.LeastLaws.{below_or_not}
 use Rattle.eval.proofs.InstructionLaws.{exit}

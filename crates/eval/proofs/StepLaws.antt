@@ -30,7 +30,7 @@ use Rattle.eval.specs.declared.counted.Counter.{Counter}
 use Rattle.eval.specs.Promises.{Exit}
 use Rattle.std.specs.Prelude.{Ok, Err}
 use Rattle.eval.specs.declared.exit.Stop.{Stop}
-use Rattle.eval.specs.declared.comparison.Compared.{Compared}
+use Rattle.eval.specs.Promises.{Compared}
 use Rattle.eval.proofs.InstructionLaws.{exit, err_ok, check_fails}
 
 -- ---- what the number of a comparison says: v is whether it passes its check, whose number is m, and h whether it holds
@@ -119,7 +119,7 @@ module _ (env : Env) (limit : Option ℕ) (bs : List ℕ) (at : ℕ) (s : Config
   pub ins_stopped : b ≡ true → StepsIns env limit bs at s k (exit 37 at) s k
   ins_stopped h e stands = record { ends = sym (step_stopped limit at _ _ s k (sym is ∙ h)); next = λ q z. absurd (err_ok z) }
 
-  pub ocmp_stopped : b ≡ true → DecidesAt env limit bs at s k (record { how = 37; next = at }) k
+  pub ocmp_stopped : b ≡ true → DecidesAt env limit bs at s k (record { how = 37; next = 0 }) k
   ocmp_stopped h e stands = record {
     stops = λ _. step_stopped limit at _ _ s k (sym is ∙ h);
     goes = λ l. absurd (omega (arith, l));

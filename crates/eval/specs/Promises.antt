@@ -29,7 +29,7 @@ use Rattle.eval.specs.declared.exit.Stop.{Stop}
 use Rattle.eval.specs.declared.operand.Sought.{Sought}
 use Rattle.eval.specs.declared.operand.Loaded.{Loaded}
 use Rattle.eval.specs.declared.operand.Slot.{Slot}
-use Rattle.eval.specs.declared.comparison.Compared.{Compared}
+use Rattle.eval.specs.declared.comparison.Decided.{Decided}
 use Rattle.eval.specs.declared.cycle.Way.{Way}
 use Rattle.eval.specs.declared.arithmetic.Effect.{Effect}
 
@@ -132,6 +132,23 @@ comparison k a b =
 -- a comparison stands at a place, inside the bytes
 abbrev pub OcmpAt : List ℕ → ℕ → Type 0
 OcmpAt bs at = (e : ℕ) × Stands is_ocmp bs at e × (e ≤ length bs)
+
+-- an answer of a comparison as numbers: 1 where it holds, 0 where it does not, or the number of the check that fails; and the place behind
+pub record Compared : Type 0 where
+  pub how : ℕ
+  pub next : ℕ
+
+abbrev pub told : Decided → Compared
+told d = record { how = cond d.holds 1 0; next = d.next }
+
+abbrev pub answered : Result Decided ℕ → Compared
+answered (Ok d) = told d
+answered (Err n) = record { how = n; next = 0 }
+
+-- a number that is refused with is none of those
+abbrev pub Above : Result Decided ℕ → Type 0
+Above (Ok d) = 0 < 1
+Above (Err n) = 1 < n
 
 -- what a Compared says: 1 where it holds, 0 where it does not, or the number of the check that fails; where that passes, the place behind
 pub record Compares (env : Env) (s : Config) (c : Ocmp) (end : ℕ) (r : Compared) : Type 0 where

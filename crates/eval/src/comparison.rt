@@ -3,18 +3,16 @@
 ghost use Rattle.std.specs.Prelude.{◌≡◌, true, length};
 ghost use Rattle.code.specs.Records.{is_ocmp};
 ghost use Rattle.eval.specs.Config.{config};
-ghost use Rattle.eval.specs.Promises.{env_of, comparison, OcmpAt, ComparesAt};
+ghost use Rattle.eval.specs.Promises.{env_of, comparison, OcmpAt, ComparesAt, answered, Above};
 
 use crate::lent::Lent;
 use crate::operand::load;
 use machine::State;
 
-// 0 where it does not hold, 1 where it holds, or the number with which the run ends there; and, where both
-// operands were read, the place behind.
-// A number beside the values and no Result: docs/DECISIONS.md, "Numbers that come back".
+// Whether it holds, and the place behind.
 #[derive(Clone, Copy)]
-pub struct Compared {
-    pub how: u8,
+pub struct Decided {
+    pub holds: bool,
     pub next: usize,
 }
 
@@ -35,28 +33,22 @@ fn holds(kind: u8, a: u64, b: u64) -> bool
 }
 
 // The comparison of an IfElse or a While.
-pub fn compare(lent: &Lent, at: usize, state: &State, values: &[u64]) -> Compared
+pub fn compare(lent: &Lent, at: usize, state: &State, values: &[u64]) -> Result<Decided, u8>
     requires ocmp_at { OcmpAt lent.now.code.now at }
     requires long { length values.now ≡ length lent.now.addresses.now }
-    ensures { ComparesAt (env_of lent.now) lent.now.code.now at (config state.now values.now) result }
+    ensures compares { ComparesAt (env_of lent.now) lent.now.code.now at (config state.now values.now) (answered result) }
+    ensures above { Above result }
 {
     let a = load(lent, at + 1, state, values);
     if a.number != 0 {
-        return Compared {
-            how: a.number,
-            next: a.next,
-        };
+        return Err(a.number);
     }
     let b = load(lent, a.next, state, values);
-    let next = b.next;
     if b.number != 0 {
-        return Compared {
-            how: b.number,
-            next,
-        };
+        return Err(b.number);
     }
-    if holds(lent.code[at], a.word, b.word) {
-        return Compared { how: 1, next };
-    }
-    Compared { how: 0, next }
+    Ok(Decided {
+        holds: holds(lent.code[at], a.word, b.word),
+        next: b.next,
+    })
 }

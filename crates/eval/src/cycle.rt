@@ -6,9 +6,9 @@
 // that is asked of it (docs/DECISIONS.md, "An IfElse and a While are one function").
 ghost use Rattle.std.specs.Prelude.{◌≡◌, false, ◌+◌, ◌^◌, ◌≤◌, ◌<◌, length};
 ghost use Rattle.code.specs.Records.{byte_at};
-ghost use Rattle.eval.specs.Promises.{CodeAt, CodesAt, codes_from, TestedAt, test_at, BehindTest, way_from, part_fuel, Evaluates, WithLess, EvaluatesAll, WithLessAll};
+ghost use Rattle.eval.specs.Promises.{CodeAt, CodesAt, codes_from, TestedAt, test_at, BehindTest, way_from, told, part_fuel, Evaluates, WithLess, EvaluatesAll, WithLessAll};
 
-use crate::comparison::Compared;
+use crate::comparison::Decided;
 use crate::counted::Counter;
 use crate::exit::{Exit, Stop};
 use crate::lent::Lent;
@@ -41,19 +41,19 @@ pub struct Way {
     pub end: usize,
 }
 
-fn way_from(code: &[u8], at: usize, chooses: bool, compared: Compared) -> Way
+fn way_from(code: &[u8], at: usize, chooses: bool, decided: Decided) -> Way
     requires tested_at { TestedAt code.now at chooses }
-    requires behind_test { BehindTest code.now at chooses compared.next }
-    ensures { result ≡ way_from code.now at chooses compared }
+    requires behind_test { BehindTest code.now at chooses decided.next }
+    ensures { result ≡ way_from code.now at chooses (told decided) }
 {
-    let first = compared.next;
+    let first = decided.next;
     let second = first + number4(code, at + 1);
     let end = if chooses {
         second + number4(code, at + 5)
     } else {
         second
     };
-    if compared.how == 1 {
+    if decided.holds {
         return Way {
             part: first,
             behind: second,
@@ -128,13 +128,13 @@ fn eval_code(
     let mut left = fuel;
     while chooses || left != 0 {
         counter.count_test(chooses, left);
-        let compared = step_comparison(lent, test, state, values, counter);
-        if 1 < compared.how {
-            return Stop::at(compared.how, test);
-        }
+        let decided = match step_comparison(lent, test, state, values, counter) {
+            Ok(decided) => decided,
+            Err(number) => return Stop::at(number, test),
+        };
         state.flags = lent.fill;
-        let way = way_from(lent.code, at, chooses, compared);
-        if compared.how == 0 && !chooses {
+        let way = way_from(lent.code, at, chooses, decided);
+        if !decided.holds && !chooses {
             return Ok(way.end);
         }
         let given = part_fuel(chooses, left);

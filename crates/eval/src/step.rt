@@ -3,9 +3,9 @@
 ghost use Rattle.std.specs.Prelude.{◌≡◌, length};
 ghost use Rattle.std.proofs.Math.Option.{some};
 ghost use Rattle.eval.specs.Config.{config};
-ghost use Rattle.eval.specs.Promises.{env_of, tally, least_tested, InsAt, OcmpAt, EvaluatesStep, DecidesAt};
+ghost use Rattle.eval.specs.Promises.{env_of, tally, least_tested, InsAt, OcmpAt, EvaluatesStep, DecidesAt, answered, Above};
 
-use crate::comparison::{Compared, compare};
+use crate::comparison::{Decided, compare};
 use crate::counted::Counter;
 use crate::exit::{Exit, Stop};
 use crate::instruction::instruction;
@@ -40,20 +40,18 @@ pub fn step_comparison(
     state: &State,
     values: &[u64],
     counter: &mut Counter,
-) -> Compared
+) -> Result<Decided, u8>
     requires ocmp_at { OcmpAt lent.now.code.now at }
     requires long { length values.now ≡ length lent.now.addresses.now }
     ensures decides { DecidesAt (env_of lent.now) (some lent.now.limit) lent.now.code.now at
-        (config state.now values.now) (tally counter.old) result (tally counter.new) }
+        (config state.now values.now) (tally counter.old) (answered result) (tally counter.new) }
+    ensures above { Above result }
     ensures tested_none { least_tested counter.new ≡ least_tested counter.old }
 {
     if counter.used_up(lent.limit) {
-        return Compared { how: 37, next: at };
+        return Err(37);
     }
-    let compared = compare(lent, at, state, values);
-    if 1 < compared.how {
-        return compared;
-    }
+    let decided = compare(lent, at, state, values)?;
     counter.count_comparison();
-    compared
+    Ok(decided)
 }

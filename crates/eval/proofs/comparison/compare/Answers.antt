@@ -1,5 +1,6 @@
 -- `compare` meets its contract: both operands are read where their records lie, and `holds` compares their words.
-use Rattle.eval.proofs.Asked.{ocmp_starts, ocmp_fits, first_operand, second_operand, says_unread, says_unread_second, says_holds, says_fails}
+use native.Mathlib.Omega.{arith}
+use Rattle.eval.proofs.Asked.{ocmp_starts, ocmp_fits, first_operand, second_operand, says_unread, says_unread_second, says, above_first, above_second}
 use Rattle.eval.proofs.comparison.compare.Goals as goal
 
 pub overflow_add-at : goal.overflow_add-at
@@ -9,19 +10,16 @@ pub load-a-requires : goal.load-a-requires
 load-a-requires c = search first_operand
 
 pub returns-then-a-ne0 : goal.returns-then-a-ne0
-returns-then-a-ne0 c = search says_unread
+returns-then-a-ne0 c = record { compares = search says_unread; above = search above_first }
 
 pub load-b-requires : goal.load-b-requires
 load-b-requires c = let next = c.load-a.ensures.next in search second_operand
 
 pub returns-then-b-ne0 : goal.returns-then-b-ne0
-returns-then-b-ne0 c = search says_unread_second
+returns-then-b-ne0 c = record { compares = search says_unread_second; above = search above_second }
 
 pub bounds-lent-at : goal.bounds-lent-at
 bounds-lent-at c = search ocmp_starts
 
-pub returns-then-holds : goal.returns-then-holds
-returns-then-holds c = search says_holds
-
 pub returns : goal.returns
-returns c = search says_fails
+returns c = record { compares = search says; above = omega arith }

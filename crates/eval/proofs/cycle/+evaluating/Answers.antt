@@ -4,13 +4,13 @@ use Rattle.std.proofs.Common.{◌≡◌, ℕ, ◌∙◌, false, eqb, eq-eqb, ne_
 use mathlib.Core.Option.{some}
 use Rattle.code.specs.Records.{byte_at}
 use Rattle.eval.specs.Config.{config}
-use Rattle.eval.specs.Promises.{env_of, tally, least_tested, DecidesAt}
+use Rattle.eval.specs.Promises.{env_of, tally, least_tested, told}
 use Rattle.eval.proofs.CycleLaws.{ins_ran, going_starts, block_goes, codes_go, codes_stop, codes_done}
 use Rattle.eval.proofs.InstructionLaws.{handed_on}
-use Rattle.eval.proofs.Asked.{next_code, next_ins, next_less, rest_less, rest_less_ins, past_block, test_stands, testing_starts, some_fuel, goes_round, turn_stopped, behind_test, turns_over, turns_spent, Turn, turn_code, taking, taken_codes, taken_long, taken_less, taken_falls, taken_stops, taken_done, taken_goes}
+use Rattle.eval.proofs.Asked.{told_below, told_fails, told_holds, next_code, next_ins, next_less, rest_less, rest_less_ins, past_block, test_stands, testing_starts, some_fuel, goes_round, turn_stopped, behind_test, turns_over, turns_spent, Turn, turn_code, taking, taken_codes, taken_long, taken_less, taken_falls, taken_stops, taken_done, taken_goes}
 use Rattle.eval.proofs.LessLaws.{going_starts_less, ins_goes_less, ins_stops_less, block_goes_less, codes_go_less, codes_stop_less, codes_done_less, testing_starts_less, turns_spent_less, BegunLess, begins_less, turn_stopped_less, turns_over_less, taken_stops_less, taken_done_less, taken_goes_less}
 use Rattle.eval.proofs.cycle.+evaluating.Goals as goal
-use Rattle.eval.proofs.cycle.+evaluating.Goals.{eval_code-After-step_comparison-compared, eval_code-Joined-else-compared-eq0, eval_code-then-chooses, eval_code-else-chooses+then-left-ne0, eval_code-else-compared-eq0-via-then-compared-eq0+else-not-chooses, eval_code-else-compared-eq0-via-else-compared-eq0}
+use Rattle.eval.proofs.cycle.+evaluating.Goals.{eval_code-After-step_comparison, eval_code-Joined-else-not-decided, eval_code-then-chooses, eval_code-else-chooses+then-left-ne0, eval_code-else-not-decided-via-then-not-decided+else-not-chooses, eval_code-else-not-decided-via-else-not-decided}
 
 -- ---- a list of codes
 pub eval_codes-loop-next-init : goal.eval_codes-loop-next-init
@@ -81,48 +81,35 @@ eval_codes-returns t c =
 -- ---- a code
 -- there is fuel for the round
 fuelled :
-    (t : ℕ) (c : eval_code-After-step_comparison-compared t) → eqb (byte_at c.args.lent.now.code.now c.args.at) 0x21 ≡ false → c.loop-counter.left ≡ 0 → ⊥
+    (t : ℕ) (c : eval_code-After-step_comparison t) → eqb (byte_at c.args.lent.now.code.now c.args.at) 0x21 ≡ false → c.loop-counter.left ≡ 0 → ⊥
 fuelled t c =
     some_fuel _ _ (elim c.if-chooses.branch [
       | eval_code-then-chooses w ↦ inl (eq-eqb _ _ w.if-chooses.true)
       | eval_code-else-chooses+then-left-ne0 w ↦ inr (ne_eqb _ _ w.if-chooses.false, w.if-left-ne0.true)
     ])
 
--- what the comparison has answered
-compared :
-    (t : ℕ) (c : eval_code-After-step_comparison-compared t) →
-    let a = c.args in
-    let l = c.loop-counter in
-    let x = c.step_comparison-compared in
-    DecidesAt (env_of a.lent.now) (some a.lent.now.limit) a.lent.now.code.now c.test_at-test.result
-    (config l.state l.values) (tally l.counter) x.result (tally x.new.counter)
-compared t c =
-    let a = c.args in
-    let l = c.loop-counter in
-    rw c.count_test.ensures.counted_unchanged at c.step_comparison-compared.ensures.decides
-
 -- what less fuel would have done up to there
 begun :
-    (t : ℕ) (c : eval_code-After-step_comparison-compared t) →
+    (t : ℕ) (c : eval_code-After-step_comparison t) →
     let a = c.args in
     let l = c.loop-counter in
     BegunLess (env_of a.lent.now) (some a.lent.now.limit) a.lent.now.code.now a.at a.fuel
     (config a.state.now a.values.now) (tally a.counter.now) (least_tested a.counter.now)
     (eqb (byte_at a.lent.now.code.now a.at) 0x21) c.test_at-test.result l.left (config l.state l.values)
-    (tally l.counter) (least_tested c.step_comparison-compared.new.counter)
+    (tally l.counter) (least_tested c.step_comparison.new.counter)
 begun t c =
     begins_less c.loop-counter.invariant.less (fuelled t c)
-    (c.step_comparison-compared.ensures.tested_none ∙ c.count_test.ensures.counted_after)
+    (c.step_comparison.ensures.tested_none ∙ c.count_test.ensures.counted_after)
 
 -- the round that the comparison began
 turn :
-    (t : ℕ) (c : eval_code-Joined-else-compared-eq0 t) →
+    (t : ℕ) (c : eval_code-Joined-else-not-decided t) →
     let a = c.args in
     let l = c.loop-counter in
-    let x = c.step_comparison-compared in
+    let x = c.step_comparison in
     Turn (env_of a.lent.now) (some a.lent.now.limit) a.lent.now.code.now a.at a.fuel t
     (config a.state.now a.values.now) (tally a.counter.now) c.test_at-test.result l.left
-    (config l.state l.values) (tally l.counter) x.result (tally x.new.counter) c.way_from-way.result
+    (config l.state l.values) (tally l.counter) (told c.in-Ok.decided) (tally x.new.counter) c.way_from-way.result
     (eqb (byte_at a.lent.now.code.now a.at) 0x21)
 turn t c =
     let a = c.args in
@@ -135,12 +122,12 @@ turn t c =
             | eval_code-else-chooses+then-left-ne0 w ↦ inr (ne_eqb _ _ w.if-chooses.false, w.if-left-ne0.true)
           ]);
       compared =
-          rw c.count_test.ensures.counted_unchanged at c.step_comparison-compared.ensures.decides;
-      read = c.if-compared-gt1.false;
+          rw c.count_test.ensures.counted_unchanged at c.in-Ok.ensures.decides;
+      read = told_below _;
       holds =
-          goes_round _ _ (elim c.else-compared-eq0.branch [
-            | eval_code-else-compared-eq0-via-then-compared-eq0+else-not-chooses w ↦ inl (w.if-compared-eq0.true, eq-eqb _ _ w.if-not-chooses.false)
-            | eval_code-else-compared-eq0-via-else-compared-eq0 w ↦ inr w.if-compared-eq0.false
+          goes_round _ _ (elim c.else-not-decided.branch [
+            | eval_code-else-not-decided-via-then-not-decided+else-not-chooses w ↦ inl (told_fails _ w.if-not-decided.true, eq-eqb _ _ w.if-not-chooses.false)
+            | eval_code-else-not-decided-via-else-not-decided w ↦ inr (told_holds _ w.if-not-decided.false)
           ]);
       way_is = c.way_from-way.ensures;
       long = c.requires.long;
@@ -150,49 +137,51 @@ turn t c =
 pub eval_code-loop-counter-init : goal.eval_code-loop-counter-init
 eval_code-loop-counter-init t c = record { runs = search testing_starts; less = search testing_starts_less }
 
-pub eval_code-step_comparison-compared-requires-clause-ocmp_at : goal.eval_code-step_comparison-compared-requires-clause-ocmp_at
-eval_code-step_comparison-compared-requires-clause-ocmp_at t c = let head = c.loop-counter.invariant.runs in search test_stands
+pub eval_code-step_comparison-requires-clause-ocmp_at : goal.eval_code-step_comparison-requires-clause-ocmp_at
+eval_code-step_comparison-requires-clause-ocmp_at t c = let head = c.loop-counter.invariant.runs in search test_stands
 
-pub eval_code-returns-then-compared-gt1 : goal.eval_code-returns-then-compared-gt1
-eval_code-returns-then-compared-gt1 t c =
-    let x = (goal.at.eval_code-returns-then-compared-gt1 t c).After-step_comparison-compared in
-    let answer = compared t x in
+pub eval_code-returns-in-Err : goal.eval_code-returns-in-Err
+eval_code-returns-in-Err t c =
+    let x = (goal.at.eval_code-returns-in-Err t c).After-step_comparison in
+    let answer = rw c.count_test.ensures.counted_unchanged at c.in-Err.ensures.decides in
+    let above = c.in-Err.ensures.above in
     let f = fuelled t x in
     let head = c.loop-counter.invariant.runs in
     rw c.at.ensures (record {
-      evaluates = search turn_stopped;
-      with_less = turn_stopped_less (begun t x) _ _ answer c.if-compared-gt1.true;
+      evaluates = turn_stopped _ _ _ _ _ _ _ _ _ _ _ (record { how = c.in-Err.number; next = 0 }) _ _ head f answer above;
+      with_less = turn_stopped_less (begun t x) (record { how = c.in-Err.number; next = 0 }) _ answer above;
     })
 
 pub eval_code-way_from-way-requires-clause-behind_test : goal.eval_code-way_from-way-requires-clause-behind_test
 eval_code-way_from-way-requires-clause-behind_test t c =
-    let x = (goal.at.eval_code-way_from-way-requires-clause-behind_test t c).After-step_comparison-compared in
-    behind_test _ _ _ _ _ _ _ _ _ _ _ _ _ _ c.loop-counter.invariant.runs (compared t x) c.if-compared-gt1.false
+    let answer = rw c.count_test.ensures.counted_unchanged at c.in-Ok.ensures.decides in
+    behind_test _ _ _ _ _ _ _ _ _ _ _ (told c.in-Ok.decided) _ _ c.loop-counter.invariant.runs answer (told_below _)
 
 pub eval_code-returns-then-not-chooses : goal.eval_code-returns-then-not-chooses
 eval_code-returns-then-not-chooses t c =
-    let x = (goal.at.eval_code-returns-then-not-chooses t c).After-step_comparison-compared in
+    let x = (goal.at.eval_code-returns-then-not-chooses t c).After-step_comparison in
     let way_is = c.way_from-way.ensures in
+    let answer = rw c.count_test.ensures.counted_unchanged at c.in-Ok.ensures.decides in
     record {
       evaluates =
-          turns_over _ _ _ _ _ _ _ _ _ _ _ _ _ _ c.loop-counter.invariant.runs (fuelled t x) (compared t x) _ way_is
-          c.if-compared-eq0.true (ne_eqb _ _ c.if-not-chooses.true);
-      with_less = turns_over_less (begun t x) _ _ (compared t x) _ way_is c.if-compared-eq0.true (ne_eqb _ _ c.if-not-chooses.true);
+          turns_over _ _ _ _ _ _ _ _ _ _ _ (told c.in-Ok.decided) _ _ c.loop-counter.invariant.runs (fuelled t x) answer _ way_is
+          (told_fails _ c.if-not-decided.true) (ne_eqb _ _ c.if-not-chooses.true);
+      with_less = turns_over_less (begun t x) (told c.in-Ok.decided) _ answer _ way_is (told_fails _ c.if-not-decided.true) (ne_eqb _ _ c.if-not-chooses.true);
     }
 
 pub eval_code-first_code-requires : goal.eval_code-first_code-requires
-eval_code-first_code-requires t c = let w = turn t (goal.at.eval_code-first_code-requires t c).Joined-else-compared-eq0 in search turn_code
+eval_code-first_code-requires t c = let w = turn t (goal.at.eval_code-first_code-requires t c).Joined-else-not-decided in search turn_code
 
 pub eval_code-eval_codes-requires : goal.eval_code-eval_codes-requires
 eval_code-eval_codes-requires t c =
-    let w = taking (turn t (goal.at.eval_code-eval_codes-requires t c).Joined-else-compared-eq0) c.first_code.ensures c.part_fuel-given.ensures in
+    let w = taking (turn t (goal.at.eval_code-eval_codes-requires t c).Joined-else-not-decided) c.first_code.ensures c.part_fuel-given.ensures in
     (search taken_less, (search taken_codes, search taken_long))
 
 pub eval_code-returns-in_err-eval_codes : goal.eval_code-returns-in_err-eval_codes
 eval_code-returns-in_err-eval_codes t c =
     let at = goal.at.eval_code-returns-in_err-eval_codes t c in
-    let w = taking (turn t at.Joined-else-compared-eq0) c.first_code.ensures c.part_fuel-given.ensures in
-    let b = begun t at.After-step_comparison-compared in
+    let w = taking (turn t at.Joined-else-not-decided) c.first_code.ensures c.part_fuel-given.ensures in
+    let b = begun t at.After-step_comparison in
     let was = c.in_err-eval_codes.was in
     rw (handed_on _ _ c.from_residual.ensures.1) (record {
       evaluates = search taken_stops;
@@ -202,8 +191,8 @@ eval_code-returns-in_err-eval_codes t c =
 pub eval_code-returns-then-chooses-2 : goal.eval_code-returns-then-chooses-2
 eval_code-returns-then-chooses-2 t c =
     let at = goal.at.eval_code-returns-then-chooses-2 t c in
-    let w = taking (turn t at.Joined-else-compared-eq0) c.first_code.ensures c.part_fuel-given.ensures in
-    let b = begun t at.After-step_comparison-compared in
+    let w = taking (turn t at.Joined-else-not-decided) c.first_code.ensures c.part_fuel-given.ensures in
+    let b = begun t at.After-step_comparison in
     let ran = c.eval_codes.ensures in let was = c.in_ok-eval_codes.was in
     record {
       evaluates = taken_done _ _ _ _ _ _ _ _ _ _ _ _ _ _ _ _ _ _ _ _ ran.evaluates_all _ w (eq-eqb _ _ c.if-chooses-2.true) _ was;
@@ -212,14 +201,14 @@ eval_code-returns-then-chooses-2 t c =
 
 pub eval_code-loop-counter-smaller : goal.eval_code-loop-counter-smaller
 eval_code-loop-counter-smaller t c =
-    let w = taking (turn t (goal.at.eval_code-loop-counter-smaller t c).Joined-else-compared-eq0) c.first_code.ensures c.part_fuel-given.ensures in
+    let w = taking (turn t (goal.at.eval_code-loop-counter-smaller t c).Joined-else-not-decided) c.first_code.ensures c.part_fuel-given.ensures in
     search taken_falls
 
 pub eval_code-loop-counter-preserved : goal.eval_code-loop-counter-preserved
 eval_code-loop-counter-preserved t c =
     let at = goal.at.eval_code-loop-counter-preserved t c in
-    let w = taking (turn t at.Joined-else-compared-eq0) c.first_code.ensures c.part_fuel-given.ensures in
-    let b = begun t at.After-step_comparison-compared in
+    let w = taking (turn t at.Joined-else-not-decided) c.first_code.ensures c.part_fuel-given.ensures in
+    let b = begun t at.After-step_comparison in
     let ran = c.eval_codes.ensures in let was = c.in_ok-eval_codes.was in
     let same = c.eval_codes.auto.values in
     record {
