@@ -34,4 +34,8 @@ returns c =
     let w = c.in_ok-decided in
     let d = told w.decided in
     let compares = w.ensures.compares in
-    record { decides = ocmp_counted _ _ _ _ _ _ _ c.used_up.ensures c.if-used_up.false d compares (told_below _) _ more; above = omega arith; tested_none = c.count_comparison.ensures.tested_none }
+    record {
+      decides = ocmp_counted _ _ _ _ _ _ _ c.used_up.ensures c.if-used_up.false d compares (told_below _) _ more;
+      above = omega arith;
+      tested_none = c.count_comparison.ensures.tested_none;
+    }
