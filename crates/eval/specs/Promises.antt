@@ -97,10 +97,11 @@ pub record IsEffect (word flags : ℕ) (e : Effect) : Type 0 where
   pub word_is : e.word ≡ word
   pub flags_is : e.flags ≡ flags
 
--- what an Exit says: done, or 1 is spent, 37 is stopped, and any other number is a fault
+-- an exit: the place behind what was done, or what ended the run
 abbrev pub Exit : Type 0
 Exit = Result ℕ Stop
 
+-- what it says: done, or of what ended the run 1 is spent, 37 is stopped, and any other number is a fault
 abbrev pub how : Exit → Outcome
 how (Ok p) = done
 how (Err s) = cond (eqb s.number 1) (spent s.place) (cond (eqb s.number 37) (stopped s.number s.place) (fault s.number s.place))
@@ -133,21 +134,24 @@ comparison k a b =
 abbrev pub OcmpAt : List ℕ → ℕ → Type 0
 OcmpAt bs at = (e : ℕ) × Stands is_ocmp bs at e × (e ≤ length bs)
 
--- an answer of a comparison as numbers: 1 where it holds, 0 where it does not, or the number of the check that fails; and the place behind
+-- an answer of a comparison as the laws of the cycle go by it: 1 where it holds, 0 where it does not, or the number of the check that fails; and the
+-- place behind
 pub record Compared : Type 0 where
   pub how : ℕ
   pub next : ℕ
 
+-- of one that passes its check
 abbrev pub told : Decided → Compared
 told d = record { how = cond d.holds 1 0; next = d.next }
 
+-- of any
 abbrev pub answered : Result Decided ℕ → Compared
 answered (Ok d) = told d
 answered (Err n) = record { how = n; next = 0 }
 
--- a number that is refused with is none of those
+-- the number of a check that fails is neither 0 nor 1
 abbrev pub Above : Result Decided ℕ → Type 0
-Above (Ok d) = 0 < 1
+Above (Ok d) = Unit {0}
 Above (Err n) = 1 < n
 
 -- what a Compared says: 1 where it holds, 0 where it does not, or the number of the check that fails; where that passes, the place behind
@@ -160,10 +164,11 @@ abbrev pub ComparesAt : Env → List ℕ → ℕ → Config → Compared → Typ
 ComparesAt env bs at s r = (e : ℕ) → Stands is_ocmp bs at e → Compares env s (ocmp_at bs at) e r
 
 -- ---- steps
--- a value behind a reference, and one that may be changed there, as it is given and as it is left
+-- a value behind a reference, as it is given and as it is left
 abbrev Shared : Type 0 → Type 0
 Shared A = Both (Bor A) (Bor A)
 
+-- one that may be changed there
 abbrev Changed : Type 0 → Type 0
 Changed A = Both (MutBor A) (MutBor A)
 
@@ -300,13 +305,15 @@ way_from bs at chooses x =
 
 -- ---- the cycle, of what it is lent
 module _ (lent : Shared Lent) (state : Changed State) (values : Changed (List ℕ)) where
-  -- the code's bytes, the environment and the limit
+  -- the code's bytes
   abbrev bytes : List ℕ
   bytes = lent.entry.now.code.now
 
+  -- the environment that is lent
   abbrev env : Env
   env = env_of lent.entry.now
 
+  -- the limit
   abbrev limit : Option ℕ
   limit = some lent.entry.now.limit
 
@@ -323,10 +330,11 @@ module _ (lent : Shared Lent) (state : Changed State) (values : Changed (List �
   EvaluatesIns at r = RunsIns env bytes at given r left
 
   module _ (counter : Changed Counter) where
-    -- what was counted before, and what then is
+    -- what was counted before
     abbrev before : Counted
     before = tally counter.entry.now
 
+    -- what is counted then
     abbrev after : Counted
     after = tally counter.exit.now
 

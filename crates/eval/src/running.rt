@@ -21,7 +21,7 @@ use crate::lent::Lent;
 use code::check_code;
 use machine::{Refusal, State, check_cells};
 
-// No `From`: two numbers are no answer by themselves, and this is asked once, where a run ends.
+// No `From`: what ends an instruction or a code is no answer, but where a run ends, and there this is asked once.
 fn answer_of(ended: Exit) -> Answer
     ensures { outcome result ≡ how ended }
 {
