@@ -77,7 +77,9 @@ pub fn read_rest(code: &[u8], end: usize, at: usize) -> Result<usize, Refusal>
     read_operands(code, end, next, operand_count(code[at]))
 }
 
-// An operand and a comparison are read by two functions, since what follows a kind is not the same: a body, or a body and operands.
+// An operand and a comparison are read by two functions, since what follows a kind is not the same: a body, or a body and operands. This one is
+// called, so that no level of nesting holds its answer beside its own (docs/DECISIONS.md, "Which functions of the reader are inlined").
+#[inline(never)]
 fn read_ocmp(code: &[u8], end: usize, at: usize) -> Result<usize, Refusal>
     requires { end ≤ length code.now }
     ensures { reach result ≡ reached (read_ocmp code.now end at) }
@@ -91,8 +93,10 @@ fn read_ocmp(code: &[u8], end: usize, at: usize) -> Result<usize, Refusal>
     read_rest(code, end, at)
 }
 
-// The code at `at`, in the part that ends at `end`; `depth` more codes may nest.
+// The code at `at`, in the part that ends at `end`; `depth` more codes may nest. Inlined where a part or its codes are read: as a function
+// of its own it costs each record one call and one copy of its answer more (docs/DECISIONS.md, "Which functions of the reader are inlined").
 #[cycle(reading)]
+#[inline(always)]
 fn read_code(code: &[u8], end: usize, at: usize, depth: usize) -> Result<usize, Refusal>
     requires { end ≤ length code.now }
     ensures { reach result ≡ reached (read_code depth code.now end at) }
