@@ -1,8 +1,8 @@
 -- A number has no more digits than the power of ten above it says, and one digit more is allowed for nothing.
 use Prim.Native.Nat.{ℕ, zero, suc, ◌+◌, ◌*◌, ◌/◌, ◌%◌, ◌^◌, ◌≤◌, ◌<◌}
-use mathlib.Core.Path.{◌≡◌, refl, ap}
+use mathlib.Core.Path.{◌≡◌, refl, ap, ◌∙◌}
 use mathlib.Core.Bool.{Bool, true, false, cond}
-use mathlib.Core.List.{List, [], ◌∷◌, ◌++◌}
+use mathlib.Core.List.{List, [], ◌∷◌, ◌++◌, append_assoc}
 use native.Mathlib.Omega.{arith}
 use lib.Dec.{ltb}
 use lib.ListN.{length, length-append}
@@ -45,10 +45,31 @@ unfolding digits
 digits_last n h f =
     rw (le-ltb n 10 h) (ap (λ (l : List ℕ). l ++ ((48 + n % 10) ∷ [])) (digits_more 18 (n / 10) (omega arith)))
 
+-- a number below 100 that is not below 10 is its two digits
+pub two_digits : (n : ℕ) → 10 ≤ n → n < 100 → digits 20 n ≡ (48 + n / 10) ∷ (48 + n % 10) ∷ []
+two_digits n h b =
+    digits_last n h (omega arith)
+    ∙ ap (λ (l : List ℕ). l ++ ((48 + n % 10) ∷ [])) (one_digit (n / 10) (omega arith))
+
+-- any other has the digits of its hundredth before its last two
+pub digits_last_two :
+    (n : ℕ)
+    → 100 ≤ n
+    → n < 2 ^ 64
+    → digits 20 n ≡ digits 20 (n / 100) ++ ((48 + n % 100 / 10) ∷ (48 + n % 100 % 10) ∷ [])
+digits_last_two n h f =
+    let hundredth : n / 10 / 10 ≡ n / 100 = omega arith in
+    let ten : n / 10 % 10 ≡ n % 100 / 10 = omega arith in
+    let one : n % 10 ≡ n % 100 % 10 = omega arith in
+    rw (hundredth, ten, one) at
+    (digits_last n (omega arith) f
+    ∙ ap (λ (l : List ℕ). l ++ ((48 + n % 10) ∷ [])) (digits_last (n / 10) (omega arith) (omega arith))
+    ∙ append_assoc (digits 20 (n / 10 / 10)) ((48 + n / 10 % 10) ∷ []) ((48 + n % 10) ∷ []))
+
 -- a number below 2 ^ 64 has at most twenty digits
 pub length_decimal : (n : ℕ) → n < 2 ^ 64 → length (digits 20 n) ≤ 20
 length_decimal n h = length_digits 20 19 n (omega arith)
 
--- and its tenth at most nineteen
-pub length_tenth : (n : ℕ) → n < 2 ^ 64 → length (digits 20 (n / 10)) ≤ 19
-length_tenth n h = length_digits 20 18 (n / 10) (omega arith)
+-- and its hundredth at most eighteen
+pub length_hundredth : (n : ℕ) → n < 2 ^ 64 → length (digits 20 (n / 100)) ≤ 18
+length_hundredth n h = length_digits 20 17 (n / 100) (omega arith)

@@ -1,6 +1,6 @@
 // The page that is printed on: bytes, words and decimal numbers behind what stands there. By hand, and not by `write!`: the code of the
 // library crates is to stay small (docs/COST.md), and has none of the library's formatting in it. A word is bytes, as the definitions have it.
-ghost use Rattle.std.specs.Prelude.{◌≡◌, [], ◌∷◌, length};
+ghost use Rattle.std.specs.Prelude.{◌≡◌, ◌<◌, ◌+◌, ◌/◌, ◌%◌, [], ◌∷◌, length};
 ghost use Rattle.job.specs.Text.{decimal, field};
 ghost use Rattle.job.specs.Written.{HasRoom, Wrote};
 
@@ -48,17 +48,28 @@ impl<'a> Page<'a> {
         page
     }
 
-    // The digits before the last are those of a tenth of n.
+    // Both digits of a number below 100, also where the first is 0.
+    fn put_two_digits(self, n: u64) -> Self
+        requires below_100 { n < 100 }
+        requires room { HasRoom 2 self }
+        ensures { Wrote 2 self.entry ((48 + n / 10) ∷ (48 + n % 10) ∷ []) result }
+    {
+        self.put_byte(b'0' + (n / 10) as u8)
+            .put_byte(b'0' + (n % 10) as u8)
+    }
+
+    // Two digits at a time, which is half the calls: those before the last two are the digits of a hundredth of n.
     pub fn put_decimal(self, n: u64) -> Self
         requires { HasRoom 20 self }
         ensures { Wrote 20 self.entry (decimal n) result }
     {
-        let page = if n < 10 {
-            self
-        } else {
-            self.put_decimal(n / 10)
-        };
-        page.put_byte(b'0' + (n % 10) as u8)
+        if n < 10 {
+            return self.put_byte(b'0' + n as u8);
+        }
+        if n < 100 {
+            return self.put_two_digits(n);
+        }
+        self.put_decimal(n / 100).put_two_digits(n % 100)
     }
 
     pub fn put_field(self, n: u64) -> Self
